@@ -1,0 +1,19 @@
+//! The base types: texts, lists and dimensions as contracts see them.
+//!
+//! A [`Text`] is the list of its bytes, a [`Seq`] the list of its items, a [`DimSet`] the sorted
+//! list of its pairs. [`TryCopy`] copies a value exactly where there is memory for the copy, in
+//! place of std's `Clone`, whose contract does not say that the copy is the same value.
+//! The crate stands on std alone.
+#![tactic(auto)]
+
+mod bot_dims;
+mod dim_set;
+mod seq;
+mod text;
+mod try_copy;
+
+pub use bot_dims::BotDims;
+pub use dim_set::DimSet;
+pub use seq::Seq;
+pub use text::Text;
+pub use try_copy::TryCopy;

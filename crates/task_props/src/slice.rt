@@ -1,0 +1,21 @@
+use crate::Properties;
+use dimensions::TryCopy;
+use std::alloc::{AllocError, Global};
+
+/// One way to run a task, tried for `expiration_secs` before the next.
+#[derive(Debug, PartialEq, Drop)]
+pub struct Slice {
+    pub expiration_secs: u32,
+    pub wait_for_capacity: bool,
+    pub properties: Properties,
+}
+
+impl TryCopy for Slice {
+    fn try_copy(&self, alloc: Global) -> Result<Slice, AllocError> {
+        Ok(Slice {
+            expiration_secs: self.expiration_secs,
+            wait_for_capacity: self.wait_for_capacity,
+            properties: self.properties.try_copy(alloc)?,
+        })
+    }
+}
