@@ -1,0 +1,56 @@
+-- The answer to each request, and the entry that it adds.
+use Rattle.std.specs.Prelude.{ℕ, ◌+◌, List, length, Option, Some, None, nat_le}
+use Rattle.std.specs.Option.{option_map}
+use Rattle.task_props.specs.declared.new_task.NewTask.{NewTask}
+use Rattle.swarm_model.specs.declared.task_state.TaskState.TheVariants.{Pending}
+use Rattle.swarm_model.specs.declared.pool_state.PoolState.{PoolState}
+use Rattle.swarm_model.specs.declared.entry.Entry.{Entry}
+use Rattle.swarm_model.specs.declared.entry.EntryKind.{EntryKind}
+use Rattle.swarm_model.specs.declared.entry.EntryKind.TheVariants as kind
+use Rattle.swarm_model.specs.declared.request.Request.{Request}
+use Rattle.swarm_model.specs.declared.request.Request.TheVariants as ask
+use Rattle.swarm_model.specs.declared.rule.Rule.{Rule}
+use Rattle.swarm_model.specs.declared.rule.Rule.TheVariants as rule
+use Rattle.swarm_model.specs.declared.reply.Reply.{Reply}
+use Rattle.swarm_model.specs.declared.reply.Reply.TheVariants as reply
+use Rattle.swarm_model.specs.declared.answer.Answer.{Answer}
+use Rattle.swarm_model.specs.declared.answer.Told.{Told}
+use Rattle.swarm_model.specs.Words.{when, ◌otherwise◌}
+
+-- a reply that adds nothing
+abbrev pub says : Reply → Told
+says answer = record { reply = answer; adds = None }
+
+abbrev pub refuses : Rule → Told
+refuses why = says (reply.No why)
+
+abbrev pub tasks_full : PoolState → Told
+tasks_full s = refuses (rule.PoolTasksFull s.settings.most_tasks)
+
+-- the next task, which waits at its first slice
+abbrev pub accepted : PoolState → List ℕ → NewTask → Told
+accepted s who request =
+    record {
+      reply = reply.New (length s.tasks + 1) Pending;
+      adds = Some (kind.New (length s.tasks + 1) who request Pending 0);
+    }
+
+abbrev pub new_task : PoolState → List ℕ → NewTask → Told
+new_task s who request =
+    when (nat_le s.settings.most_tasks (length s.tasks)) (tasks_full s)
+    otherwise accepted s who request
+
+-- what a caller is told at a moment
+abbrev pub tell : PoolState → List ℕ → ℕ → Request → Told
+tell s who moment (ask.New request) = new_task s who request
+
+abbrev pub entry_at : ℕ → ℕ → EntryKind → Entry
+entry_at moment pass kind = record { moment = moment; pass = pass; kind = kind }
+
+-- the reply and at most one entry, with the moment and the number of the pass
+abbrev pub answer : PoolState → List ℕ → ℕ → ℕ → Request → Answer
+answer s who moment pass request =
+    record {
+      reply = (tell s who moment request).reply;
+      entry = option_map (entry_at moment pass) (tell s who moment request).adds;
+    }

@@ -1,0 +1,70 @@
+-- A small task, and what a new pool does with it.
+use Rattle.std.specs.Prelude.{ℕ, ◌^◌, true, false, List, [], ◌∷◌, codes, Option, None}
+use Rattle.task_props.specs.declared.properties.Properties.{Properties}
+use Rattle.task_props.specs.declared.slice.Slice.{Slice}
+use Rattle.task_props.specs.declared.new_task.NewTask.{NewTask}
+use Rattle.swarm_model.specs.declared.pool_settings.PoolSettings.{PoolSettings}
+use Rattle.swarm_model.specs.declared.pool_state.PoolState.{PoolState}
+use Rattle.swarm_model.specs.declared.entry.Entry.{Entry}
+use Rattle.swarm_model.specs.declared.request.Request.{Request}
+use Rattle.swarm_model.specs.declared.request.Request.TheVariants as ask
+use Rattle.swarm_model.specs.declared.answer.Answer.{Answer}
+use Rattle.swarm_model.specs.Answers.{answer}
+use Rattle.swarm_model.specs.Effects.{opening, after}
+use Rattle.std.specs.Option.{option_map_or}
+
+abbrev pub settings : PoolSettings
+settings =
+    record {
+      place = 0;
+      name = codes "default";
+      reuse_age_secs = 604800;
+      death_timeout_secs = 600;
+      blob_life_secs = 604800;
+      store_units = 1048576;
+      most_tasks = 262144;
+      most_bots = 4096;
+      most_entries = 4194304;
+      most_weight = 134217728;
+      grants = [];
+    }
+
+abbrev pub properties : Properties
+properties =
+    record {
+      command = codes "true" ∷ [];
+      env = [];
+      dimensions = (codes "pool", codes "default") ∷ [];
+      caches = [];
+      inputs = [];
+      outputs = [];
+      execution_timeout_secs = 0;
+      io_timeout_secs = 0;
+      grace_period_secs = 30;
+      idempotent = false;
+    }
+
+-- the command `true` on any bot of the pool, within so many seconds
+abbrev pub small_task : ℕ → NewTask
+small_task secs =
+    record {
+      name = [];
+      priority = 0;
+      bot_ping_tolerance_secs = 1200;
+      request_uuid = [];
+      task_slices = (record { expiration_secs = secs; wait_for_capacity = true; properties = properties }) ∷ [];
+    }
+
+-- the answer to that task where a pool has these rows
+abbrev pub answered : PoolState → Answer
+answered s = answer s (codes "ana") 1000 0 (ask.New (small_task 600))
+
+-- the pool after an answer
+abbrev pub with_answer : PoolState → Answer → PoolState
+with_answer s a = option_map_or (after s) a.entry s
+
+abbrev pub first_answer : Answer
+first_answer = answered (opening settings)
+
+abbrev pub second_answer : Answer
+second_answer = answered (with_answer (opening settings) first_answer)

@@ -1,0 +1,60 @@
+-- The rows of a pool by their states, numbers and places.
+use Rattle.std.specs.Prelude.{ℕ, Bool, false, ◌==◌, Option, slice_get, List}
+use Rattle.std.specs.List.{find}
+use Rattle.std.specs.Option.{option_map_or}
+use Rattle.dimensions.specs.Alike.{same}
+use Rattle.swarm_model.specs.declared.task_state.TaskState.{TaskState}
+use Rattle.swarm_model.specs.declared.task_state.TaskState.TheVariants.{Pending, Running, Expired, TimedOut, BotDied, Canceled, Completed, Killed, NoResource}
+use Rattle.swarm_model.specs.declared.task_row.TaskRow.{TaskRow}
+use Rattle.swarm_model.specs.declared.bot_row.BotRow.{BotRow}
+use Rattle.swarm_model.specs.declared.blob_row.BlobRow.{BlobRow}
+use Rattle.swarm_model.specs.declared.pool_state.PoolState.{PoolState}
+
+-- the place of a state in the order in which tallies show them
+abbrev pub place_of : TaskState → ℕ
+place_of Pending = 0
+place_of Running = 1
+place_of Expired = 2
+place_of TimedOut = 3
+place_of BotDied = 4
+place_of Canceled = 5
+place_of Completed = 6
+place_of Killed = 7
+place_of NoResource = 8
+
+abbrev pub is_state : TaskState → TaskState → Bool
+is_state a b = place_of a == place_of b
+
+abbrev pub has_state : TaskState → TaskRow → Bool
+has_state state task = is_state task.state state
+
+abbrev pub is_task : ℕ → TaskRow → Bool
+is_task number task = task.no == number
+
+abbrev pub is_bot : ℕ → BotRow → Bool
+is_bot number bot = bot.no == number
+
+abbrev pub is_blob : ℕ → BlobRow → Bool
+is_blob number blob = blob.no == number
+
+abbrev pub has_digest : List ℕ → BlobRow → Bool
+has_digest digest blob = same blob.digest digest
+
+abbrev pub task_of : PoolState → ℕ → Option TaskRow
+task_of s number = find (is_task number) s.tasks
+
+abbrev pub bot_of : PoolState → ℕ → Option BotRow
+bot_of s number = find (is_bot number) s.bots
+
+abbrev pub blob_numbered : PoolState → ℕ → Option BlobRow
+blob_numbered s number = find (is_blob number) s.blobs
+
+abbrev pub blob_placed : PoolState → ℕ → Option BlobRow
+blob_placed s place = slice_get s.blobs place
+
+abbrev pub blob_of : PoolState → List ℕ → Option BlobRow
+blob_of s digest = find (has_digest digest) s.blobs
+
+-- whether a blob has this digest and size
+abbrev pub has_blob : PoolState → List ℕ → ℕ → Bool
+has_blob s digest size = option_map_or (λ blob. blob.size == size) (blob_of s digest) false

@@ -1,0 +1,45 @@
+-- What a machine keeps.
+use Rattle.std.specs.Prelude.{◌≡◌, ℕ, List, Option, Some, None, length, if◌then◌else◌}
+use Rattle.sha2.specs.Sha256.{sha256}
+use Rattle.content_store.specs.declared.Filled.{Filled}
+use Rattle.content_store.specs.declared.Filled.TheVariants.{Done, Differs, Unknown}
+use Rattle.dimensions.specs.Alike.{same}
+use Rattle.swarm_model.specs.declared.pool_state.PoolState.{PoolState}
+use Rattle.swarm_model.specs.declared.entry.Entry.{Entry}
+use Rattle.swarm_model.specs.Finding.{has_blob}
+use Rattle.swarm_model.specs.Effects.{opening}
+use Rattle.swarm_model.specs.History.{replay, IsLegal}
+
+-- the rows, the log, the entry that is made ready, and the bytes that are held of each digest
+pub record Kept : Type 0 where
+  pub pool : PoolState
+  pub log : List Entry
+  pub ready : Option Entry
+  pub held : List ℕ → Option (List ℕ)
+
+-- the rows are the replay of the log, and the log is legal
+pub record IsHistory (kept : Kept) : Type 0 where
+  pub replayed : kept.pool ≡ replay (opening kept.pool.settings) kept.log
+  pub legal : IsLegal (opening kept.pool.settings) kept.log
+
+-- what becomes of bytes that are brought for a held name
+abbrev pub filled : PoolState → List ℕ → List ℕ → Filled
+filled s digest bytes =
+    if same (sha256 bytes) digest
+    then (if has_blob s digest (length bytes) then Done else Unknown)
+    else Differs (sha256 bytes)
+
+-- the bytes of one digest more
+abbrev pub with_bytes : (List ℕ → Option (List ℕ)) → List ℕ → List ℕ → List ℕ → Option (List ℕ)
+with_bytes held digest bytes d = if same d digest then Some bytes else held d
+
+-- what is held after bytes were brought
+abbrev pub held_after : Filled → (List ℕ → Option (List ℕ)) → List ℕ → List ℕ → List ℕ → Option (List ℕ)
+held_after Done held digest bytes = with_bytes held digest bytes
+held_after Unknown held digest bytes = held
+held_after (Differs actual) held digest bytes = held
+
+-- bytes were brought for a held name; nothing is ready any more
+pub record Fills (old new : Kept) (digest bytes : List ℕ) (result : Filled) : Type 0 where
+  pub told : result ≡ filled old.pool digest bytes
+  pub holds : new ≡ record old { ready = None; held = held_after result old.held digest bytes }

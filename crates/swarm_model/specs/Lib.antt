@@ -1,0 +1,12 @@
+pub mod Words
+pub mod Settings
+pub mod Finding
+pub mod Fits
+pub mod Answers
+pub mod Entries
+pub mod Effects
+pub mod Deadlines
+pub mod History
+pub mod Points
+pub mod Kept
+pub mod Examples

@@ -1,0 +1,17 @@
+-- Words that the rules are written in.
+use Rattle.std.specs.Prelude.{ℕ, Bool, true, false, ◌&&◌, nat_le, Option, Some, None}
+
+-- the first value, where there is one, or else the second
+infixr 3 ◌otherwise◌
+abbrev pub ◌otherwise◌ : {A : Type 0} → Option A → A → A
+(Some x) otherwise y = x
+None otherwise y = y
+
+-- a value under a condition
+abbrev pub when : {A : Type 0} → Bool → A → Option A
+when true x = Some x
+when false x = None
+
+-- a number in a range, ends included
+abbrev pub is_between : ℕ → ℕ → ℕ → Bool
+is_between low high n = nat_le low n && nat_le n high

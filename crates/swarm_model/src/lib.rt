@@ -1,0 +1,38 @@
+//! What a pool of tasks, bots and blobs is, and which histories it may have.
+//!
+//! `specs/` says, over whole lists: what a checked request may hold (`Fits`), how each request is
+//! answered (`Answers`), what an entry of the log weighs and asks for (`Entries`), what it does to
+//! the rows (`Effects`), which logs are legal and what one call does at its point of a shared log
+//! (`History`). [`Machine`] is what keeps such a log; its contract is these definitions alone.
+//! The crate has no body of a machine. It stands on `task_props`, `region` and `content_store`.
+#![tactic(auto)]
+
+mod answer;
+mod blob_row;
+mod bot_row;
+mod entry;
+mod examples;
+mod machine;
+mod pool_settings;
+mod pool_state;
+mod reply;
+mod request;
+mod rule;
+mod steps;
+mod task_row;
+mod task_state;
+
+pub use answer::{Answer, Told};
+pub use blob_row::BlobRow;
+pub use bot_row::BotRow;
+pub use entry::{Entry, EntryKind};
+pub use examples::{one_task_is_pending, one_task_weighs_18, two_tasks_in_a_row};
+pub use machine::{Machine, ReserveFault};
+pub use pool_settings::{Grant, Permission, PoolSettings, Settings};
+pub use pool_state::PoolState;
+pub use reply::Reply;
+pub use request::Request;
+pub use rule::{Rule, Unbuilt};
+pub use steps::Steps;
+pub use task_row::TaskRow;
+pub use task_state::TaskState;

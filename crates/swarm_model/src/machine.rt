@@ -1,0 +1,117 @@
+ghost use Rattle.std.specs.Prelude.{◌≡◌, ◌≤◌, ◌^◌, ◌↔◌, ◌++◌, ◌∷◌, [], length, true, false, None, Some, Ok, IsTrue, IsNone, IfOk, OnOk, OnErr, IsErrOf, option_map, slice_get};
+ghost use Rattle.std.specs.Option.{option_copied};
+ghost use Rattle.content_store.specs.declared.Filled.TheVariants.{Done};
+ghost use Rattle.swarm_model.specs.Settings.{keeps_rules};
+ghost use Rattle.swarm_model.specs.Finding.{task_of, bot_of, blob_numbered, blob_placed};
+ghost use Rattle.swarm_model.specs.Fits.{fits};
+ghost use Rattle.swarm_model.specs.Answers.{answer};
+ghost use Rattle.swarm_model.specs.Effects.{opening, after};
+ghost use Rattle.swarm_model.specs.Deadlines.{due_entry};
+ghost use Rattle.swarm_model.specs.History.{MayFollow, has_room, tally};
+ghost use Rattle.swarm_model.specs.Kept.{IsHistory, filled, Fills};
+
+use crate::{Answer, BlobRow, BotRow, Entry, PoolSettings, Request, Steps, TaskRow};
+use content_store::Filled;
+use dimensions::Text;
+use std::alloc::{AllocError, Global};
+use std::sync::ledger::Ledger;
+use task_props::Digest;
+
+/// Why an entry isn't made ready.
+#[derive(Clone, Copy, Debug, PartialEq, Eq)]
+pub enum ReserveFault {
+    Memory,
+    /// The log has as many entries, or weighs as much, as it may.
+    LogFull,
+}
+
+/// A pool that keeps its log, and its rows as the replay of that log.
+///
+/// Only `new`, `answer` and `reserve` take memory.
+pub trait Machine: Sized {
+    ghost use Rattle.swarm_model.specs.Kept.{Kept};
+
+    /// What the machine keeps.
+    ghost kept: { Self → Kept };
+
+    fn new(alloc: Global, settings: PoolSettings) -> Result<Self, AllocError>
+        requires { IsTrue (keeps_rules settings) }
+        ensures { IfOk result (λ m. kept m ≡ record { pool = opening settings; log = []; ready = None; held = λ _. None }) }
+    ;
+
+    /// The entry of the first deadline that has come by the moment.
+    fn due<L: Ledger>(&self, moment: u64, pass: u32, steps: &mut Steps<L>) -> Option<Entry>
+        ensures { result ≡ due_entry (kept self.now).pool moment pass };
+
+    /// The reply to a request, and the entry that it adds.
+    fn answer<L: Ledger>(
+        &self,
+        who: &Text,
+        moment: u64,
+        pass: u32,
+        request: &Request,
+        steps: &mut Steps<L>,
+    ) -> Result<Answer, AllocError>
+        requires fits { IsTrue (fits (kept self.now).pool.settings request.now) }
+        requires not_before { (kept self.now).pool.last ≤ moment }
+        requires not_late { moment ≤ 2 ^ 40 }
+        requires nothing_due { due_entry (kept self.now).pool moment pass ≡ None }
+        ensures { IfOk result (λ a. a ≡ answer (kept self.now).pool who.now moment pass request.now) }
+    ;
+
+    /// Makes ready all that the entry's change needs, so that `commit` takes no memory.
+    fn reserve(&mut self, entry: &Entry) -> Result<(), ReserveFault>
+        ensures ok { OnOk result (kept self.new ≡ record (kept self.old) { ready = Some entry.now }) }
+        ensures err { OnErr result (kept self.new ≡ record (kept self.old) { ready = None }) }
+        ensures room { OnOk result (IsTrue (has_room (kept self.old).pool.settings (kept self.old).log entry.now)) }
+        ensures full { IsErrOf result ReserveFault.LogFull ↔ (has_room (kept self.old).pool.settings (kept self.old).log entry.now ≡ false) }
+    ;
+
+    /// Adds the entry that was reserved just before. `bytes` are those of the entry's new blob; no
+    /// entry has one yet.
+    fn commit(&mut self, entry: Entry, bytes: Option<&[u8]>)
+        requires ready { (kept self.old).ready ≡ Some entry.entry }
+        requires follows { MayFollow (kept self.old).pool entry.entry }
+        requires room { IsTrue (has_room (kept self.old).pool.settings (kept self.old).log entry.entry) }
+        requires bytes { IsNone bytes }
+        ensures added { kept self.new ≡ record (kept self.old) { pool = after (kept self.old).pool entry.entry; log = (kept self.old).log ++ entry.entry ∷ []; ready = None } }
+    ;
+
+    /// Holds the bytes of a blob row whose bytes are not held yet.
+    fn fill(&mut self, digest: &Digest, bytes: &[u8]) -> Filled
+        ensures fills { Fills (kept self.old) (kept self.new) digest.now bytes.now result };
+
+    /// The bytes that are held under the digest.
+    fn bytes(&self, digest: &Digest) -> Option<&[u8]>
+        ensures { option_map (λ b. b.now) result ≡ (kept self.now).held digest.now };
+
+    /// The length of the log.
+    fn length(&self) -> u64
+        ensures length { result ≡ length (kept self.now).log }
+        ensures history { IsHistory (kept self.now) };
+
+    fn entry(&self, at: u64) -> Option<&Entry>
+        ensures { option_copied result ≡ slice_get (kept self.now).log at };
+
+    /// How many tasks are in each of the nine states, in the order of [`TaskState`](crate::TaskState).
+    fn tally(&self) -> [u64; 9]
+        ensures { result ≡ tally (kept self.now).pool };
+
+    /// The moment of the last entry, 0 where there is none.
+    fn last(&self) -> u64
+        ensures last { result ≡ (kept self.now).pool.last };
+
+    /// The blob row of this number.
+    fn blob(&self, no: u32) -> Option<&BlobRow>
+        ensures { option_copied result ≡ blob_numbered (kept self.now).pool no };
+
+    /// The blob row at this place of the rows, from 0.
+    fn blob_at(&self, at: u32) -> Option<&BlobRow>
+        ensures { option_copied result ≡ blob_placed (kept self.now).pool at };
+
+    fn task<L: Ledger>(&self, no: u32, steps: &mut Steps<L>) -> Option<&TaskRow>
+        ensures { option_copied result ≡ task_of (kept self.now).pool no };
+
+    fn bot(&self, no: u32) -> Option<&BotRow>
+        ensures { option_copied result ≡ bot_of (kept self.now).pool no };
+}

@@ -1,0 +1,7 @@
+use task_props::NewTask;
+
+/// A checked request to one pool.
+#[derive(Drop)]
+pub enum Request {
+    New(NewTask),
+}
