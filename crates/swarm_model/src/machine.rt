@@ -70,11 +70,11 @@ pub trait Machine: Sized {
     /// Adds the entry that was reserved just before. `bytes` are those of the entry's new blob; no
     /// entry has one yet.
     fn commit(&mut self, entry: Entry, bytes: Option<&[u8]>)
-        requires ready { (kept self.old).ready ≡ Some entry.entry }
-        requires follows { MayFollow (kept self.old).pool entry.entry }
-        requires room { IsTrue (has_room (kept self.old).pool.settings (kept self.old).log entry.entry) }
+        requires ready { (kept self.old).ready ≡ Some entry }
+        requires follows { MayFollow (kept self.old).pool entry }
+        requires room { IsTrue (has_room (kept self.old).pool.settings (kept self.old).log entry) }
         requires bytes { IsNone bytes }
-        ensures added { kept self.new ≡ record (kept self.old) { pool = after (kept self.old).pool entry.entry; log = (kept self.old).log ++ entry.entry ∷ []; ready = None } }
+        ensures added { kept self.new ≡ record (kept self.old) { pool = after (kept self.old).pool entry; log = (kept self.old).log ++ entry ∷ []; ready = None } }
     ;
 
     /// Holds the bytes of a blob row whose bytes are not held yet.
