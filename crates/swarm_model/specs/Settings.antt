@@ -1,9 +1,12 @@
 -- Which settings a pool may have.
-use Rattle.std.specs.Prelude.{ℕ, Bool, false, ◌==◌, ◌&&◌, ◌||◌, nat_le, List, [], ◌∷◌, length, codes}
-use Rattle.std.specs.List.{list_all}
+use Rattle.std.specs.Prelude.{◌≡◌, ℕ, Bool, true, ◌+◌, ◌==◌, ◌&&◌, ◌||◌, nat_le, IsTrue, List, [], ◌∷◌, length, codes}
+use Rattle.std.specs.List.{list_all, list_any}
 use Rattle.dimensions.specs.Alike.{same}
+use Rattle.swarm_model.specs.declared.pool_settings.Permission.{Permission}
+use Rattle.swarm_model.specs.declared.pool_settings.Permission.TheVariants as permission
 use Rattle.swarm_model.specs.declared.pool_settings.Grant.{Grant}
 use Rattle.swarm_model.specs.declared.pool_settings.PoolSettings.{PoolSettings}
+use Rattle.swarm_model.specs.declared.pool_settings.Settings.{Settings}
 use Rattle.swarm_model.specs.Words.{is_between}
 
 -- ASCII letters, digits, '-', '_' and '.'
@@ -34,3 +37,49 @@ keeps_rules p =
     && (is_between 1 4194304 p.most_entries
     && (is_between 1 134217728 p.most_weight
     && (nat_le (length p.grants) 256 && list_all is_grant p.grants))))))))))
+
+-- the pools stand in the order of their places, from this one on
+abbrev pub are_placed : ℕ → List PoolSettings → Bool
+are_placed place [] = true
+are_placed place (p ∷ pools) = p.place == place && are_placed (place + 1) pools
+
+-- one to four pools, in their order, each of which keeps its rules
+abbrev pub are_settings : Settings → Bool
+are_settings settings =
+    is_between 1 4 (length settings.pools) && (list_all keeps_rules settings.pools && are_placed 0 settings.pools)
+
+-- permissions
+
+abbrev pub number_of : Permission → ℕ
+number_of permission.CreateTask = 0
+number_of permission.CancelTask = 1
+number_of permission.ListTasks = 2
+number_of permission.ListBots = 3
+number_of permission.TerminateBot = 4
+number_of permission.RunBot = 5
+number_of permission.UseBlobs = 6
+
+abbrev pub is_permission : Permission → Permission → Bool
+is_permission wanted permission = number_of permission == number_of wanted
+
+-- the grant is for every caller, and lists the permission
+abbrev pub gives_all : Permission → Grant → Bool
+gives_all wanted grant = same grant.caller (codes "*") && list_any (is_permission wanted) grant.permissions
+
+abbrev pub permits_all : PoolSettings → Permission → Bool
+permits_all settings wanted = list_any (gives_all wanted) settings.grants
+
+abbrev pub permissions : List Permission
+permissions =
+    permission.CreateTask ∷ permission.CancelTask ∷ permission.ListTasks ∷ permission.ListBots ∷ permission.TerminateBot
+    ∷ permission.RunBot ∷ permission.UseBlobs ∷ []
+
+-- the pool `default`, which permits everything to everyone
+abbrev pub is_open_pool : PoolSettings → Bool
+is_open_pool settings = same settings.name (codes "default") && list_all (permits_all settings) permissions
+
+-- one pool, which is open
+pub record AreOpen (settings : Settings) : Type 0 where
+  pub pool : PoolSettings
+  pub only : settings.pools ≡ pool ∷ []
+  pub open_pool : IsTrue (is_open_pool pool)

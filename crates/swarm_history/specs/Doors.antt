@@ -1,0 +1,61 @@
+-- What a door tells, and what a call does to it.
+use Rattle.std.specs.Prelude.{◌≡◌, ◌≢◌, ℕ, Bool, true, false, ◌+◌, ◌≤◌, List, [], length, slice_get, Option, Result, Ok, Err, IsSomeAnd}
+use Rattle.swarm_model.specs.declared.pool_settings.Settings.{Settings}
+use Rattle.swarm_model.specs.declared.pool_settings.PoolSettings.{PoolSettings}
+use Rattle.swarm_model.specs.declared.entry.Entry.{Entry}
+use Rattle.swarm_model.specs.declared.request.Request.{Request}
+use Rattle.swarm_model.specs.declared.reply.Reply.{Reply}
+use Rattle.swarm_model.specs.declared.reply.Reply.TheVariants as reply
+use Rattle.swarm_model.specs.declared.rule.Rule.{Rule}
+use Rattle.swarm_model.specs.Effects.{opening}
+use Rattle.swarm_model.specs.Points.{IsPoint, IsStopped}
+use Rattle.swarm_history.specs.declared.door.CallFault.{CallFault}
+use Rattle.swarm_history.specs.declared.door.CallFault.TheVariants as fault
+use Rattle.swarm_history.specs.declared.door.Answered.{Answered}
+
+-- the log of each pool, by its place
+abbrev pub Logs : Type 0
+Logs = ℕ → List Entry
+
+-- The settings with which the door was made, the entries that it has seen of each pool, the number
+-- of its pass at each place, how often its keepers failed, and how many calls were made on it.
+pub record DoorState : Type 0 where
+  pub settings : Settings
+  pub seen : Logs
+  pub numbers : ℕ → ℕ
+  pub faults : ℕ
+  pub calls : ℕ
+
+-- every other pool's log stays
+abbrev pub Elsewhere : ℕ → Logs → Logs → Type 0
+Elsewhere place old new = (p : ℕ) → p ≢ place → new p ≡ old p
+
+-- no reply names a blob yet
+abbrev pub ArePieces : Reply → List (List ℕ) → Type 0
+ArePieces (reply.New task state) pieces = pieces ≡ []
+ArePieces (reply.No rule) pieces = pieces ≡ []
+
+abbrev pub is_log_full : CallFault → Bool
+is_log_full fault.Memory = false
+is_log_full fault.LogFull = true
+
+-- a request was answered at its point of the log that grew from `old` to `new`
+pub record IsAnsweredCall (pool : PoolSettings) (number : ℕ) (old new : List Entry) (who : List ℕ) (moment : ℕ) (after : Option ℕ) (request : Request) (answered : Answered) : Type 0 where
+  pub point : IsPoint (opening pool) number old new who moment after request answered.reply
+  pub front : answered.front ≡ length new
+  pub pieces : ArePieces answered.reply answered.pieces
+
+-- a request was answered, or its call stopped
+abbrev pub IsPoolCall : PoolSettings → ℕ → List Entry → List Entry → List ℕ → ℕ → Option ℕ → Request → Result Answered CallFault → Type 0
+IsPoolCall pool number old new who moment after request (Ok answered) = IsAnsweredCall pool number old new who moment after request answered
+IsPoolCall pool number old new who moment after request (Err fault) = IsStopped (opening pool) number old new who moment after request (is_log_full fault)
+
+-- one call, of the pool at a place
+pub record IsCall (old new : DoorState) (place : ℕ) (moment : ℕ) (after : Option ℕ) (who : List ℕ) (request : Request) (result : Result Answered CallFault) : Type 0 where
+  pub done : IsSomeAnd (slice_get old.settings.pools place)
+      (λ pool. IsPoolCall pool (old.numbers place) (old.seen place) (new.seen place) who moment after request result)
+  pub elsewhere : Elsewhere place old.seen new.seen
+  pub settings : new.settings ≡ old.settings
+  pub numbers : new.numbers ≡ old.numbers
+  pub faults : old.faults ≤ new.faults
+  pub calls : new.calls ≤ old.calls + 1
