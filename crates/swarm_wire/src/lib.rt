@@ -1,13 +1,16 @@
-// A library with one function.
+//! The bodies of requests and replies, in JSON (RFC 8259).
+//!
+//! [`read_request`] says what a body asks for, of which pool; `asked_of` of `specs/Asking.antt` is
+//! its meaning. The names of the fields are those of `swarming.v2`. Of a key that comes twice in
+//! an object the last value counts. The only request that is served is a plain task: the command
+//! `true` on any bot of the pool `default`, within so many seconds (`specs/Plain.antt`).
+//! The crate stands on `swarm_policy`, `swarm_model` and `task_props`, and on `serde_json`.
 #![tactic(auto)]
 
-ghost use Rattle.std.specs.Prelude.{◌≡◌};
-ghost use Rattle.swarm_wire.specs.Echo.{echo_of};
+mod asked;
+mod body;
+mod plain;
+mod request;
 
-// The `ensures` clause is the contract: what `echo` returns is `echo_of` of its argument, a definition
-// in `specs/Echo.antt`, which a caller's clause can cite too.
-pub fn echo(x: usize) -> usize
-    ensures { result ≡ echo_of x }
-{
-    x
-}
+pub use asked::{Asked, WireFault};
+pub use request::read_request;
