@@ -1,3 +1,4 @@
 pub mod Views
 pub mod BodyLemmas
 pub mod Single
+pub mod NoFloats
