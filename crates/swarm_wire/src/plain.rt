@@ -98,7 +98,9 @@ fn is_true_at(value: &Value, key: &str) -> bool
 
 #[tactic(auto, unfolding(crate::specs::Plain::expiration))]
 fn expiration(value: &Value) -> Option<u32>
-    ensures { result ≡ spec_expiration (view value.now) }
+    ensures exact { result ≡ spec_expiration (view value.now) }
+    ensures low { IfSome result (λ secs. 1 ≤ secs) }
+    ensures high { IfSome result (λ secs. secs ≤ 604800) }
 {
     let secs = value.get("expiration_secs").and_then(Value::as_u64)?;
     if secs >= 1 && secs <= 604_800 {
@@ -117,7 +119,9 @@ fn is_plain_slice(value: &Value) -> bool
 
 #[tactic(auto, unfolding(crate::specs::Plain::slice_secs))]
 fn slice_secs(value: &Value) -> Option<u32>
-    ensures { result ≡ spec_slice_secs (view value.now) }
+    ensures exact { result ≡ spec_slice_secs (view value.now) }
+    ensures low { IfSome result (λ secs. 1 ≤ secs) }
+    ensures high { IfSome result (λ secs. secs ≤ 604800) }
 {
     if is_plain_slice(value) {
         expiration(value)
@@ -129,7 +133,9 @@ fn slice_secs(value: &Value) -> Option<u32>
 /// The seconds within which a plain task is to start.
 #[tactic(auto, unfolding(crate::specs::Plain::plain_secs))]
 pub(crate) fn plain_secs(value: &Value) -> Option<u32>
-    ensures { result ≡ spec_plain_secs (view value.now) }
+    ensures exact { result ≡ spec_plain_secs (view value.now) }
+    ensures low { IfSome result (λ secs. 1 ≤ secs) }
+    ensures high { IfSome result (λ secs. secs ≤ 604800) }
 {
     if !has_members(value, 1) {
         return None;

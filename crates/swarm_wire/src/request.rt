@@ -1,4 +1,5 @@
-ghost use Rattle.std.specs.Prelude.{◌≡◌, ◌≢◌, IfOk, IfErr};
+ghost use Rattle.std.specs.Prelude.{◌≡◌, ◌≢◌, ◌≤◌, IfOk, IfErr, IsTrue, IsSomeAnd, slice_get};
+ghost use Rattle.swarm_model.specs.Fits.{fits};
 ghost use Rattle.swarm_model.specs.Settings.{AreOpen};
 ghost use Rattle.swarm_wire.specs.Asking.{asked_of, asked_plain};
 
@@ -9,8 +10,12 @@ use dimensions::Seq;
 use std::alloc::{AllocError, Global};
 use swarm_model::{Request, Settings};
 
-fn plain_asked(alloc: Global, secs: u32) -> Result<Asked, AllocError>
-    ensures { IfOk result (λ asked. asked ≡ asked_plain secs) }
+fn plain_asked(alloc: Global, settings: &Settings, secs: u32) -> Result<Asked, AllocError>
+    requires open_settings { AreOpen settings.now }
+    requires low { 1 ≤ secs }
+    requires high { secs ≤ 604800 }
+    ensures exact { IfOk result (λ asked. asked ≡ asked_plain secs) }
+    ensures fits { IfOk result (λ asked. IsSomeAnd (slice_get settings.now.pools asked.place) (λ pool. IsTrue (fits pool asked.request))) }
 {
     Ok(Asked {
         place: 0,
@@ -25,6 +30,7 @@ pub fn read_request(alloc: Global, settings: &Settings, body: &[u8]) -> Result<A
     requires { AreOpen settings.now }
     ensures asks { IfOk result (λ asked. asked_of body.now ≡ Ok asked) }
     ensures refused { IfErr result (λ fault. fault ≢ WireFault.Memory → asked_of body.now ≡ Err fault) }
+    ensures fits { IfOk result (λ asked. IsSomeAnd (slice_get settings.now.pools asked.place) (λ pool. IsTrue (fits pool asked.request))) }
     ensures place { IfOk result (λ asked. asked.place ≡ 0) }
 {
     let Ok(found) = read_body(alloc, body) else {
@@ -36,7 +42,7 @@ pub fn read_request(alloc: Global, settings: &Settings, body: &[u8]) -> Result<A
     let Some(secs) = plain_secs(&value) else {
         return Err(WireFault::NotBuilt);
     };
-    match plain_asked(alloc, secs) {
+    match plain_asked(alloc, settings, secs) {
         Ok(asked) => Ok(asked),
         Err(_) => Err(WireFault::Memory),
     }
