@@ -1,5 +1,5 @@
 -- The settings of a server that was given none.
-use Rattle.std.specs.Prelude.{List, [], ◌∷◌, codes, None}
+use Rattle.std.specs.Prelude.{[], ◌∷◌, codes, None}
 use Rattle.swarm_model.specs.declared.pool_settings.Grant.{Grant}
 use Rattle.swarm_model.specs.declared.pool_settings.PoolSettings.{PoolSettings}
 use Rattle.swarm_model.specs.declared.pool_settings.Settings.{Settings}

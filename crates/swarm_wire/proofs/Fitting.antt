@@ -1,9 +1,9 @@
 -- A plain task fits an open pool.
-use Rattle.std.proofs.Common.{◌≡◌, ℕ, ◌≤◌, Bool, true, ◌&&◌, refl, arith, ◌∙◌}
+use Rattle.std.proofs.Common.{◌≡◌, ℕ, ◌≤◌, true, refl, ◌∙◌}
 use Rattle.std.specs.Prelude.{IsTrue, IsSomeAnd, codes, nat_le, slice_get}
 use Rattle.std.proofs.lemmas.Bool.{le-leb, and_parts, and_from}
 use Rattle.dimensions.specs.Alike.{same, same_laws}
-use Rattle.task_props.specs.Checked.{is_checked, pool_of_task}
+use Rattle.task_props.specs.Checked.{is_checked}
 use Rattle.swarm_model.specs.declared.pool_settings.PoolSettings.{PoolSettings}
 use Rattle.swarm_model.specs.declared.pool_settings.Settings.{Settings}
 use Rattle.swarm_model.specs.declared.request.Request.TheVariants as ask

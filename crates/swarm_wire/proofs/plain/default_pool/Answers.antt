@@ -1,5 +1,3 @@
-use Rattle.std.proofs.Common.{◌≡◌, List, [], ◌∷◌, ◌∙◌, ap, subst, codes}
-use Rattle.std.specs.List.Sorted.{IsPermutation}
 use Rattle.swarm_wire.proofs.Single.{permuted_single}
 use Rattle.swarm_wire.proofs.plain.default_pool.Goals as goal
 

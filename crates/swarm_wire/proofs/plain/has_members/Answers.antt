@@ -1,4 +1,4 @@
-use Rattle.std.proofs.Common.{◌≡◌, sym, ap, ◌∙◌, nat_eq, false}
+use Rattle.std.proofs.Common.{sym, ap, ◌∙◌, nat_eq, false}
 use Rattle.std.specs.Option.{option_map_or}
 use Rattle.swarm_wire.specs.Plain.{count_of}
 use Rattle.swarm_wire.proofs.Views.{count_view}

@@ -1,4 +1,4 @@
-use Rattle.std.proofs.Common.{◌≡◌, sym, ap, ◌∙◌, length}
+use Rattle.std.proofs.Common.{sym, ap, ◌∙◌, length}
 use Rattle.std.specs.Prelude.{option_and_then}
 use Rattle.serde_json.specs.Find.{as_array}
 use Rattle.swarm_wire.specs.Plain.{one_item}
