@@ -21,6 +21,7 @@ mod rule;
 mod steps;
 mod task_row;
 mod task_state;
+mod weighing;
 
 pub use answer::{Answer, Told};
 pub use blob_row::BlobRow;
@@ -36,3 +37,4 @@ pub use rule::{Rule, Unbuilt};
 pub use steps::Steps;
 pub use task_row::TaskRow;
 pub use task_state::TaskState;
+pub use weighing::weight;
