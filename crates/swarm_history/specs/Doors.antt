@@ -56,3 +56,11 @@ pub record IsCall (old new : DoorState) (place : ℕ) (moment : ℕ) (after : Op
   pub numbers : new.numbers ≡ old.numbers
   pub faults : old.faults ≤ new.faults
   pub calls : new.calls ≤ old.calls + 1
+
+-- a door of these settings that has seen nothing, was not called and never failed
+pub record IsNewDoor (settings : Settings) (door : DoorState) : Type 0 where
+  pub settings_are : door.settings ≡ settings
+  pub seen : (p : ℕ) → door.seen p ≡ []
+  pub numbers : (p : ℕ) → door.numbers p ≡ 0
+  pub faults : door.faults ≡ 0
+  pub calls : door.calls ≡ 0
