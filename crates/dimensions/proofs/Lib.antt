@@ -1,3 +1,4 @@
 mod Counting
 mod Rising
+mod Sorting
 mod Unbroken
