@@ -1,3 +1,4 @@
+pub mod Choosing
 mod Counting
 mod Rising
 mod Sorting

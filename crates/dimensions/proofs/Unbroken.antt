@@ -9,7 +9,8 @@ use Rattle.dimensions.specs.Alike.{same_pair}
 use Rattle.dimensions.specs.Order.{pair_cmp, is_rising, sorted_pairs}
 use Rattle.dimensions.specs.Choosing.{when, ◌or_else◌}
 use Rattle.dimensions.specs.Rules.{is_key, is_value, has_empty_alternative, has_bar, is_pool, is_id, pair_rule, pool_rule, id_rule, first_at, first_broken, are_checked}
-use Rattle.dimensions.proofs.Counting.{when-none, none-first, none-other, none-both, count-le_one, list_any-forbidden, first_at-none}
+use Rattle.dimensions.proofs.Choosing.{when-none, none-first, none-other, none-both}
+use Rattle.dimensions.proofs.Counting.{count-le_one, list_any-forbidden, first_at-none}
 use Rattle.dimensions.proofs.Sorting.{sorted_pairs-is}
 use Rattle.dimensions.proofs.Rising.{pair_equiv, is_rising-sorted}
 
