@@ -1,1 +1,4 @@
 pub mod Alike
+pub mod Choosing
+pub mod Order
+pub mod Rules

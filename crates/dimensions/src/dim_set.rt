@@ -1,6 +1,9 @@
-ghost use Rattle.std.specs.Prelude.{◌≡◌, IfOk};
+ghost use Rattle.std.specs.Prelude.{◌≡◌, ◌∷◌, IfOk, IfSome, IfNone, IsOkUnless, IsSorted, IsPermutation, true};
+ghost use Rattle.dimensions.specs.Order.{pair_cmp};
+ghost use Rattle.dimensions.specs.Rules.{first_broken, are_checked, pool_of};
 
-use crate::{Seq, Text, TryCopy};
+use crate::try_copy::copy_all;
+use crate::{DimFault, Seq, Text, TryCopy, pair_rules};
 use std::alloc::{AllocError, Global};
 use std::marker::Model;
 
@@ -19,7 +22,49 @@ impl Model for DimSet {
     ghost view = { λ d. d.sorted };
 }
 
+fn sorted(alloc: Global, pairs: &[(Text, Text)]) -> Result<Vec<(Text, Text)>, AllocError>
+    ensures sorted { IfOk result (λ copies. IsSorted pair_cmp copies.items) }
+    ensures same { IfOk result (λ copies. IsPermutation pairs.now copies.items) }
+{
+    let mut copies = copy_all(alloc, pairs)?;
+    copies.sort()?;
+    Ok(copies)
+}
+
 impl DimSet {
+    /// The pairs, sorted, where they break no rule. A broken rule is found without memory.
+    pub fn read(alloc: Global, pairs: &[(Text, Text)]) -> Result<DimSet, DimFault>
+        ensures broken { IfSome (first_broken pairs.now) (λ b. result ≡ Err (DimFault.Broken b.0 b.1)) }
+        ensures sound { IfNone (first_broken pairs.now) (IsOkUnless result DimFault.Memory) }
+        ensures sorted { IfOk result (λ set. IsSorted pair_cmp set) }
+        ensures same { IfOk result (λ set. IsPermutation pairs.now set) }
+        ensures checked { IfOk result (λ set. are_checked set ≡ true) }
+    {
+        if let Some((rule, place)) = pair_rules::first_broken(pairs) {
+            return Err(DimFault::Broken { rule, place });
+        }
+        match sorted(alloc, pairs) {
+            Ok(sorted) => Ok(DimSet {
+                sorted: Seq::from_vec(sorted),
+            }),
+            Err(_) => Err(DimFault::Memory),
+        }
+    }
+
+    /// Whether the pairs break no rule and rise strictly.
+    pub fn is_checked(&self) -> bool
+        ensures { result ≡ are_checked self.now }
+    {
+        pair_rules::first_broken(self.pairs()).is_none() && pair_rules::is_rising(self.pairs())
+    }
+
+    /// The value of the key `pool`, or the empty text where there is none.
+    pub fn pool(&self) -> &str
+        ensures { result.now ≡ pool_of self.now }
+    {
+        pair_rules::pool_of(self.pairs())
+    }
+
     pub(crate) fn copied(&self, alloc: Global) -> Result<DimSet, AllocError>
         ensures { IfOk result (λ copy. copy ≡ self.now) }
     {

@@ -7,12 +7,16 @@
 #![tactic(auto)]
 
 mod bot_dims;
+mod dim_fault;
 mod dim_set;
+pub mod examples;
+mod pair_rules;
 mod seq;
 mod text;
 mod try_copy;
 
 pub use bot_dims::BotDims;
+pub use dim_fault::{DimFault, DimRule};
 pub use dim_set::DimSet;
 pub use seq::Seq;
 pub use text::Text;

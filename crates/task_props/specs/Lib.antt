@@ -1,1 +1,4 @@
 pub mod Checked
+pub mod FieldRules
+pub mod Fields
+pub mod RuleNames

@@ -7,14 +7,19 @@
 
 mod cache;
 mod digest;
+mod field_rules;
 mod file;
 mod new_task;
+mod prop_rule;
 mod properties;
 mod slice;
+mod task_field;
 
 pub use cache::Cache;
 pub use digest::Digest;
 pub use file::File;
 pub use new_task::NewTask;
+pub use prop_rule::PropRule;
 pub use properties::Properties;
 pub use slice::Slice;
+pub use task_field::{SliceField, TaskField};

@@ -1,4 +1,5 @@
 use crate::Properties;
+use crate::field_rules::expiration_rule;
 use dimensions::TryCopy;
 use std::alloc::{AllocError, Global};
 
@@ -8,6 +9,18 @@ pub struct Slice {
     pub expiration_secs: u32,
     pub wait_for_capacity: bool,
     pub properties: Properties,
+}
+
+impl Slice {
+    ghost use Rattle.std.specs.Prelude.{◌≡◌};
+    ghost use Rattle.task_props.specs.Checked.{is_sound_slice};
+
+    /// Whether no rule on a field is broken.
+    pub(crate) fn is_sound(&self) -> bool
+        ensures { result ≡ is_sound_slice self.now }
+    {
+        expiration_rule(self.expiration_secs as i128).is_none() && self.properties.are_sound()
+    }
 }
 
 impl TryCopy for Slice {

@@ -1,0 +1,5 @@
+pub mod Views
+pub mod BodyLemmas
+pub mod Single
+pub mod NoFloats
+pub mod Fitting

@@ -1,0 +1,116 @@
+ghost use Rattle.std.specs.Prelude.{◌≡◌, ◌<◌, IfOk, codes, string_bytes};
+ghost use Rattle.serde_json.specs.Data.{string};
+ghost use Rattle.serde_json.specs.View.{view};
+ghost use Rattle.swarm_wire.specs.Bodies.{state_name as spec_state_name, task_id as spec_task_id, unbuilt_name as spec_unbuilt_name, one_member as spec_one_member, two_members as spec_two_members, refusal_data, reply_data, body_of, whole};
+
+use dimensions::Seq;
+use serde_json::{Value, json};
+use std::alloc::{AllocError, Global};
+use swarm_model::{Reply, Rule, TaskState, Unbuilt};
+
+fn state_name(state: TaskState) -> &'static str
+    ensures { result.now ≡ spec_state_name state }
+{
+    match state {
+        TaskState::Pending => "PENDING",
+        TaskState::Running => "RUNNING",
+        TaskState::Expired => "EXPIRED",
+        TaskState::TimedOut => "TIMED_OUT",
+        TaskState::BotDied => "BOT_DIED",
+        TaskState::Canceled => "CANCELED",
+        TaskState::Completed => "COMPLETED",
+        TaskState::Killed => "KILLED",
+        TaskState::NoResource => "NO_RESOURCE",
+    }
+}
+
+#[tactic(auto, unfolding(crate::specs::Bodies::task_id))]
+fn task_id(alloc: Global, place: u32, task: u32) -> Result<String, AllocError>
+    requires { place < 4 }
+    ensures { IfOk result (λ id. string_bytes id ≡ spec_task_id place task) }
+{
+    let number = u64::from(place) * 262_144 + u64::from(task);
+    format!(in alloc; "{number:x}0")
+}
+
+fn unbuilt_name(what: Unbuilt) -> &'static str
+    ensures { result.now ≡ spec_unbuilt_name what }
+{
+    match what {
+        Unbuilt::Head => "head",
+        Unbuilt::Task => "task",
+    }
+}
+
+fn code_alone(alloc: Global, code: &str) -> Result<Value, AllocError>
+    ensures { IfOk result (λ value. view value ≡ spec_one_member (codes "code") (string code.now)) }
+{
+    json!(in alloc; {"code": code})
+}
+
+fn limit_value(alloc: Global, code: &str, limit: u32) -> Result<Value, AllocError>
+    ensures { IfOk result (λ value. view value ≡ spec_two_members (codes "code") (string code.now) (codes "limit") (whole limit)) }
+{
+    json!(in alloc; {"code": code, "limit": limit})
+}
+
+fn length_value(alloc: Global, code: &str, length: u64) -> Result<Value, AllocError>
+    ensures { IfOk result (λ value. view value ≡ spec_two_members (codes "code") (string code.now) (codes "length") (whole length)) }
+{
+    json!(in alloc; {"code": code, "length": length})
+}
+
+fn unbuilt_value(alloc: Global, code: &str, what: Unbuilt) -> Result<Value, AllocError>
+    ensures { IfOk result (λ value. view value ≡ spec_two_members (codes "code") (string code.now) (codes "what") (string (spec_unbuilt_name what))) }
+{
+    let name = unbuilt_name(what);
+    json!(in alloc; {"code": code, "what": name})
+}
+
+fn refusal_value(alloc: Global, rule: Rule) -> Result<Value, AllocError>
+    ensures { IfOk result (λ value. view value ≡ refusal_data rule) }
+{
+    match rule {
+        Rule::BadHead => code_alone(alloc, "bad_head"),
+        Rule::PoolTasksFull { limit } => limit_value(alloc, "pool_tasks_full", limit),
+        Rule::LogFull => code_alone(alloc, "log_full"),
+        Rule::FrontAhead { length } => length_value(alloc, "front_ahead", length),
+        Rule::WantOfMemory => code_alone(alloc, "want_of_memory"),
+        Rule::NotBuilt { what } => unbuilt_value(alloc, "not_built", what),
+    }
+}
+
+fn new_value(alloc: Global, place: u32, task: u32, state: TaskState) -> Result<Value, AllocError>
+    requires { place < 4 }
+    ensures { IfOk result (λ value. view value ≡ spec_two_members (codes "state") (string (spec_state_name state)) (codes "task_id") (string (spec_task_id place task))) }
+{
+    let id = task_id(alloc, place, task)?;
+    let name = state_name(state);
+    json!(in alloc; {"state": name, "task_id": id})
+}
+
+fn reply_value(alloc: Global, place: u32, reply: &Reply) -> Result<Value, AllocError>
+    requires { place < 4 }
+    ensures { IfOk result (λ value. view value ≡ reply_data place reply.now) }
+{
+    match reply {
+        Reply::New { task, state } => new_value(alloc, place, *task, *state),
+        Reply::No(rule) => refusal_value(alloc, *rule),
+    }
+}
+
+/// The body of a reply from the pool at a place. `pieces` are the bytes of the blobs that the
+/// reply names.
+#[tactic(auto, using(crate::proofs::NoFloats::reply_is_plain), unfolding(crate::specs::Bodies::body_of))]
+pub fn show_reply(
+    alloc: Global,
+    place: u32,
+    reply: &Reply,
+    pieces: &Seq<Seq<u8>>,
+) -> Result<Seq<u8>, AllocError>
+    requires { place < 4 }
+    ensures { IfOk result (λ bytes. bytes ≡ body_of place reply.now pieces.now) }
+{
+    let bytes = reply_value(alloc, place, reply)?.to_vec(alloc)?;
+    Ok(Seq::from_vec(bytes))
+}

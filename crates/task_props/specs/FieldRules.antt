@@ -1,0 +1,86 @@
+-- The rule of each field of a request for a task: the first one that a value breaks.
+use Rattle.std.specs.Prelude.{ℕ, ◌+◌, ℤ, pos, int_le, Bool, not, ◌&&◌, ◌==◌, nat_le, nat_lt, List, [], ◌∷◌, length, Option, None}
+use Rattle.std.specs.List.{list_any}
+use Rattle.std.specs.Option.{option_map}
+use Rattle.std.specs.Char.{is_ascii_control}
+use Rattle.dimensions.specs.declared.text.Text.{Text}
+use Rattle.dimensions.specs.declared.dim_fault.DimRule.{DimRule}
+use Rattle.dimensions.specs.declared.dim_fault.DimRule.TheVariants as dim_rule
+use Rattle.dimensions.specs.Choosing.{when, ◌or_else◌}
+use Rattle.dimensions.specs.Rules.{first_broken}
+use Rattle.task_props.specs.declared.prop_rule.PropRule.{PropRule}
+use Rattle.task_props.specs.declared.prop_rule.PropRule.TheVariants as prop_rule
+use Rattle.task_props.specs.declared.task_field.SliceField.{SliceField}
+use Rattle.task_props.specs.declared.task_field.SliceField.TheVariants as slice_field
+
+-- 0 to 256 bytes without control characters
+abbrev pub name_rule : Text → Option PropRule
+name_rule name =
+    when (nat_lt 256 (length name)) prop_rule.Count
+    or_else when (list_any is_ascii_control name) prop_rule.Grammar
+
+-- from the low to the high number
+abbrev pub range_rule : ℕ → ℕ → ℤ → Option PropRule
+range_rule low high number = when (not (int_le (pos low) number && int_le number (pos high))) prop_rule.Range
+
+abbrev pub priority_rule : ℤ → Option PropRule
+priority_rule number = range_rule 0 255 number
+
+abbrev pub expiration_rule : ℤ → Option PropRule
+expiration_rule seconds = range_rule 1 604800 seconds
+
+-- a list of 1 to so many items
+abbrev pub count_rule : ℕ → ℕ → Option PropRule
+count_rule most count = when (not (nat_le 1 count && nat_le count most)) prop_rule.Count
+
+abbrev pub is_nul : ℕ → Bool
+is_nul byte = byte == 0
+
+-- a text of a command, at a place: the first is not empty, each has at most 4096 bytes and no NUL
+abbrev pub text_rule : ℕ → Text → Option PropRule
+text_rule place text =
+    when (place == 0 && length text == 0) prop_rule.Count
+    or_else when (nat_lt 4096 (length text)) prop_rule.Count
+    or_else when (list_any is_nul text) prop_rule.Grammar
+
+abbrev pub broken_at : {F : Type 0} → F → PropRule → F × PropRule
+broken_at field rule = (field, rule)
+
+-- the first text that breaks its rule, where the list begins at a place
+abbrev pub first_broken_text : ℕ → List Text → Option (SliceField × PropRule)
+first_broken_text place [] = None
+first_broken_text place (text ∷ texts) =
+    option_map (broken_at (slice_field.CommandText place)) (text_rule place text)
+    or_else first_broken_text (place + 1) texts
+
+-- 1 to 64 texts
+abbrev pub broken_command : List Text → Option (SliceField × PropRule)
+broken_command texts =
+    option_map (broken_at slice_field.Command) (count_rule 64 (length texts))
+    or_else first_broken_text 0 texts
+
+-- what a rule on dimensions is among the rules on fields
+abbrev pub rule_of : DimRule → PropRule
+rule_of dim_rule.TooMany = prop_rule.Count
+rule_of dim_rule.BadKey = prop_rule.Grammar
+rule_of dim_rule.BadValue = prop_rule.Grammar
+rule_of dim_rule.EmptyAlternative = prop_rule.Alternative
+rule_of dim_rule.Repeated = prop_rule.Repeated
+rule_of dim_rule.Pool = prop_rule.Pool
+rule_of dim_rule.Id = prop_rule.Id
+
+-- a rule on one pair is told at the pair, a rule on all of them at the list
+abbrev pub field_of : DimRule → ℕ → SliceField
+field_of dim_rule.TooMany place = slice_field.Dimensions
+field_of dim_rule.Pool place = slice_field.Dimensions
+field_of dim_rule.Id place = slice_field.Dimensions
+field_of dim_rule.BadKey place = slice_field.Dimension place
+field_of dim_rule.BadValue place = slice_field.Dimension place
+field_of dim_rule.EmptyAlternative place = slice_field.Dimension place
+field_of dim_rule.Repeated place = slice_field.Dimension place
+
+abbrev pub as_field : DimRule × ℕ → SliceField × PropRule
+as_field broken = (field_of broken.0 broken.1, rule_of broken.0)
+
+abbrev pub broken_dimensions : List (Text × Text) → Option (SliceField × PropRule)
+broken_dimensions pairs = option_map as_field (first_broken pairs)

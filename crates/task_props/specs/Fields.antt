@@ -1,0 +1,21 @@
+-- The dotted path of a field, with list places as numbers.
+use Rattle.std.specs.Prelude.{ℕ, List, ◌++◌, codes}
+use Rattle.std.specs.Fmt.{decimal}
+use Rattle.task_props.specs.declared.task_field.TaskField.{TaskField}
+use Rattle.task_props.specs.declared.task_field.TaskField.TheVariants.{Name, Priority, TaskSlices, InSlice}
+use Rattle.task_props.specs.declared.task_field.SliceField.{SliceField}
+use Rattle.task_props.specs.declared.task_field.SliceField.TheVariants.{ExpirationSecs, Command, CommandText, Dimensions, Dimension}
+
+-- within its slice
+abbrev pub slice_path : SliceField → List ℕ
+slice_path ExpirationSecs = codes "expiration_secs"
+slice_path Command = codes "properties.command"
+slice_path (CommandText place) = codes "properties.command." ++ decimal place
+slice_path Dimensions = codes "properties.dimensions"
+slice_path (Dimension place) = codes "properties.dimensions." ++ decimal place
+
+abbrev pub task_path : TaskField → List ℕ
+task_path Name = codes "name"
+task_path Priority = codes "priority"
+task_path TaskSlices = codes "task_slices"
+task_path (InSlice slice field) = codes "task_slices." ++ (decimal slice ++ (codes "." ++ slice_path field))

@@ -1,0 +1,102 @@
+//! The rules on the fields of a request for a task, one function each.
+ghost use Rattle.std.specs.Prelude.{◌≡◌, ◌≤◌, length, pos};
+ghost use Rattle.std.specs.List.{list_any};
+ghost use Rattle.std.specs.Char.{is_ascii_control};
+ghost use Rattle.task_props.specs.FieldRules.{name_rule, range_rule, priority_rule, expiration_rule, count_rule, text_rule, is_nul, first_broken_text, broken_command, rule_of, field_of, broken_dimensions};
+
+use crate::{PropRule, SliceField};
+use dimensions::{DimRule, DimSet, Text};
+
+fn has_control(text: &str) -> bool
+    ensures { result ≡ list_any is_ascii_control text.now }
+{
+    text.as_bytes().iter().any(|byte| byte.is_ascii_control())
+}
+
+fn has_nul(text: &str) -> bool
+    ensures { result ≡ list_any is_nul text.now }
+{
+    text.as_bytes().iter().any(|byte| *byte == 0)
+}
+
+pub(crate) fn name_rule(name: &str) -> Option<PropRule>
+    ensures { result ≡ name_rule name.now }
+{
+    if name.len() > 256 {
+        return Some(PropRule::Count);
+    }
+    if has_control(name) {
+        return Some(PropRule::Grammar);
+    }
+    None
+}
+
+fn range_rule(low: u32, high: u32, number: i128) -> Option<PropRule>
+    ensures { result ≡ range_rule low high number }
+{
+    if low as i128 <= number && number <= high as i128 {
+        None
+    } else {
+        Some(PropRule::Range)
+    }
+}
+
+pub(crate) fn priority_rule(number: i128) -> Option<PropRule>
+    ensures { result ≡ priority_rule number }
+{
+    range_rule(0, 255, number)
+}
+
+pub(crate) fn expiration_rule(seconds: i128) -> Option<PropRule>
+    ensures { result ≡ expiration_rule seconds }
+{
+    range_rule(1, 604800, seconds)
+}
+
+pub(crate) fn count_rule(most: usize, count: usize) -> Option<PropRule>
+    ensures { result ≡ count_rule most count }
+{
+    if 1 <= count && count <= most {
+        None
+    } else {
+        Some(PropRule::Count)
+    }
+}
+
+fn text_rule(place: u32, text: &str) -> Option<PropRule>
+    ensures { result ≡ text_rule place text.now }
+{
+    if place == 0 && text.is_empty() {
+        return Some(PropRule::Count);
+    }
+    if text.len() > 4096 {
+        return Some(PropRule::Count);
+    }
+    if has_nul(text) {
+        return Some(PropRule::Grammar);
+    }
+    None
+}
+
+fn first_broken_text(texts: &[Text]) -> Option<(SliceField, PropRule)>
+    requires { length texts.now ≤ 64 }
+    ensures { result ≡ first_broken_text 0 texts.now }
+{
+    let mut place = 0;
+    for text in texts {
+        if let Some(rule) = text_rule(place, text.as_str()) {
+            return Some((SliceField::CommandText { place }, rule));
+        }
+        place += 1;
+    }
+    None
+}
+
+pub(crate) fn broken_command(texts: &[Text]) -> Option<(SliceField, PropRule)>
+    ensures { result ≡ broken_command texts.now }
+{
+    if let Some(rule) = count_rule(64, texts.len()) {
+        return Some((SliceField::Command, rule));
+    }
+    first_broken_text(texts)
+}
