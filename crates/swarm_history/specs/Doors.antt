@@ -5,8 +5,6 @@ use Rattle.swarm_model.specs.declared.pool_settings.PoolSettings.{PoolSettings}
 use Rattle.swarm_model.specs.declared.entry.Entry.{Entry}
 use Rattle.swarm_model.specs.declared.request.Request.{Request}
 use Rattle.swarm_model.specs.declared.reply.Reply.{Reply}
-use Rattle.swarm_model.specs.declared.reply.Reply.TheVariants as reply
-use Rattle.swarm_model.specs.declared.rule.Rule.{Rule}
 use Rattle.swarm_model.specs.Effects.{opening}
 use Rattle.swarm_model.specs.Points.{IsPoint, IsStopped}
 use Rattle.swarm_history.specs.declared.door.CallFault.{CallFault}
@@ -30,10 +28,9 @@ pub record DoorState : Type 0 where
 abbrev pub Elsewhere : ℕ → Logs → Logs → Type 0
 Elsewhere place old new = (p : ℕ) → p ≢ place → new p ≡ old p
 
--- no reply names a blob yet
+-- no reply names a blob yet, so none has bytes of one
 abbrev pub ArePieces : Reply → List (List ℕ) → Type 0
-ArePieces (reply.New task state) pieces = pieces ≡ []
-ArePieces (reply.No rule) pieces = pieces ≡ []
+ArePieces answered pieces = pieces ≡ []
 
 abbrev pub is_log_full : CallFault → Bool
 is_log_full fault.Memory = false
@@ -59,3 +56,11 @@ pub record IsCall (old new : DoorState) (place : ℕ) (moment : ℕ) (after : Op
   pub numbers : new.numbers ≡ old.numbers
   pub faults : old.faults ≤ new.faults
   pub calls : new.calls ≤ old.calls + 1
+
+-- a door of these settings that has seen nothing, was not called and never failed
+pub record IsNewDoor (settings : Settings) (door : DoorState) : Type 0 where
+  pub settings_are : door.settings ≡ settings
+  pub seen : (p : ℕ) → door.seen p ≡ []
+  pub numbers : (p : ℕ) → door.numbers p ≡ 0
+  pub faults : door.faults ≡ 0
+  pub calls : door.calls ≡ 0

@@ -7,5 +7,8 @@
 #![tactic(auto)]
 
 mod door;
+mod plain_door;
+mod serving;
 
 pub use door::{Answered, CallFault, Door};
+pub use plain_door::PlainDoor;

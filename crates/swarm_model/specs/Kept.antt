@@ -1,5 +1,6 @@
 -- What a machine keeps.
-use Rattle.std.specs.Prelude.{◌≡◌, ℕ, List, Option, Some, None, length, if◌then◌else◌}
+use Rattle.std.specs.Prelude.{◌≡◌, ℕ, Bool, List, ◌∷◌, Option, None, length, option_map, if◌then◌else◌}
+use Rattle.std.specs.List.{find}
 use Rattle.sha2.specs.Sha256.{sha256}
 use Rattle.content_store.specs.declared.Filled.{Filled}
 use Rattle.content_store.specs.declared.Filled.TheVariants.{Done, Differs, Unknown}
@@ -10,12 +11,12 @@ use Rattle.swarm_model.specs.Finding.{has_blob}
 use Rattle.swarm_model.specs.Effects.{opening}
 use Rattle.swarm_model.specs.History.{replay, IsLegal}
 
--- the rows, the log, the entry that is made ready, and the bytes that are held of each digest
+-- the rows, the log, the entry that is made ready, and the bytes that are held, by their digests
 pub record Kept : Type 0 where
   pub pool : PoolState
   pub log : List Entry
   pub ready : Option Entry
-  pub held : List ℕ → Option (List ℕ)
+  pub held : List (List ℕ × List ℕ)
 
 -- the rows are the replay of the log, and the log is legal
 pub record IsHistory (kept : Kept) : Type 0 where
@@ -29,13 +30,17 @@ filled s digest bytes =
     then (if has_blob s digest (length bytes) then Done else Unknown)
     else Differs (sha256 bytes)
 
--- the bytes of one digest more
-abbrev pub with_bytes : (List ℕ → Option (List ℕ)) → List ℕ → List ℕ → List ℕ → Option (List ℕ)
-with_bytes held digest bytes d = if same d digest then Some bytes else held d
+-- a held digest with its bytes
+abbrev pub is_held : List ℕ → List ℕ × List ℕ → Bool
+is_held digest pair = same pair.0 digest
+
+-- the bytes that are held under a digest
+abbrev pub bytes_of : List (List ℕ × List ℕ) → List ℕ → Option (List ℕ)
+bytes_of held digest = option_map (λ pair. pair.1) (find (is_held digest) held)
 
 -- what is held after bytes were brought
-abbrev pub held_after : Filled → (List ℕ → Option (List ℕ)) → List ℕ → List ℕ → List ℕ → Option (List ℕ)
-held_after Done held digest bytes = with_bytes held digest bytes
+abbrev pub held_after : Filled → List (List ℕ × List ℕ) → List ℕ → List ℕ → List (List ℕ × List ℕ)
+held_after Done held digest bytes = (digest, bytes) ∷ held
 held_after Unknown held digest bytes = held
 held_after (Differs actual) held digest bytes = held
 

@@ -1,6 +1,5 @@
 ghost use Rattle.std.specs.Prelude.{◌≡◌, ◌≤◌, ◌^◌, ◌↔◌, ◌++◌, ◌∷◌, [], length, true, false, None, Some, Ok, IsTrue, IsNone, IfOk, OnOk, OnErr, IsErrOf, option_map, slice_get};
 ghost use Rattle.std.specs.Option.{option_copied};
-ghost use Rattle.content_store.specs.declared.Filled.TheVariants.{Done};
 ghost use Rattle.swarm_model.specs.Settings.{keeps_rules};
 ghost use Rattle.swarm_model.specs.Finding.{task_of, bot_of, blob_numbered, blob_placed};
 ghost use Rattle.swarm_model.specs.Fits.{fits};
@@ -8,7 +7,7 @@ ghost use Rattle.swarm_model.specs.Answers.{answer};
 ghost use Rattle.swarm_model.specs.Effects.{opening, after};
 ghost use Rattle.swarm_model.specs.Deadlines.{due_entry};
 ghost use Rattle.swarm_model.specs.History.{MayFollow, has_room, tally};
-ghost use Rattle.swarm_model.specs.Kept.{IsHistory, filled, Fills};
+ghost use Rattle.swarm_model.specs.Kept.{IsHistory, Fills, bytes_of};
 
 use crate::{Answer, BlobRow, BotRow, Entry, PoolSettings, Request, Steps, TaskRow};
 use content_store::Filled;
@@ -36,7 +35,7 @@ pub trait Machine: Sized {
 
     fn new(alloc: Global, settings: PoolSettings) -> Result<Self, AllocError>
         requires { IsTrue (keeps_rules settings) }
-        ensures { IfOk result (λ m. kept m ≡ record { pool = opening settings; log = []; ready = None; held = λ _. None }) }
+        ensures { IfOk result (λ m. kept m ≡ record { pool = opening settings; log = []; ready = None; held = [] }) }
     ;
 
     /// The entry of the first deadline that has come by the moment.
@@ -83,7 +82,7 @@ pub trait Machine: Sized {
 
     /// The bytes that are held under the digest.
     fn bytes(&self, digest: &Digest) -> Option<&[u8]>
-        ensures { option_map (λ b. b.now) result ≡ (kept self.now).held digest.now };
+        ensures { option_map (λ b. b.now) result ≡ bytes_of (kept self.now).held digest.now };
 
     /// The length of the log.
     fn length(&self) -> u64

@@ -1,0 +1,17 @@
+-- What the rows stand for, and what lies ready for an entry.
+use Rattle.std.specs.Prelude.{◌≡◌, ℕ, [], ◌∷◌}
+use Rattle.swarm_model.specs.declared.pool_state.PoolState.{PoolState}
+use Rattle.swarm_model.specs.declared.entry.Entry.{Entry}
+use Rattle.swarm_model.specs.Effects.{added_tasks}
+use Rattle.swarm_plain.specs.declared.rows.Rows.{Rows}
+use Rattle.swarm_plain.specs.declared.list_pool.Ready.{Ready}
+
+-- the state that the rows stand for
+abbrev pub state_of : Rows → PoolState
+state_of rows = record { settings = rows.settings; last = rows.last; tasks = rows.tasks.items; bots = []; blobs = []; placed = 0 }
+
+-- what was made ready for an entry of this weight
+pub record MakesReady (entry : Entry) (weight : ℕ) (ready : Ready) : Type 0 where
+  pub entry_is : ready.entry ≡ entry
+  pub task_is : added_tasks entry.moment entry.kind ≡ ready.task ∷ []
+  pub weight_is : ready.weight ≡ weight

@@ -1,0 +1,66 @@
+ghost use Rattle.std.specs.Prelude.{◌≡◌, map};
+ghost use Rattle.swarm_model.specs.History.{states};
+ghost use Rattle.std.specs.List.{find, count_by};
+ghost use Rattle.std.specs.Option.{option_copied};
+ghost use Rattle.swarm_model.specs.Finding.{place_of, is_task, has_state};
+
+use swarm_model::{TaskRow, TaskState};
+
+fn is_task(number: u32, task: &TaskRow) -> bool
+    ensures { result ≡ is_task number task.now }
+{
+    task.no == number
+}
+
+/// The row of the task of this number.
+pub(crate) fn task_of(tasks: &[TaskRow], number: u32) -> Option<&TaskRow>
+    ensures { option_copied result ≡ find (is_task number) tasks.now }
+{
+    tasks.iter().find(|task| is_task(number, task))
+}
+
+fn place_of(state: TaskState) -> u8
+    ensures { result ≡ place_of state }
+{
+    match state {
+        TaskState::Pending => 0,
+        TaskState::Running => 1,
+        TaskState::Expired => 2,
+        TaskState::TimedOut => 3,
+        TaskState::BotDied => 4,
+        TaskState::Canceled => 5,
+        TaskState::Completed => 6,
+        TaskState::Killed => 7,
+        TaskState::NoResource => 8,
+    }
+}
+
+fn has_state(state: TaskState, task: &TaskRow) -> bool
+    ensures { result ≡ has_state state task.now }
+{
+    place_of(task.state) == place_of(state)
+}
+
+/// How many tasks are in the state.
+fn count_in(tasks: &[TaskRow], state: TaskState) -> u64
+    ensures { result ≡ count_by (has_state state) tasks.now }
+{
+    tasks.iter().filter(|task| has_state(state, task)).count() as u64
+}
+
+/// How many tasks are in each state, in the order of the states.
+pub(crate) fn tally(tasks: &[TaskRow]) -> [u64; 9]
+    ensures { result ≡ map (λ state. count_by (has_state state) tasks.now) states }
+{
+    [
+        count_in(tasks, TaskState::Pending),
+        count_in(tasks, TaskState::Running),
+        count_in(tasks, TaskState::Expired),
+        count_in(tasks, TaskState::TimedOut),
+        count_in(tasks, TaskState::BotDied),
+        count_in(tasks, TaskState::Canceled),
+        count_in(tasks, TaskState::Completed),
+        count_in(tasks, TaskState::Killed),
+        count_in(tasks, TaskState::NoResource),
+    ]
+}

@@ -1,0 +1,25 @@
+ghost use Rattle.std.specs.Prelude.{◌≡◌, IfOk};
+ghost use Rattle.swarm_model.specs.Answers.{tell};
+
+use crate::LookUps;
+use crate::new_tasks::new_task;
+use dimensions::Text;
+use std::alloc::{AllocError, Global};
+use std::sync::ledger::Ledger;
+use swarm_model::{Request, Steps, Told};
+
+/// The reply to a request at a moment, and the entry that it adds.
+pub fn tell<P: LookUps, L: Ledger>(
+    alloc: Global,
+    pool: &P,
+    who: &Text,
+    moment: u64,
+    request: &Request,
+    steps: &mut Steps<L>,
+) -> Result<Told, AllocError>
+    ensures { IfOk result (λ told. told ≡ tell (P.state pool.now) who.now moment request.now) }
+{
+    match request {
+        Request::New(task) => new_task(alloc, pool, who, task),
+    }
+}
