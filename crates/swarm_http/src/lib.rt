@@ -24,4 +24,4 @@ pub use connection::session;
 pub use ended::Ended;
 pub use send::send_whole;
 pub use sw_base::{Clock, ConsoleLink, Failed, Link, MemoryLink, StepClock, SystemClock};
-pub use swarm_history::Door;
+pub use swarm_history::{Answered, CallFault, Door, PlainDoor};
