@@ -1,5 +1,5 @@
 -- What the code's loops and spans say of a head.
-use Rattle.std.proofs.Common.{◌≡◌, ℕ, ◌+◌, ◌-◌, ◌*◌, ◌^◌, ◌<◌, ◌≤◌, true, false, Bool, ◌&&◌, nat_le, arith, List, [], ◌∷◌, ◌++◌, length, take, map, get_or, ap, ◌∙◌, append-nil}
+use Rattle.std.proofs.Common.{◌≡◌, ℕ, ◌+◌, ◌-◌, ◌*◌, ◌^◌, ◌<◌, true, false, Bool, ◌&&◌, arith, List, [], ◌∷◌, ◌++◌, length, take, map, get_or, ap, ◌∙◌, append-nil}
 use Rattle.std.specs.List.{list_all}
 use Rattle.std.specs.Int.{IsInRange}
 use Rattle.std.proofs.lemmas.Bool.{false≢true}
@@ -23,6 +23,7 @@ use Rattle.std.proofs.lemmas.Str.Ascii.{IsAscii-from_all}
 use Rattle.request_head.specs.Plain.{plain_of, plain, is_length, is_visible, is_caller}
 use Rattle.request_head.specs.Judging.{IsWholeHead}
 
+-- the fields of a name, one more header on
 pub named_more : (buf name : List ℕ) (headers : List HeaderSpan) (i : ℕ) (h : HeaderSpan) → i < length headers
     → named name (map (header_bytes buf) (take (i + 1) headers))
     ≡ named name (map (header_bytes buf) (take i headers)) ++ if_named name (header_bytes buf (get_or headers i h))
@@ -30,10 +31,6 @@ named_more buf name headers i h le =
     ap (named name) (map_more (header_bytes buf) headers i h le)
     ∙ flat_map-append (if_named name) (map (header_bytes buf) (take i headers)) (header_bytes buf (get_or headers i h) ∷ [])
     ∙ ap (λ l. named name (map (header_bytes buf) (take i headers)) ++ l) (append-nil (if_named name (header_bytes buf (get_or headers i h))))
-
--- a length between 1 and the most
-pub tests : (n most : ℕ) (b : Bool) → ¬ (n ≡ 0) → n ≤ most → b ≡ ((nat_le 1 n && nat_le n most) && b)
-tests n most b some few = grind (arith, nat_tests)
 
 -- what the spans cover is what the head says
 pub whole_plain : (text : List ℕ) (headers : List HeaderSpan) (r : RequestSpans) (w : IsWholeHead text headers r)
@@ -45,10 +42,12 @@ whole_plain text headers r w =
     ∙ ap (λ m. plain_of w.head.method w.head.target m (map (header_bytes text) (take r.headers headers))) w.at.version
     ∙ ap (plain_of w.head.method w.head.target w.head.minor) w.at.fields
 
+-- the second of two tests that both pass
 and_right : (x y : Bool) → (x && y) ≡ true → y ≡ true
 and_right true y h = h
 and_right false y h = absurd (false≢true h)
 
+-- an ASCII digit is a byte from 48 to 57
 in_range : (c : ℕ) → is_ascii_digit c ≡ true → IsInRange 48 57 c
 in_range c digit = (grind (arith, nat_tests), grind (arith, nat_tests))
 
@@ -64,6 +63,7 @@ digit_more digits i number digit size le is so_far low =
     let power : 10 ^ (i + 1) ≡ 10 ^ i * 10 = pow_more 10 i in
     (omega arith, omega (arith, range.1))
 
+-- a visible byte is ASCII
 visible_low : (b : ℕ) → is_visible b ≡ true → b < 128
 visible_low b visible = grind (arith, nat_tests)
 
