@@ -1,32 +1,12 @@
 -- What it means that no pair of a list breaks a rule, by how many pairs pass a test.
-use Rattle.std.proofs.Common.{◌≡◌, ℕ, ◌+◌, ◌≤◌, List, [], ◌∷◌, ◌++◌, length, Bool, true, false, cond, Option, Some, None, refl, arith}
+use Rattle.std.proofs.Common.{◌≡◌, ℕ, ◌+◌, ◌≤◌, List, [], ◌∷◌, ◌++◌, length, Bool, true, false, cond, Option, None, refl, arith}
 use Rattle.std.specs.Prelude.{◌||◌}
 use Rattle.std.specs.List.{count_by, list_any}
-use Rattle.std.specs.Option.{option_map}
 use Rattle.std.proofs.lemmas.List.{append-nil, append_assoc}
 use Rattle.std.proofs.lemmas.List.Sums.{sum_by-append, sum_by-cons}
 use Rattle.dimensions.specs.declared.dim_fault.DimRule.{DimRule}
-use Rattle.dimensions.specs.Choosing.{when, ◌or_else◌}
+use Rattle.dimensions.proofs.Choosing.{none-first, none-other, option_map-none}
 use Rattle.dimensions.specs.Rules.{first_at, at_place}
-
-pub when-none : {A : Type 0} (b : Bool) (a : A) → when b a ≡ None → b ≡ false
-when-none true a h = absurd (cc)
-when-none false a h = refl
-
-pub none-first : {A : Type 0} (x y : Option A) → (x or_else y) ≡ None → x ≡ None
-none-first (Some a) y h = absurd (cc)
-none-first None y h = refl
-
-pub none-other : {A : Type 0} (x y : Option A) → (x or_else y) ≡ None → y ≡ None
-none-other (Some a) y h = absurd (cc)
-none-other None y h = h
-
-pub none-both : {A : Type 0} (x y : Option A) → x ≡ None → y ≡ None → (x or_else y) ≡ None
-none-both x y h k = rw h k
-
-pub option_map-none : {A B : Type 0} (f : A → B) (x : Option A) → option_map f x ≡ None → x ≡ None
-option_map-none f (Some a) h = absurd (cc)
-option_map-none f None h = refl
 
 pub count-cons : {X : Type 0} (k : X → Bool) (x : X) (xs : List X) → count_by k (x ∷ xs) ≡ cond (k x) 1 0 + count_by k xs
 count-cons k x xs = sum_by-cons (λ y. cond (k y) 1 0) x xs

@@ -1,3 +1,5 @@
+pub mod Choosing
 mod Counting
 mod Rising
+mod Sorting
 mod Unbroken

@@ -1,15 +1,17 @@
 -- Where no rule is broken in a list of pairs, none is in the same pairs in another order.
-use Rattle.std.proofs.Common.{◌≡◌, ℕ, ◌≤◌, List, [], ◌∷◌, length, Bool, true, false, not, cond, None, refl, sym, ◌∙◌, ap, arith}
-use Rattle.std.specs.Prelude.{◌||◌, ◌&&◌, nat_lt, IsPermutation, IsSorted}
+use Rattle.std.proofs.Common.{◌≡◌, ℕ, ◌≤◌, List, [], ◌∷◌, length, Bool, true, false, not, cond, Option, None, Some, refl, sym, ◌∙◌, ap, arith}
+use Rattle.std.specs.Prelude.{◌||◌, ◌&&◌, nat_lt, is_none, IsPermutation, IsSorted}
 use Rattle.std.specs.List.{count_by, list_any}
 use Rattle.std.proofs.lemmas.List.Sorted.{length_permutation, list_any-IsPermutation, sum_by-IsPermutation}
 use Rattle.std.proofs.lemmas.Map.Steps.{list_any_congr}
 use Rattle.dimensions.specs.declared.dim_fault.DimRule.TheVariants as dim_rule
 use Rattle.dimensions.specs.Alike.{same_pair}
-use Rattle.dimensions.specs.Order.{pair_cmp}
+use Rattle.dimensions.specs.Order.{pair_cmp, is_rising, sorted_pairs}
 use Rattle.dimensions.specs.Choosing.{when, ◌or_else◌}
 use Rattle.dimensions.specs.Rules.{is_key, is_value, has_empty_alternative, has_bar, is_pool, is_id, pair_rule, pool_rule, id_rule, first_at, first_broken, are_checked}
-use Rattle.dimensions.proofs.Counting.{when-none, none-first, none-other, none-both, count-le_one, list_any-forbidden, first_at-none}
+use Rattle.dimensions.proofs.Choosing.{when-none, none-first, none-other, none-both}
+use Rattle.dimensions.proofs.Counting.{count-le_one, list_any-forbidden, first_at-none}
+use Rattle.dimensions.proofs.Sorting.{sorted_pairs-is}
 use Rattle.dimensions.proofs.Rising.{pair_equiv, is_rising-sorted}
 
 abbrev Pair : Type 0
@@ -141,3 +143,24 @@ are_checked-sorted xs ys none moved up =
     let unbroken = first_broken-IsPermutation xs ys moved none in
     let rises = is_rising-sorted ys up (apart-from_none ys unbroken) in
     rw unbroken rises
+
+-- the sorted pairs are the one way to sort them
+pub sorted_pairs-from : (xs ys : List Pair) → first_broken xs ≡ None → IsPermutation xs ys → IsSorted pair_cmp ys → ys ≡ sorted_pairs xs
+sorted_pairs-from xs ys none moved up =
+    let apart = apart-from_none xs none in
+    let rises = is_rising-sorted ys up (apart-from_none ys (first_broken-IsPermutation xs ys moved none)) in
+    sorted_pairs-is xs ys apart (λ q. count-IsPermutation (same_pair q) xs ys moved) rises
+
+none_of : {A : Type 0} (o : Option A) (t : Bool) → (is_none o && t) ≡ true → o ≡ None
+none_of None t h = refl
+none_of (Some a) t h = absurd (cc)
+
+rises_of : {A : Type 0} (o : Option A) (t : Bool) → (is_none o && t) ≡ true → t ≡ true
+rises_of None t h = h
+rises_of (Some a) t h = absurd (cc)
+
+-- checked pairs are sorted already
+pub sorted_pairs-checked : (pairs : List Pair) → are_checked pairs ≡ true → sorted_pairs pairs ≡ pairs
+sorted_pairs-checked pairs h =
+    let none = none_of (first_broken pairs) (is_rising pairs) h in
+    sym (sorted_pairs-is pairs pairs (apart-from_none pairs none) (λ q. refl) (rises_of (first_broken pairs) (is_rising pairs) h))

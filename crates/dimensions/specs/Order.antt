@@ -1,5 +1,5 @@
 -- The order of texts and pairs.
-use Rattle.std.specs.Prelude.{ℕ, Bool, true, ◌&&◌, List, [], ◌∷◌}
+use Rattle.std.specs.Prelude.{ℕ, Bool, true, ◌&&◌, if◌then◌else◌, List, [], ◌∷◌}
 use Rattle.std.specs.Ordering.{nat_cmp, ordering_then, is_lt}
 use Rattle.std.specs.declared.cmp.Ordering.{Ordering}
 use Rattle.std.specs.Cmp.Lexicographic.{slice_cmp}
@@ -20,3 +20,13 @@ abbrev pub is_rising : List (List ℕ × List ℕ) → Bool
 is_rising [] = true
 is_rising (a ∷ []) = true
 is_rising (a ∷ b ∷ pairs) = is_below a b && is_rising (b ∷ pairs)
+
+-- a pair among rising ones, in its place
+abbrev pub insert_pair : List ℕ × List ℕ → List (List ℕ × List ℕ) → List (List ℕ × List ℕ)
+insert_pair pair [] = pair ∷ []
+insert_pair pair (first ∷ pairs) = if is_below pair first then pair ∷ first ∷ pairs else first ∷ insert_pair pair pairs
+
+-- the pairs by key, then value
+abbrev pub sorted_pairs : List (List ℕ × List ℕ) → List (List ℕ × List ℕ)
+sorted_pairs [] = []
+sorted_pairs (pair ∷ pairs) = insert_pair pair (sorted_pairs pairs)

@@ -1,9 +1,9 @@
 ghost use Rattle.std.specs.Prelude.{◌≡◌, ◌∷◌, IfOk, IfSome, IfNone, IsOkUnless, IsSorted, IsPermutation, true};
-ghost use Rattle.dimensions.specs.Order.{pair_cmp};
+ghost use Rattle.dimensions.specs.Order.{pair_cmp, sorted_pairs};
 ghost use Rattle.dimensions.specs.Rules.{first_broken, are_checked, pool_of};
 
 use crate::try_copy::copy_all;
-use crate::{DimFault, Seq, Text, TryCopy, pair_rules};
+use crate::{DimFault, DimRule, Seq, Text, TryCopy, pair_rules};
 use std::alloc::{AllocError, Global};
 use std::marker::Model;
 
@@ -32,12 +32,21 @@ fn sorted(alloc: Global, pairs: &[(Text, Text)]) -> Result<Vec<(Text, Text)>, Al
 }
 
 impl DimSet {
+    /// The first rule that the pairs break, with the place of the pair, from 0.
+    pub fn broken(pairs: &[(Text, Text)]) -> Option<(DimRule, u32)>
+        ensures { result ≡ first_broken pairs.now }
+    {
+        pair_rules::first_broken(pairs)
+    }
+
     /// The pairs, sorted, where they break no rule. A broken rule is found without memory.
     pub fn read(alloc: Global, pairs: &[(Text, Text)]) -> Result<DimSet, DimFault>
         ensures broken { IfSome (first_broken pairs.now) (λ b. result ≡ Err (DimFault.Broken b.0 b.1)) }
         ensures sound { IfNone (first_broken pairs.now) (IsOkUnless result DimFault.Memory) }
+        ensures value { IfOk result (λ set. set ≡ sorted_pairs pairs.now) }
         ensures sorted { IfOk result (λ set. IsSorted pair_cmp set) }
         ensures same { IfOk result (λ set. IsPermutation pairs.now set) }
+        ensures kept { IfOk result (λ set. are_checked pairs.now ≡ true → set ≡ pairs.now) }
         ensures checked { IfOk result (λ set. are_checked set ≡ true) }
     {
         if let Some((rule, place)) = pair_rules::first_broken(pairs) {

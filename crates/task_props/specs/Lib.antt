@@ -1,4 +1,6 @@
+pub mod Broken
 pub mod Checked
 pub mod FieldRules
 pub mod Fields
+pub mod Reading
 pub mod RuleNames

@@ -100,3 +100,34 @@ pub(crate) fn broken_command(texts: &[Text]) -> Option<(SliceField, PropRule)>
     }
     first_broken_text(texts)
 }
+
+fn rule_of(rule: DimRule) -> PropRule
+    ensures { result ≡ rule_of rule }
+{
+    match rule {
+        DimRule::TooMany => PropRule::Count,
+        DimRule::BadKey | DimRule::BadValue => PropRule::Grammar,
+        DimRule::EmptyAlternative => PropRule::Alternative,
+        DimRule::Repeated => PropRule::Repeated,
+        DimRule::Pool => PropRule::Pool,
+        DimRule::Id => PropRule::Id,
+    }
+}
+
+fn field_of(rule: DimRule, place: u32) -> SliceField
+    ensures { result ≡ field_of rule place }
+{
+    match rule {
+        DimRule::TooMany | DimRule::Pool | DimRule::Id => SliceField::Dimensions,
+        DimRule::BadKey | DimRule::BadValue | DimRule::EmptyAlternative | DimRule::Repeated => {
+            SliceField::Dimension { place }
+        }
+    }
+}
+
+pub(crate) fn broken_dimensions(pairs: &[(Text, Text)]) -> Option<(SliceField, PropRule)>
+    ensures { result ≡ broken_dimensions pairs.now }
+{
+    let (rule, place) = DimSet::broken(pairs)?;
+    Some((field_of(rule, place), rule_of(rule)))
+}

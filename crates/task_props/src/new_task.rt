@@ -1,5 +1,7 @@
-use crate::Slice;
+use crate::broken::{first_broken_field, path_of};
 use crate::field_rules::{count_rule, name_rule, priority_rule};
+use crate::reading::{natural, read_slices};
+use crate::{PropFault, RawTask, Slice};
 use dimensions::{Seq, Text, TryCopy};
 use std::alloc::{AllocError, Global};
 
@@ -14,9 +16,31 @@ pub struct NewTask {
 }
 
 impl NewTask {
-    ghost use Rattle.std.specs.Prelude.{◌≡◌};
+    ghost use Rattle.task_props.specs.Broken.{first_broken_task, IsFaultOf};
+    ghost use Rattle.task_props.specs.Reading.{task_of};
+    ghost use Rattle.std.specs.Prelude.{◌≡◌, IfOk, IfErr, OnOk, None, true};
     ghost use Rattle.std.specs.List.{list_all};
     ghost use Rattle.task_props.specs.Checked.{is_sound_task, is_sound_slice, waits, is_served, is_checked, pool_of_task};
+
+    /// The task that the fields mean, where no rule is broken, or else the first broken rule.
+    pub fn check(alloc: Global, raw: RawTask) -> Result<NewTask, PropFault>
+        ensures unbroken { OnOk result (first_broken_task raw ≡ None) }
+        ensures value { IfOk result (λ task. task ≡ task_of raw) }
+        ensures sound { IfOk result (λ task. is_sound_task task ≡ true) }
+        ensures broken { IfErr result (IsFaultOf (first_broken_task raw)) }
+    {
+        if let Some((field, rule)) = first_broken_field(&raw) {
+            let field = path_of(alloc, field)?;
+            return Err(PropFault::Broken { field, rule });
+        }
+        Ok(NewTask {
+            name: raw.name,
+            priority: natural(0, 255, raw.priority),
+            bot_ping_tolerance_secs: 1200,
+            request_uuid: Text::new(alloc),
+            task_slices: read_slices(alloc, raw.task_slices)?,
+        })
+    }
 
     /// Whether no rule on a field is broken.
     pub fn is_sound(&self) -> bool

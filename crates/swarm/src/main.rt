@@ -1,0 +1,24 @@
+//! The program `swarm`: it hands the words of the command line, the console and the system's clock
+//! to `swarm_cli`, and ends with its answer.
+#![tactic(auto)]
+
+use std::env;
+use std::process::ExitCode;
+use sw_base::{ConsoleLink, SystemClock};
+use swarm_cli::run;
+
+fn main(rt: HostRuntime) -> ExitCode {
+    let alloc = rt.alloc();
+    let mut words = Vec::new(alloc);
+    // Words that can't be read are no command.
+    if let Ok(args) = env::args(&rt) {
+        for word in args.skip(1) {
+            if words.push(word).is_err() {
+                return ExitCode::from(5);
+            }
+        }
+    }
+    let mut console = ConsoleLink::new(rt.stdin(), rt.stdout());
+    let mut clock = SystemClock::new(&rt);
+    ExitCode::from(run(alloc, &words, &mut console, &mut clock))
+}

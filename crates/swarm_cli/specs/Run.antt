@@ -1,0 +1,41 @@
+-- What the program does.
+use Rattle.std.specs.Prelude.{◌≡◌, ◌⊎◌, ℕ, List, [], ◌∷◌, codes, Option}
+use Rattle.sw_base.specs.Faults.{Rose}
+use Rattle.sw_base.specs.Link.{LinkState, IsClean}
+use Rattle.swarm_policy.specs.Open.{open_settings}
+use Rattle.swarm_history.specs.Doors.{Logs}
+use Rattle.swarm_http.specs.declared.ended.Ended.{Ended}
+use Rattle.swarm_http.specs.declared.ended.Ended.TheVariants.{Closed, CutShort, BadHead, Retired, ReadFault, WriteFault, Memory}
+use Rattle.swarm_http.specs.Sends.{Written}
+use Rattle.swarm_http.specs.Answered.{IsAnswered}
+
+-- the status of an ending
+abbrev pub status_of : Ended → ℕ
+status_of Closed = 0
+status_of Retired = 0
+status_of ReadFault = 4
+status_of WriteFault = 4
+status_of Memory = 5
+status_of CutShort = 7
+status_of BadHead = 7
+
+-- the words are the one word `session`
+abbrev pub AreSession : List (List ℕ) → Type 0
+AreSession words = words ≡ codes "session" ∷ []
+
+-- one connection over a door with the open settings, the pass 0 and an empty log of each pool
+pub record RunsSession (s t : LinkState) (a b : ℕ → Option (List ℕ)) (status : ℕ) : Type 0 where
+  pub ended : Ended
+  pub numbers : ℕ → ℕ
+  pub old : Logs
+  pub new : Logs
+  pub numbered : (p : ℕ) → numbers p ≡ 0
+  pub empty : (p : ℕ) → old p ≡ []
+  pub answered : IsAnswered open_settings numbers s t a b old new ended
+  pub status_is : status ≡ status_of ended
+
+-- the usage was written whole, or a write failed
+pub record PrintsUsage (s t : LinkState) (status : ℕ) : Type 0 where
+  pub back : List ℕ
+  pub written : Written s t (codes "usage\n") back
+  pub cause : ((status ≡ 2) × (back ≡ [])) ⊎ ((status ≡ 4) × Rose s.write_faults t.write_faults)

@@ -1,0 +1,70 @@
+ghost use Rattle.std.specs.Prelude.{◌≡◌, ◌↔◌, IsTrue, map, string_bytes};
+ghost use Rattle.swarm_cli.specs.Run.{AreSession, RunsSession, PrintsUsage, status_of};
+
+use std::alloc::Global;
+use swarm_http::{Clock, Ended, Link, PlainDoor, send_whole, session};
+use swarm_plain::ListPool;
+use swarm_policy::open_settings;
+
+fn status_of(ended: Ended) -> u8
+    ensures { result ≡ status_of ended }
+{
+    match ended {
+        Ended::Closed | Ended::Retired => 0,
+        Ended::ReadFault | Ended::WriteFault => 4,
+        Ended::Memory => 5,
+        Ended::CutShort | Ended::BadHead => 7,
+    }
+}
+
+fn run_session<L: Link, C: Clock>(alloc: Global, console: &mut L, clock: &mut C) -> u8
+    ensures { RunsSession (L.state console.old) (L.state console.new) (C.ahead clock.old) (C.ahead clock.new) result }
+{
+    let Ok(settings) = open_settings(alloc) else {
+        return status_of(Ended::Memory);
+    };
+    let Ok(mut door) = PlainDoor::<ListPool>::new(alloc, &settings) else {
+        return status_of(Ended::Memory);
+    };
+    let ended = session(alloc, &settings, &mut door, clock, console);
+    status_of(ended)
+}
+
+fn are_session(words: &[String]) -> bool
+    ensures { IsTrue result ↔ AreSession (map string_bytes words.now) }
+{
+    match words {
+        [word] => word.as_str() == "session",
+        _ => false,
+    }
+}
+
+/// Carries out the words of the command line, without the program's own name, and answers the
+/// status with which the program ends.
+///
+/// | Status | Where |
+/// |---|---|
+/// | 0 | the session was closed by its client, or has answered 65536 requests |
+/// | 2 | the words are no command; `usage` is printed |
+/// | 4 | a read, a write or a flush on the console failed |
+/// | 5 | there was no memory to begin with |
+/// | 7 | the input ended inside a request, or a head was refused |
+pub fn run<L: Link, C: Clock>(
+    alloc: Global,
+    words: &[String],
+    console: &mut L,
+    clock: &mut C,
+) -> u8
+    ensures session { AreSession (map string_bytes words.now) →
+        RunsSession (L.state console.old) (L.state console.new) (C.ahead clock.old) (C.ahead clock.new) result }
+    ensures usage { ¬ (AreSession (map string_bytes words.now)) →
+        PrintsUsage (L.state console.old) (L.state console.new) result }
+{
+    if are_session(words) {
+        return run_session(alloc, console, clock);
+    }
+    match send_whole(console, b"usage\n") {
+        Ok(()) => 2,
+        Err(_) => 4,
+    }
+}

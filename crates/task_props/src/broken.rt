@@ -1,0 +1,65 @@
+//! The first rule that a request breaks.
+ghost use Rattle.std.specs.Prelude.{◌≡◌, ◌≤◌, length, IfOk};
+ghost use Rattle.task_props.specs.Broken.{broken_slice, first_broken_slice, first_broken_field};
+ghost use Rattle.task_props.specs.Fields.{task_path};
+
+use crate::field_rules::{
+    broken_command, broken_dimensions, count_rule, expiration_rule, name_rule, priority_rule,
+};
+use crate::{PropRule, RawSlice, RawTask, SliceField, TaskField};
+use dimensions::Text;
+use std::alloc::{AllocError, Global};
+
+fn broken_slice(slice: &RawSlice) -> Option<(SliceField, PropRule)>
+    ensures { result ≡ broken_slice slice.now }
+{
+    if let Some(rule) = expiration_rule(slice.expiration_secs) {
+        return Some((SliceField::ExpirationSecs, rule));
+    }
+    if let Some(broken) = broken_command(slice.properties.command.as_slice()) {
+        return Some(broken);
+    }
+    broken_dimensions(slice.properties.dimensions.as_slice())
+}
+
+fn first_broken_slice(slices: &[RawSlice]) -> Option<(TaskField, PropRule)>
+    requires { length slices.now ≤ 8 }
+    ensures { result ≡ first_broken_slice 0 slices.now }
+{
+    let mut place = 0;
+    for slice in slices {
+        if let Some((field, rule)) = broken_slice(slice) {
+            return Some((
+                TaskField::InSlice {
+                    slice: place,
+                    field,
+                },
+                rule,
+            ));
+        }
+        place += 1;
+    }
+    None
+}
+
+pub(crate) fn first_broken_field(raw: &RawTask) -> Option<(TaskField, PropRule)>
+    ensures { result ≡ first_broken_field raw.now }
+{
+    if let Some(rule) = name_rule(raw.name.as_str()) {
+        return Some((TaskField::Name, rule));
+    }
+    if let Some(rule) = priority_rule(raw.priority) {
+        return Some((TaskField::Priority, rule));
+    }
+    if let Some(rule) = count_rule(8, raw.task_slices.as_slice().len()) {
+        return Some((TaskField::TaskSlices, rule));
+    }
+    first_broken_slice(raw.task_slices.as_slice())
+}
+
+/// The dotted path of a field.
+pub(crate) fn path_of(alloc: Global, field: TaskField) -> Result<Text, AllocError>
+    ensures { IfOk result (λ path. path ≡ task_path field) }
+{
+    Ok(Text::from_string(format!(in alloc; "{field}")?))
+}
