@@ -39,7 +39,7 @@ Chain-append : (settings : Settings) (numbers : ℕ → ℕ) (old mid new : Logs
 Chain-append settings numbers old mid new [] ys same rest = subst (λ l. Chain settings numbers l ys new) same rest
 Chain-append settings numbers old mid new (x ∷ xs) ys first rest = (first.0, first.1, Chain-append settings numbers first.0 mid new xs ys first.2 rest)
 
-nothing_served : (settings : Settings) (numbers : ℕ → ℕ) (s : LinkState) (a : ℕ → Option (List ℕ)) (old : Logs) → Serves settings numbers [] [] [] [] s s a a old old
+pub nothing_served : (settings : Settings) (numbers : ℕ → ℕ) (s : LinkState) (a : ℕ → Option (List ℕ)) (old : Logs) → Serves settings numbers [] [] [] [] s s a a old old
 nothing_served settings numbers s a old = record { taken = []; moves = Moves-refl s; input_is = refl; moments = HandsIn-nil a; chain = refl }
 
 Serves-trans : {settings : Settings} {numbers : ℕ → ℕ} {xs ys : List Exchange} {pending mid rest p q : List ℕ} {s t u : LinkState} {a b c : ℕ → Option (List ℕ)} {d e f : Logs}
