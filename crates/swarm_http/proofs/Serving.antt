@@ -20,10 +20,10 @@ use Rattle.swarm_http.specs.declared.request.Taken.TheVariants as taken
 use Rattle.swarm_http.specs.Shown.{refusal}
 use Rattle.swarm_http.specs.Outcomes.{Outcome, Acts, shows, uses}
 use Rattle.swarm_http.specs.Exchange.{Exchange, HeadSays, spelled, reply_of, moments_of, Chain}
-use Rattle.swarm_http.specs.Answered.{replies, Serves, IsCutReply, last_reply, head_refusal, EndsAs, IsAnswered}
+use Rattle.swarm_http.specs.Answered.{replies, Serves, IsCutReply, last_reply, head_refusal, EndsAs, IsAnswered, KeepsDoor}
 use Rattle.swarm_http.specs.Sends.{Sends, rule_of, text_of}
 use Rattle.swarm_http.specs.Takes.{IsHeld, StopsAs, Takes}
-use Rattle.swarm_http.specs.Steps.{Answers, KeepsDoor, GoesOn, Stops}
+use Rattle.swarm_http.specs.Steps.{Answers, GoesOn, Stops}
 
 pub HandsIn-nil : (a : ℕ → Option (List ℕ)) → HandsIn a a []
 HandsIn-nil a more = let e : 0 + more ≡ more = omega arith in subst (λ k. Consumes (a k) (a more) []) (sym e) (Consumes-nil (a more))
@@ -191,6 +191,14 @@ taking_ended {pending = pending} {s = s} {t = t} ended x =
       not_memory = e.2;
     }
 
+keeps_on : {most : ℕ} {d e f : DoorState} → KeepsDoor most d e → KeepsDoor 1 e f → KeepsDoor (most + 1) d f
+keeps_on x k = record {
+  settings = k.settings ∙ x.settings;
+  numbers = k.numbers ∙ x.numbers;
+  faults = omega (arith, x.faults, k.faults);
+  calls = omega (arith, x.calls, k.calls);
+}
+
 -- the connection so far
 pub record SoFar (settings : Settings) (numbers : ℕ → ℕ) (count : ℕ) (pending : List ℕ) (s t : LinkState) (a b : ℕ → Option (List ℕ)) (d e : DoorState) : Type 0 where
   pub xs : List Exchange
@@ -199,7 +207,7 @@ pub record SoFar (settings : Settings) (numbers : ℕ → ℕ) (count : ℕ) (pe
   pub clean : IsClean s → IsClean t
   pub settings_is : e.settings ≡ settings
   pub numbers_are : e.numbers ≡ numbers
-  pub calls : e.calls ≤ d.calls + count
+  pub keeps : KeepsDoor count d e
 
 pub begun : (settings : Settings) (s : LinkState) (a : ℕ → Option (List ℕ)) (d : DoorState) → d.settings ≡ settings → SoFar settings d.numbers 0 [] s s a a d d
 begun settings s a d same = record {
@@ -209,11 +217,11 @@ begun settings s a d same = record {
   clean = λ c. c;
   settings_is = same;
   numbers_are = refl;
-  calls = omega arith;
+  keeps = record { settings = refl; numbers = refl; faults = omega arith; calls = omega arith };
 }
 
 pub one_on : {settings : Settings} {numbers : ℕ → ℕ} {count : ℕ} {pending more : List ℕ} {s t u : LinkState} {a b c : ℕ → Option (List ℕ)} {d e f : DoorState}
-    → SoFar settings numbers count pending s t a b d e → GoesOn settings e.numbers pending more t u b c e.seen f.seen → KeepsDoor e f
+    → SoFar settings numbers count pending s t a b d e → GoesOn settings e.numbers pending more t u b c e.seen f.seen → KeepsDoor 1 e f
     → SoFar settings numbers (count + 1) more s u a c d f
 one_on {settings = settings} {numbers = numbers} {pending = pending} {more = more} {s = s} {t = t} {u = u} {a = a} {b = b} {c = c} {d = d} {e = e} {f = f} x y k =
     let step = subst (λ n. Serves settings n (y.x ∷ []) pending more (reply_of y.x) t u b c e.seen f.seen) x.numbers_are y.serves in
@@ -225,7 +233,7 @@ one_on {settings = settings} {numbers = numbers} {pending = pending} {more = mor
       counted = omega (arith, length-append x.xs (y.x ∷ []), x.counted);
       settings_is = k.settings ∙ x.settings_is;
       numbers_are = k.numbers ∙ x.numbers_are;
-      calls = omega (arith, x.calls, k.calls);
+      keeps = keeps_on x.keeps k;
     }
 
 pub ended_so : {settings : Settings} {numbers : ℕ → ℕ} {count : ℕ} {pending : List ℕ} {s t u : LinkState} {a b c : ℕ → Option (List ℕ)} {d e : DoorState} {new : Logs} {ended : Ended}

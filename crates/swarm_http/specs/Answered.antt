@@ -1,5 +1,5 @@
 -- What one connection does.
-use Rattle.std.specs.Prelude.{◌≡◌, ◌≢◌, ℕ, ◌<◌, ◌⊎◌, List, [], ◌∷◌, ◌++◌, length, take, Option, None}
+use Rattle.std.specs.Prelude.{◌≡◌, ◌≢◌, ℕ, ◌+◌, ◌<◌, ◌≤◌, ◌⊎◌, List, [], ◌∷◌, ◌++◌, length, take, Option, None}
 use Rattle.std.specs.List.{flat_map}
 use Rattle.std.specs.Io.KnownBytes.{IsAtEnd}
 use Rattle.httparse.specs.Grammar.{RequestHead}
@@ -12,7 +12,7 @@ use Rattle.swarm_model.specs.declared.pool_settings.Settings.{Settings}
 use Rattle.swarm_model.specs.declared.rule.Rule.{Rule}
 use Rattle.swarm_model.specs.declared.rule.Rule.TheVariants as rule
 use Rattle.swarm_model.specs.declared.rule.Unbuilt.TheVariants as unbuilt
-use Rattle.swarm_history.specs.Doors.{Logs}
+use Rattle.swarm_history.specs.Doors.{Logs, DoorState}
 use Rattle.swarm_http.specs.declared.ended.Ended.{Ended}
 use Rattle.swarm_http.specs.declared.ended.Ended.TheVariants.{Closed, CutShort, BadHead, Retired, ReadFault, WriteFault, Memory}
 use Rattle.swarm_http.specs.Shown.{refusal}
@@ -70,3 +70,10 @@ pub record IsAnswered (settings : Settings) (numbers : ℕ → ℕ) (s t : LinkS
   pub serves : Serves settings numbers xs [] rest sent s t a b old new
   pub ends : EndsAs ended xs rest sent s t
   pub clean : ended ≢ WriteFault → IsClean s → IsClean t
+
+-- what a connection keeps of its door, on which it made so many calls at most
+pub record KeepsDoor (most : ℕ) (old new : DoorState) : Type 0 where
+  pub settings : new.settings ≡ old.settings
+  pub numbers : new.numbers ≡ old.numbers
+  pub faults : old.faults ≤ new.faults
+  pub calls : new.calls ≤ old.calls + most

@@ -1,9 +1,9 @@
 -- One request of a connection.
-use Rattle.std.specs.Prelude.{◌≡◌, ◌≢◌, ℕ, ◌+◌, ◌≤◌, List, [], ◌∷◌, Option}
+use Rattle.std.specs.Prelude.{◌≡◌, ◌≢◌, ℕ, List, [], ◌∷◌, Option}
 use Rattle.sw_base.specs.Clock.{HandsIn}
 use Rattle.sw_base.specs.Link.{LinkState, IsClean}
 use Rattle.swarm_model.specs.declared.pool_settings.Settings.{Settings}
-use Rattle.swarm_history.specs.Doors.{Logs, DoorState}
+use Rattle.swarm_history.specs.Doors.{Logs}
 use Rattle.swarm_http.specs.declared.ended.Ended.{Ended}
 use Rattle.swarm_http.specs.declared.ended.Ended.TheVariants.{Retired, WriteFault, Memory}
 use Rattle.swarm_http.specs.declared.connection.Step.{Step}
@@ -20,12 +20,6 @@ pub record Answers (settings : Settings) (numbers : ℕ → ℕ) (body who : Lis
   pub acts : Acts settings numbers body who outcome old new
   pub moments : HandsIn a b (uses outcome)
   pub shown : text_of result ≡ shows outcome
-
--- what a request keeps of the door
-pub record KeepsDoor (s t : DoorState) : Type 0 where
-  pub settings : t.settings ≡ s.settings
-  pub numbers : t.numbers ≡ s.numbers
-  pub calls : t.calls ≤ s.calls + 1
 
 -- one request was answered, and its reply written and flushed
 pub record GoesOn (settings : Settings) (numbers : ℕ → ℕ) (pending rest : List ℕ) (s t : LinkState) (a b : ℕ → Option (List ℕ)) (old new : Logs) : Type 0 where

@@ -6,7 +6,8 @@ ghost use Rattle.swarm_wire.specs.Asking.{asked_of};
 ghost use Rattle.swarm_http.specs.Outcomes.{stop_rule};
 ghost use Rattle.swarm_http.specs.Sends.{rule_of};
 ghost use Rattle.swarm_http.specs.Takes.{IsHeld};
-ghost use Rattle.swarm_http.specs.Steps.{Answers, KeepsDoor};
+ghost use Rattle.swarm_http.specs.Answered.{KeepsDoor};
+ghost use Rattle.swarm_http.specs.Steps.{Answers};
 
 use crate::reply::{Refusal, Shown, whole_reply};
 use crate::request::Received;
@@ -39,7 +40,7 @@ fn call_door<D: Door, C: Clock>(
     requires calls { (D.state door.old).calls < 2 ^ 40 }
     ensures answers { (body : List ℕ) → asked_of body ≡ Ok asked.now →
         Answers (D.state door.old).settings (D.state door.old).numbers body who.now (C.ahead clock.old) (C.ahead clock.new) (D.state door.old).seen (D.state door.new).seen result }
-    ensures door { KeepsDoor (D.state door.old) (D.state door.new) }
+    ensures door { KeepsDoor 1 (D.state door.old) (D.state door.new) }
 {
     let moment = clock.now();
     match door.call(
@@ -71,7 +72,7 @@ pub fn answer_request<D: Door, C: Clock>(
     requires calls { (D.state door.old).calls < 2 ^ 40 }
     ensures answers { (body who : List ℕ) → IsHeld received body who →
         Answers settings.now (D.state door.old).numbers body who (C.ahead clock.old) (C.ahead clock.new) (D.state door.old).seen (D.state door.new).seen result }
-    ensures door { KeepsDoor (D.state door.old) (D.state door.new) }
+    ensures door { KeepsDoor 1 (D.state door.old) (D.state door.new) }
 {
     let (Some(who), Some(body)) = (received.who, received.body) else {
         return Shown::Refused(Refusal::WantOfMemory);

@@ -1,8 +1,8 @@
 //! One connection.
 ghost use Rattle.std.specs.Prelude.{◌≡◌, ◌<◌, ◌≤◌, ◌+◌, ◌^◌};
 ghost use Rattle.swarm_model.specs.Settings.{AreOpen};
-ghost use Rattle.swarm_http.specs.Steps.{IsStep, KeepsDoor};
-ghost use Rattle.swarm_http.specs.Answered.{IsAnswered};
+ghost use Rattle.swarm_http.specs.Answered.{IsAnswered, KeepsDoor};
+ghost use Rattle.swarm_http.specs.Steps.{IsStep};
 
 use crate::Ended;
 use crate::answer::answer_request;
@@ -37,7 +37,7 @@ fn serve_one<D: Door, L: Link, C: Clock>(
     requires open { AreOpen settings.now }
     requires calls { (D.state door.old).calls < 2 ^ 40 }
     ensures step { IsStep settings.now (D.state door.old).numbers pending.old pending.new (L.state link.old) (L.state link.new) (C.ahead clock.old) (C.ahead clock.new) (D.state door.old).seen (D.state door.new).seen result }
-    ensures door { KeepsDoor (D.state door.old) (D.state door.new) }
+    ensures door { KeepsDoor 1 (D.state door.old) (D.state door.new) }
 {
     match take_request(alloc, pending, link) {
         Taken::Asks(received) => {
@@ -66,7 +66,8 @@ pub fn session<D: Door, L: Link, C: Clock>(
     requires settings { (D.state door.old).settings ≡ settings.now }
     requires open { AreOpen settings.now }
     requires calls { (D.state door.old).calls + 65536 ≤ 2 ^ 40 }
-    ensures { IsAnswered settings.now (D.state door.old).numbers (L.state link.old) (L.state link.new) (C.ahead clock.old) (C.ahead clock.new) (D.state door.old).seen (D.state door.new).seen result }
+    ensures answered { IsAnswered settings.now (D.state door.old).numbers (L.state link.old) (L.state link.new) (C.ahead clock.old) (C.ahead clock.new) (D.state door.old).seen (D.state door.new).seen result }
+    ensures door { KeepsDoor 65536 (D.state door.old) (D.state door.new) }
 {
     let Ok(mut pending) = Pending::new(alloc) else {
         return Ended::Memory;

@@ -12,5 +12,5 @@ requests-init g c =
 pub requests-preserved : goal.requests-preserved
 requests-preserved g c = one_on c.requests.invariant c.in-Next.ensures.step c.serve_one.ensures.door
 
-pub returns-in-End : goal.returns-in-End
-returns-in-End g c = ended_so c.requests.invariant c.in-End.ensures.step
+pub returns-in-End-clause-answered : goal.returns-in-End-clause-answered
+returns-in-End-clause-answered g c = ended_so c.requests.invariant c.in-End.ensures.step
