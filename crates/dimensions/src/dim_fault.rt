@@ -1,3 +1,5 @@
+use std::alloc::AllocError;
+
 /// A rule on the dimensions of a task.
 #[derive(Debug, Clone, Copy, PartialEq, Eq)]
 pub enum DimRule {
@@ -24,4 +26,15 @@ pub enum DimRule {
 pub enum DimFault {
     Memory,
     Broken { rule: DimRule, place: u32 },
+}
+
+impl From<AllocError> for DimFault {
+    ghost use Rattle.std.specs.Prelude.{◌≡◌};
+    ghost use Rattle.dimensions.specs.declared.dim_fault.DimFault.TheVariants.{Memory};
+
+    ghost from_gives = { λ _ e. e ≡ Memory };
+
+    fn from(_: AllocError) -> DimFault {
+        DimFault::Memory
+    }
 }

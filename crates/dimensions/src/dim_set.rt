@@ -22,15 +22,6 @@ impl Model for DimSet {
     ghost view = { λ d. d.sorted };
 }
 
-fn sorted(alloc: Global, pairs: &[(Text, Text)]) -> Result<Vec<(Text, Text)>, AllocError>
-    ensures sorted { IfOk result (λ copies. IsSorted pair_cmp copies.items) }
-    ensures same { IfOk result (λ copies. IsPermutation pairs.now copies.items) }
-{
-    let mut copies = copy_all(alloc, pairs)?;
-    copies.sort()?;
-    Ok(copies)
-}
-
 impl DimSet {
     /// The first rule that the pairs break, with the place of the pair, from 0.
     pub fn broken(pairs: &[(Text, Text)]) -> Option<(DimRule, u32)>
@@ -42,29 +33,30 @@ impl DimSet {
     /// The pairs, sorted, where they break no rule. A broken rule is found without memory.
     pub fn read(alloc: Global, pairs: &[(Text, Text)]) -> Result<DimSet, DimFault>
         ensures broken { IfSome (first_broken pairs.now) (λ b. result ≡ Err (DimFault.Broken b.0 b.1)) }
-        ensures sound { IfNone (first_broken pairs.now) (IsOkUnless result DimFault.Memory) }
+        ensures only_memory { IfNone (first_broken pairs.now) (IsOkUnless result DimFault.Memory) }
+
+        // There is one way to sort pairs of which none stands twice.
         ensures value { IfOk result (λ set. set ≡ sorted_pairs pairs.now) }
         ensures sorted { IfOk result (λ set. IsSorted pair_cmp set) }
         ensures same { IfOk result (λ set. IsPermutation pairs.now set) }
+
+        // Checked pairs stay as they are.
         ensures kept { IfOk result (λ set. are_checked pairs.now ≡ true → set ≡ pairs.now) }
         ensures checked { IfOk result (λ set. are_checked set ≡ true) }
     {
-        if let Some((rule, place)) = pair_rules::first_broken(pairs) {
+        if let Some((rule, place)) = DimSet::broken(pairs) {
             return Err(DimFault::Broken { rule, place });
         }
-        match sorted(alloc, pairs) {
-            Ok(sorted) => Ok(DimSet {
-                sorted: Seq::from_vec(sorted),
-            }),
-            Err(_) => Err(DimFault::Memory),
-        }
+        Ok(DimSet {
+            sorted: Seq::from_vec(sorted_copies(alloc, pairs)?),
+        })
     }
 
     /// Whether the pairs break no rule and rise strictly.
     pub fn is_checked(&self) -> bool
         ensures { result ≡ are_checked self.now }
     {
-        pair_rules::first_broken(self.pairs()).is_none() && pair_rules::is_rising(self.pairs())
+        DimSet::broken(self.pairs()).is_none() && pair_rules::is_rising(self.pairs())
     }
 
     /// The value of the key `pool`, or the empty text where there is none.
@@ -89,6 +81,15 @@ impl DimSet {
     }
 }
 
+fn sorted_copies(alloc: Global, pairs: &[(Text, Text)]) -> Result<Vec<(Text, Text)>, AllocError>
+    ensures sorted { IfOk result (λ copies. IsSorted pair_cmp copies.items) }
+    ensures same { IfOk result (λ copies. IsPermutation pairs.now copies.items) }
+{
+    let mut copies = copy_all(alloc, pairs)?;
+    copies.sort()?;
+    Ok(copies)
+}
+
 impl PartialEq for DimSet {
     ghost use Rattle.std.specs.Cmp.Lexicographic.{pointwise, lists_per};
     ghost use Rattle.dimensions.specs.Alike.{same_pair, same_pair_laws};
@@ -99,5 +100,45 @@ impl PartialEq for DimSet {
 
     fn eq(&self, other: &DimSet) -> bool {
         self.sorted == other.sorted
+    }
+}
+
+#[cfg(test)]
+mod tests {
+    use super::*;
+    use std::test::Fail;
+
+    fn pair(alloc: Global, key: &str, value: &str) -> Result<(Text, Text), AllocError> {
+        Ok((Text::from_str(alloc, key)?, Text::from_str(alloc, value)?))
+    }
+
+    #[test]
+    fn reads_sorts_and_copies(rt: HostRuntime) -> Result<(), Fail> {
+        let alloc = rt.alloc();
+        let pairs = vec![in alloc;
+            pair(alloc, "pool", "default")?,
+            pair(alloc, "os", "Linux|Mac")?,
+        ]?;
+        let set = DimSet::read(alloc, pairs.as_slice())?;
+        assert_eq!(rt; set.pairs().len(), 2);
+        assert_eq!(rt; set.pairs()[0].1.as_str(), "Linux|Mac");
+        assert_eq!(rt; set.pool(), "default");
+        assert!(rt; set.is_checked());
+        assert!(rt; set.try_copy(alloc)? == set);
+        Ok(())
+    }
+
+    #[test]
+    fn tells_the_first_broken_rule(rt: HostRuntime) -> Result<(), Fail> {
+        let alloc = rt.alloc();
+        let pairs = vec![in alloc; pair(alloc, "pool", "default")?, pair(alloc, "os", "a||b")?]?;
+        match DimSet::read(alloc, pairs.as_slice()) {
+            Err(DimFault::Broken { rule, place }) => {
+                assert_eq!(rt; rule, DimRule::EmptyAlternative);
+                assert_eq!(rt; place, 1);
+            }
+            _ => assert!(rt; false),
+        }
+        Ok(())
     }
 }

@@ -59,11 +59,18 @@ fn is_spaced(text: &[u8]) -> bool
     is_space(text.first()) || is_space(text.last())
 }
 
+/// Whether a byte parts two alternatives.
+fn is_bar(byte: u8) -> bool
+    ensures { result ≡ is_bar byte }
+{
+    byte == b'|'
+}
+
 fn has_spaced_alternative(value: &[u8]) -> bool
     ensures { result ≡ list_any is_spaced (alternatives value.now) }
 {
     value
-        .split(|byte| *byte == b'|')
+        .split(|byte| is_bar(*byte))
         .any(|part| is_spaced(part))
 }
 
@@ -71,7 +78,7 @@ fn has_empty_alternative(value: &[u8]) -> bool
     ensures { result ≡ has_empty_alternative value.now }
 {
     value
-        .split(|byte| *byte == b'|')
+        .split(|byte| is_bar(*byte))
         .any(|part| part.is_empty())
 }
 
@@ -92,7 +99,7 @@ fn is_value(value: &str) -> bool
 fn has_bar(value: &str) -> bool
     ensures { result ≡ has_bar value.now }
 {
-    value.as_bytes().iter().any(|byte| *byte == b'|')
+    value.as_bytes().iter().any(|byte| is_bar(*byte))
 }
 
 pub(crate) fn is_pool(pair: &(Text, Text)) -> bool

@@ -6,8 +6,8 @@
 //! print `usage`. The crate stands on `swarm_http`, `swarm_plain` and `swarm_policy`.
 #![tactic(auto)]
 
-mod run;
+mod program;
 #[cfg(test)]
 mod tests;
 
-pub use run::run;
+pub use program::run;

@@ -1,5 +1,5 @@
 -- The points of a log that nobody shares.
-use Rattle.std.proofs.Common.{◌≡◌, ℕ, ◌≤◌, ◌^◌, Bool, true, false, List, [], ◌∷◌, ◌++◌, length, refl, Option, Some, None, arith, subst, sym, ap, ◌∙◌, append-nil, lit≤}
+use Rattle.std.proofs.Common.{◌≡◌, ℕ, ◌≤◌, ◌^◌, Bool, true, false, List, [], ◌∷◌, ◌++◌, length, refl, Option, Some, None, subst, sym, ap, ◌∙◌, append-nil, lit≤}
 use Rattle.std.specs.Prelude.{IsSomeAnd}
 use Rattle.std.specs.Bool.{MatchBool}
 use Rattle.std.specs.Option.{option_to_list}
@@ -57,7 +57,7 @@ pub served_point : (start : PoolState) (pass : ℕ) (old new : List Entry) (who 
 served_point start pass old new who moment ahead request at s told legal grows is state moments answers =
     let at_is : at ≡ moment_of (replay start old) moment = moments ∙ ap (λ (p : PoolState). moment_of p moment) state in
     let told_is : told ≡ answer (replay start old) who (moment_of (replay start old) moment) pass request =
-        answers ∙ ap (λ (p : PoolState). answer p who at pass request) state ∙ ap (λ (m : ℕ). answer (replay start old) who m pass request) at_is in
+    answers ∙ ap (λ (p : PoolState). answer p who at pass request) state ∙ ap (λ (m : ℕ). answer (replay start old) who m pass request) at_is in
     record {
       others = [];
       settled = [];
@@ -99,8 +99,8 @@ full_here start pass old new who moment ahead request at s told entry legal same
     let here : s ≡ replay start (old ++ []) = state ∙ ap (replay start) (sym (append-nil old)) in
     let at_is : at ≡ moment_of (replay start (old ++ [])) moment = moments ∙ ap (λ (p : PoolState). moment_of p moment) here in
     let next : (answer (replay start new) who (moment_of (replay start (old ++ [])) moment) pass request).entry ≡ Some entry =
-        ap (λ (m : ℕ). (answer (replay start new) who m pass request).entry) (sym at_is)
-        ∙ ap (λ (p : PoolState). (answer p who at pass request).entry) (sym rows) ∙ ap (λ (a : Answer). a.entry) (sym answers) ∙ adds in
+    ap (λ (m : ℕ). (answer (replay start new) who m pass request).entry) (sym at_is)
+    ∙ ap (λ (p : PoolState). (answer p who at pass request).entry) (sym rows) ∙ ap (λ (a : Answer). a.entry) (sym answers) ∙ adds in
     record {
       others = [];
       settled = [];

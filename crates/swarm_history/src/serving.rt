@@ -67,9 +67,14 @@ pub(crate) fn serve<M: Machine>(
         return Ok(Reply::No(Rule::FrontAhead { length }));
     }
     let moment = machine.last().max(moment.min(MOST_MOMENT));
-    let Ok(answer) =
-        answer_uncounted::<M, Brand>(machine, who, moment, pass, request, Blank::new(1))
-    else {
+    let Ok(answer) = answer_uncounted::<M, Brand>(
+        machine,
+        who,
+        moment,
+        pass,
+        request,
+        Blank::new(1),
+    ) else {
         return Err(CallFault::Memory);
     };
     let Answer { reply, entry } = answer;

@@ -34,7 +34,7 @@ new_follows s who moment pass task e before late may gives =
     let full = nat_le s.settings.most_tasks (length s.tasks) in
     let p = of_kind moment pass (when full (tasks_full s) otherwise accepted s who task).adds e gives in
     let made : e ≡ entry_at moment pass (kind.New (length s.tasks + 1) who task Pending 0) =
-        p.2 ∙ ap (entry_at moment pass) (new_adds full s who task p.0 p.1) in
+    p.2 ∙ ap (entry_at moment pass) (new_adds full s who task p.0 p.1) in
     subst (MayFollow s) (sym made) (record {
       not_before = before;
       not_late = late;

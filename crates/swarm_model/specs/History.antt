@@ -1,5 +1,5 @@
 -- Which logs a pool may have, and what they lead to.
-use Rattle.std.specs.Prelude.{◌≡◌, ℕ, Bool, ◌+◌, ◌^◌, ◌≤◌, ◌&&◌, nat_lt, nat_le, min, max, IsTrue, List, [], ◌∷◌, length, map, Option, Some, None, IsSomeAnd, ⊤}
+use Rattle.std.specs.Prelude.{◌≡◌, ℕ, Bool, ◌+◌, ◌^◌, ◌≤◌, ◌&&◌, nat_lt, nat_le, min, max, IsTrue, List, [], ◌∷◌, length, map, Some, None, IsSomeAnd, ⊤}
 use Rattle.std.specs.Bool.{MatchBool}
 use Rattle.std.specs.List.{fold, sum_by, count_by}
 use Rattle.swarm_model.specs.declared.task_state.TaskState.{TaskState}

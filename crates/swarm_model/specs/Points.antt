@@ -1,5 +1,5 @@
 -- What one call does at its point of a log that others may share.
-use Rattle.std.specs.Prelude.{◌≡◌, ◌≢◌, ℕ, Bool, true, false, ◌≤◌, nat_lt, IsTrue, List, [], ◌++◌, length, Option, Some, None, IsSomeAnd}
+use Rattle.std.specs.Prelude.{◌≡◌, ◌≢◌, ℕ, Bool, false, ◌≤◌, nat_lt, IsTrue, List, [], ◌++◌, length, Option, Some, None, IsSomeAnd}
 use Rattle.std.specs.Bool.{MatchBool, OnTrue}
 use Rattle.std.specs.Option.{option_or, option_to_list}
 use Rattle.std.specs.List.{AllByRecursion}

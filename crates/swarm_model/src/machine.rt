@@ -35,8 +35,7 @@ pub trait Machine: Sized {
 
     fn new(alloc: Global, settings: PoolSettings) -> Result<Self, AllocError>
         requires { IsTrue (keeps_rules settings) }
-        ensures { IfOk result (λ m. kept m ≡ record { pool = opening settings; log = []; ready = None; held = [] }) }
-    ;
+        ensures { IfOk result (λ m. kept m ≡ record { pool = opening settings; log = []; ready = None; held = [] }) };
 
     /// The entry of the first deadline that has come by the moment.
     fn due<L: Ledger>(&self, moment: u64, pass: u32, steps: &mut Steps<L>) -> Option<Entry>
@@ -55,16 +54,14 @@ pub trait Machine: Sized {
         requires not_before { (kept self.now).pool.last ≤ moment }
         requires not_late { moment ≤ 2 ^ 40 }
         requires nothing_due { due_entry (kept self.now).pool moment pass ≡ None }
-        ensures { IfOk result (λ a. a ≡ answer (kept self.now).pool who.now moment pass request.now) }
-    ;
+        ensures { IfOk result (λ a. a ≡ answer (kept self.now).pool who.now moment pass request.now) };
 
     /// Makes ready all that the entry's change needs, so that `commit` takes no memory.
     fn reserve(&mut self, entry: &Entry) -> Result<(), ReserveFault>
         ensures ok { OnOk result (kept self.new ≡ record (kept self.old) { ready = Some entry.now }) }
         ensures err { OnErr result (kept self.new ≡ record (kept self.old) { ready = None }) }
         ensures room { OnOk result (IsTrue (has_room (kept self.old).pool.settings (kept self.old).log entry.now)) }
-        ensures full { IsErrOf result ReserveFault.LogFull ↔ (has_room (kept self.old).pool.settings (kept self.old).log entry.now ≡ false) }
-    ;
+        ensures full { IsErrOf result ReserveFault.LogFull ↔ (has_room (kept self.old).pool.settings (kept self.old).log entry.now ≡ false) };
 
     /// Adds the entry that was reserved just before. `bytes` are those of the entry's new blob; no
     /// entry has one yet.
@@ -73,8 +70,7 @@ pub trait Machine: Sized {
         requires follows { MayFollow (kept self.old).pool entry }
         requires room { IsTrue (has_room (kept self.old).pool.settings (kept self.old).log entry) }
         requires bytes { IsNone bytes }
-        ensures added { kept self.new ≡ record (kept self.old) { pool = after (kept self.old).pool entry; log = (kept self.old).log ++ entry ∷ []; ready = None } }
-    ;
+        ensures added { kept self.new ≡ record (kept self.old) { pool = after (kept self.old).pool entry; log = (kept self.old).log ++ entry ∷ []; ready = None } };
 
     /// Holds the bytes of a blob row whose bytes are not held yet.
     fn fill(&mut self, digest: &Digest, bytes: &[u8]) -> Filled

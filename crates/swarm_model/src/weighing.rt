@@ -83,8 +83,9 @@ impl Weighs for Slice {
 fn properties_weight(p: &Properties) -> u64
     ensures { result ≡ capped (properties_weight p.now) }
 {
-    let files = weight_of_all(p.inputs.as_slice())
-        .saturating_add(weight_of_all(p.outputs.as_slice()));
+    let files = weight_of_all(p.inputs.as_slice()).saturating_add(weight_of_all(
+        p.outputs.as_slice(),
+    ));
     let places = weight_of_all(p.caches.as_slice()).saturating_add(files);
     let asked = weight_of_all(p.dimensions.pairs()).saturating_add(places);
     let env = weight_of_all(p.env.as_slice()).saturating_add(asked);

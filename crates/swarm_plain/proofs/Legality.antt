@@ -1,6 +1,5 @@
 -- A legal log goes on by an entry that may follow it.
-use Rattle.std.proofs.Common.{◌≡◌, ℕ, ◌+◌, ◌<◌, ◌≤◌, ◌^◌, List, [], ◌∷◌, ◌++◌, length, arith, length-append, true, IsTrue, ◌&&◌}
-use Rattle.std.specs.Prelude.{nat_lt, nat_le}
+use Rattle.std.proofs.Common.{◌+◌, ◌<◌, ◌≤◌, List, [], ◌∷◌, ◌++◌, length, arith, length-append, IsTrue}
 use Rattle.std.specs.List.{sum_by}
 use Rattle.std.proofs.lemmas.Bool.{and_parts}
 use borrow.Author.Tests.{ltb-true, leb-true}

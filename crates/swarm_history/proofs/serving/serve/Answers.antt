@@ -1,5 +1,5 @@
 -- The call's point, or what stopped it.
-use Rattle.std.proofs.Common.{◌≡◌, ◌≤◌, ◌^◌, ◌++◌, ◌∷◌, [], ℕ, Bool, true, false, Some, None, length, min, max, arith, refl, sym, ap, ◌∙◌, subst, append-nil, List, Option}
+use Rattle.std.proofs.Common.{◌≡◌, ◌^◌, ◌++◌, ◌∷◌, [], ℕ, Bool, true, false, length, min, max, arith, refl, sym, ap, ◌∙◌, subst, append-nil, Option}
 use Rattle.std.specs.Option.{option_to_list}
 use Rattle.swarm_model.specs.declared.pool_state.PoolState.{PoolState}
 use Rattle.swarm_model.specs.declared.entry.Entry.{Entry}
@@ -85,7 +85,7 @@ returns-clause-point g c =
     let at = moment_is k.pool c.args.moment c.last.result c.min.result c.max-moment.result c.last.ensures.last c.min.ensures c.max-moment.ensures in
     let same = ap (λ (x : Kept). x.pool.settings) c.commit.ensures.added ∙ ap (λ (x : Kept). x.pool.settings) c.in-Ok-reserve.ensures.ok in
     let grown = ap (λ (x : Kept). x.log) c.commit.ensures.added ∙ ap (λ (x : Kept). x.log ++ c.in-Some.entry ∷ []) c.in-Ok-reserve.ensures.ok
-        ∙ ap (λ (e : Option Entry). k.log ++ option_to_list e) (sym c.in-Some.is) in
+    ∙ ap (λ (e : Option Entry). k.log ++ option_to_list e) (sym c.in-Some.is) in
     served_point (opening k.pool.settings) c.args.pass k.log n.log c.args.who.now c.args.moment c.args.after c.args.request.now c.max-moment.result k.pool c.in-Ok.answer
     (subst (λ s. IsLegal (opening s) n.log) same c.length-length-2.ensures.history.legal) grown
     behind c.length-length.ensures.history.replayed at c.in-Ok.ensures

@@ -1,13 +1,12 @@
 -- The log goes on by an entry that may follow it, and the rows by what it does.
-use Rattle.std.proofs.Common.{◌≡◌, ◌+◌, ◌≤◌, ◌++◌, ◌∷◌, [], arith, sym, ap, ◌∙◌, subst, vec_len, vec_capacity}
-use Rattle.std.proofs.lemmas.Grind.{common_steps}
-use Rattle.swarm_model.specs.Effects.{opening, added_tasks}
+use Rattle.std.proofs.Common.{◌∷◌, [], arith, sym, ap, ◌∙◌, vec_len, vec_capacity}
+use Rattle.swarm_model.specs.Effects.{opening}
 use Rattle.swarm_model.specs.Entries.{weight}
 use Rattle.swarm_plain.specs.Inside.{state_of}
 use Rattle.swarm_plain.specs.Invariant.{IsReady}
 use Rattle.std.specs.List.{sum_by}
 use Rattle.std.proofs.lemmas.List.Sums.{sum_by-append}
-use Rattle.swarm_plain.proofs.Legality.{Rooms, rooms, legal_more}
+use Rattle.swarm_plain.proofs.Legality.{rooms, legal_more}
 use Rattle.swarm_plain.proofs.Committing.{ready_is, of_ready, replayed_more}
 use Rattle.swarm_plain.proofs.list_pool.ListPoolMachine.commit.Goals as goal
 

@@ -1,0 +1,57 @@
+-- Where a head ends in the bytes that are pending, and what reading on for it does.
+use Rattle.std.specs.Prelude.{◌≡◌, ℕ, ◌+◌, ◌-◌, ◌<◌, ◌≤◌, List, [], ◌++◌, length, Result, MatchResult, codes}
+use Rattle.std.specs.Io.KnownBytes.{IsAtEnd}
+use Rattle.memchr.specs.Find.{OccursAt, Nowhere}
+use Rattle.sw_base.specs.Faults.{Rose}
+use Rattle.sw_base.specs.Link.{LinkState, Moves}
+use Rattle.link_reader.specs.declared.pending.TheConstants.{HEAD_LIMIT}
+use Rattle.link_reader.specs.declared.head_end.HeadEnd.{HeadEnd}
+use Rattle.link_reader.specs.declared.head_end.HeadEnd.TheVariants.{At, TooLong, Ended}
+
+-- what ends a head
+abbrev pub blank_line : List ℕ
+blank_line = codes "\r\n\r\n"
+
+-- what is pending has grown at its end by what was taken from the link
+pub record Grows (before after : LinkState) (old new : List ℕ) : Type 0 where
+  pub taken : List ℕ
+  pub moves : Moves before after taken []
+  pub grown : new ≡ old ++ taken
+
+-- it grew by the n bytes of one more read, none only at the end of the input; or the read failed and it is the same
+pub record Fills {E : Type 0} (before after : LinkState) (old new : List ℕ) (result : Result ℕ E) : Type 0 where
+  pub grows : Grows before after old new
+  pub outcome : MatchResult result (λ n. (length new ≡ length old + n) × (n ≡ 0 → IsAtEnd after.left)) (λ _. Rose before.read_faults after.read_faults × (new ≡ old))
+
+-- no head ends in these bytes
+abbrev pub HasNoEnd : List ℕ → Type 0
+HasNoEnd bytes = Nowhere (OccursAt bytes blank_line) 0 (length bytes + 1)
+
+-- the first n bytes are those through the first CR LF CR LF
+pub record IsHeadEnd (bytes : List ℕ) (n : ℕ) : Type 0 where
+  pub low : 4 ≤ n
+  pub within : n ≤ length bytes
+  pub occurs : OccursAt bytes blank_line (n - 4)
+  pub first : Nowhere (OccursAt bytes blank_line) 0 (n - 4)
+
+-- a head may still end behind these bytes
+pub record IsOpen (bytes : List ℕ) : Type 0 where
+  pub short : length bytes < HEAD_LIMIT
+  pub no_end : HasNoEnd bytes
+
+-- the bytes of a head that would be too long
+pub record IsTooLong (bytes : List ℕ) : Type 0 where
+  pub long : length bytes ≡ HEAD_LIMIT
+  pub no_end : HasNoEnd bytes
+
+-- what is pending where the end of a head was read for
+abbrev pub IsHeadRead : LinkState → List ℕ → HeadEnd → Type 0
+IsHeadRead after new (At n) = IsHeadEnd new n
+IsHeadRead after new TooLong = IsTooLong new
+IsHeadRead after new Ended = IsAtEnd after.left × IsOpen new
+
+-- what is pending grew until a head ends in it, none can, the input ended, or a read failed
+pub record ReadsHead {E : Type 0} (before after : LinkState) (old new : List ℕ) (result : Result HeadEnd E) : Type 0 where
+  pub grows : Grows before after old new
+  pub short : length new ≤ HEAD_LIMIT
+  pub outcome : MatchResult result (λ end. IsHeadRead after new end) (λ _. Rose before.read_faults after.read_faults × IsOpen new)

@@ -1,0 +1,67 @@
+ghost use Rattle.std.specs.Prelude.{◌≤◌, ◌<◌, length};
+ghost use Rattle.link_reader.specs.Bodies.{ReadsBody};
+ghost use Rattle.link_reader.specs.Pieces.{TakesPiece, IsFinish};
+
+use crate::Pending;
+use crate::kept::Kept;
+use std::alloc::Global;
+use sw_base::{Failed, Link};
+
+/// What came of reading a body.
+#[derive(Drop)]
+pub enum BodyEnd {
+    Whole(Vec<u8>),
+    /// It was read to its end, and there was no memory to keep it.
+    Dropped,
+    /// The input ended before the body did.
+    Ended,
+}
+
+// The most bytes that one read of a body takes.
+const PIECE_LIMIT: usize = 4096;
+
+fn finish(kept: Kept) -> BodyEnd
+    ensures { IsFinish kept result }
+{
+    match kept.into_bytes() {
+        Some(bytes) => BodyEnd::Whole(bytes),
+        None => BodyEnd::Dropped,
+    }
+}
+
+// Reads once, and keeps what came: `most` bytes at most.
+fn take_piece<L: Link>(kept: &mut Kept, link: &mut L, most: usize) -> Result<usize, Failed>
+    requires { 0 < most }
+    ensures { TakesPiece (L.state link.old) (L.state link.new) kept.old kept.new most result }
+{
+    let mut piece = [0u8; PIECE_LIMIT];
+    let room = most.min(PIECE_LIMIT);
+    let n = link.read(&mut piece[..room])?;
+    kept.push(&piece[..n]);
+    Ok(n)
+}
+
+/// Reads the `size` bytes of a body that stand behind a head of `head` bytes, and takes both from
+/// what is pending. A body that finds no memory is read to its end all the same.
+pub fn read_body<L: Link>(
+    alloc: Global,
+    pending: &mut Pending,
+    head: usize,
+    size: usize,
+    link: &mut L,
+) -> Result<BodyEnd, Failed>
+    requires { head ≤ length pending.old }
+    ensures { ReadsBody (L.state link.old) (L.state link.new) pending.old pending.new head size result }
+{
+    let mut got = size.min(pending.len() - head);
+    let mut kept = Kept::of(alloc, &pending.as_slice()[head..head + got]);
+    pending.remove_front(head + got);
+    'pieces: while got < size {
+        match take_piece(&mut kept, link, size - got) {
+            Ok(0) => return Ok(BodyEnd::Ended),
+            Ok(n) => got += n,
+            Err(failed) => return Err(failed),
+        }
+    }
+    Ok(finish(kept))
+}

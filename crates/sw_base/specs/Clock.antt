@@ -1,0 +1,12 @@
+-- What a clock hands in.
+use Rattle.std.specs.Prelude.{ℕ, zero, suc, ◌+◌, ◌-◌, ◌^◌, min, List, [], ◌∷◌, Option, length}
+use Rattle.std.specs.Io.KnownBytes.{Consumes}
+
+-- between two states of a clock these moments were handed in: they were the first that it told, and what it told beyond them is still ahead
+abbrev pub HandsIn : (ℕ → Option (List ℕ)) → (ℕ → Option (List ℕ)) → List ℕ → Type 0
+HandsIn before after moments = (more : ℕ) → Consumes (before (length moments + more)) (after more) moments
+
+-- the next k moments of a clock that adds a step, and stays at the last moment of a `u64`
+abbrev pub steps_from : ℕ → ℕ → ℕ → List ℕ
+steps_from at step zero = []
+steps_from at step (suc k) = at ∷ steps_from (min (at + step) (2 ^ 64 - 1)) step k

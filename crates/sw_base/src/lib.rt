@@ -1,0 +1,30 @@
+//! The outside of a session: links that carry bytes both ways, and clocks.
+//!
+//! A [`Link`] is read and written in pieces, and each call of it may fail. Its contract speaks of
+//! one record, its state: the bytes that it has left to give, those written to it, those flushed,
+//! and how often a read or a write has failed. The bytes may be untold, as at a socket: then a
+//! contract says nothing of them, and says the same of the counts. So a theorem over any link
+//! holds word for word over memory, where all is told, and over the console. A [`Failed`] comes
+//! only from a call in which the count of its side rose, and such a call moves no byte.
+//! A [`Clock`] answers moments, and where it tells them, the next ones are known before.
+//! [`MemoryLink`] and [`StepClock`] tell all; [`ConsoleLink`] tells what its reader and writer do;
+//! [`SystemClock`] tells nothing.
+#![tactic(auto)]
+
+mod clock;
+mod console_link;
+mod failed;
+mod link;
+mod memory_link;
+mod step_clock;
+mod system_clock;
+#[cfg(test)]
+mod tests;
+
+pub use clock::Clock;
+pub use console_link::ConsoleLink;
+pub use failed::Failed;
+pub use link::Link;
+pub use memory_link::MemoryLink;
+pub use step_clock::StepClock;
+pub use system_clock::SystemClock;

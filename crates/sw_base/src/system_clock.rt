@@ -1,0 +1,34 @@
+ghost use Rattle.std.specs.Prelude.{◌≡◌, ℕ, None};
+
+use crate::Clock;
+use std::rt;
+use std::time::SystemTime;
+
+/// The system's clock, in whole seconds since 1970. Where the system tells no moment, or one
+/// before 1970, it answers its last answer again, and 0 if there is none. It tells none ahead.
+#[derive(Drop)]
+pub struct SystemClock<'a, T: rt::Clock> {
+    time: &'a T,
+    last: u64,
+}
+
+impl<'a, T: rt::Clock> SystemClock<'a, T> {
+    pub fn new(time: &'a T) -> Self
+        ensures untold { (k : ℕ) → ⟦<SystemClock<'a, T> as Clock>⟧.ahead result k ≡ None }
+    {
+        SystemClock { time, last: 0 }
+    }
+}
+
+impl<'a, T: rt::Clock> Clock for SystemClock<'a, T> {
+    ghost ahead = { λ c k. None };
+
+    fn now(&mut self) -> u64 {
+        if let Ok(now) = SystemTime::now(self.time)
+            && let Ok(since) = now.duration_since(SystemTime::UNIX_EPOCH)
+        {
+            self.last = since.as_secs();
+        }
+        self.last
+    }
+}

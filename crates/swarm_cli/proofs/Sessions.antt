@@ -1,0 +1,27 @@
+-- A session that had no memory to begin with.
+use Rattle.std.proofs.Common.{◌≡◌, ℕ, List, [], Option, refl}
+use Rattle.sw_base.specs.Link.{LinkState}
+use Rattle.swarm_policy.specs.Open.{open_settings}
+use Rattle.swarm_http.specs.declared.ended.Ended.TheVariants.{Memory}
+use Rattle.swarm_http.proofs.Serving.{nothing_served}
+use Rattle.swarm_cli.specs.Run.{RunsSession, status_of}
+
+pub nothing_began : (s : LinkState) (a : ℕ → Option (List ℕ)) (status : ℕ) → status ≡ status_of Memory → RunsSession s s a a status
+nothing_began s a status is =
+    record {
+      ended = Memory;
+      numbers = λ p. 0;
+      old = λ p. [];
+      new = λ p. [];
+      numbered = λ p. refl;
+      empty = λ p. refl;
+      answered = record {
+        xs = [];
+        rest = [];
+        sent = [];
+        serves = nothing_served open_settings (λ p. 0) s a (λ p. []);
+        ends = (refl, refl, refl);
+        clean = λ other clean. clean;
+      };
+      status_is = is;
+    }

@@ -1,0 +1,4 @@
+pub mod Sending
+pub mod Texts
+pub mod Requests
+pub mod Serving

@@ -1,0 +1,103 @@
+-- The head at the front of what is pending, and what stands behind it.
+use Rattle.std.proofs.Common.{◌≡◌, ℕ, ◌+◌, ◌-◌, ◌≤◌, List, [], ◌++◌, length, take, arith, sym, ap, ◌∙◌, subst, append_assoc, append-nil, Some}
+use Rattle.std.proofs.lemmas.List.{get_or-take, length-take-le}
+use Rattle.httparse.specs.Grammar.{RequestHead}
+use Rattle.memchr.specs.Find.{OccursAt}
+use Rattle.sw_base.specs.Link.{LinkState}
+use Rattle.sw_base.proofs.Moving.{Moves-refl, Moves-trans}
+use Rattle.link_reader.specs.Heads.{blank_line, IsHeadEnd, Grows}
+use Rattle.link_reader.specs.Bodies.{IsWhole, IsCut}
+use Rattle.link_reader.specs.declared.pending.TheConstants.{HEAD_LIMIT}
+use Rattle.request_head.specs.Plain.{IsHead, plain}
+use Rattle.swarm_http.specs.declared.ended.Ended.{Ended}
+use Rattle.swarm_http.specs.declared.ended.Ended.TheVariants.{Closed, CutShort, BadHead, Retired, ReadFault, WriteFault, Memory}
+use Rattle.swarm_http.specs.declared.reply.Refusal.{Refusal}
+use Rattle.swarm_http.specs.declared.request.Received.{Received}
+use Rattle.swarm_http.specs.declared.request.Taken.{Taken}
+use Rattle.swarm_http.specs.declared.request.Taken.TheVariants as taken
+use Rattle.swarm_http.specs.Exchange.{HeadSays}
+use Rattle.swarm_http.specs.Answered.{IsPart, in_body, IsRefused}
+use Rattle.swarm_http.specs.Sends.{rule_of}
+use Rattle.swarm_http.specs.Takes.{IsHeld, IsReceived, StopsAs, IsTaken, Takes}
+
+occurs_in_front : (bytes : List ℕ) (n k : ℕ) → n ≤ length bytes → k + 4 ≤ n → OccursAt bytes blank_line k → OccursAt (take n bytes) blank_line k
+occurs_in_front bytes n k le fits at = record {
+  fits = let l : length (take n bytes) ≡ n = length-take-le n bytes le in omega arith;
+  reads = λ j low. get_or-take n bytes (k + j) 0 (omega arith) ∙ at.reads j low;
+}
+
+occurs_in_all : (bytes : List ℕ) (n k : ℕ) → n ≤ length bytes → OccursAt (take n bytes) blank_line k → OccursAt bytes blank_line k
+occurs_in_all bytes n k le at =
+    let l : length (take n bytes) ≡ n = length-take-le n bytes le in
+    let fits : k + 4 ≤ length (take n bytes) = at.fits in
+    record {
+      fits = omega arith;
+      reads = λ j low. sym (get_or-take n bytes (k + j) 0 (omega arith)) ∙ at.reads j low;
+    }
+
+-- the head by itself
+head_alone : (bytes : List ℕ) (n : ℕ) → IsHeadEnd bytes n → IsHeadEnd (take n bytes) (length (take n bytes))
+head_alone bytes n end =
+    let l : n ≡ length (take n bytes) = sym (length-take-le n bytes end.within) in
+    let low : 4 ≤ n = end.low in
+    subst (IsHeadEnd (take n bytes)) l (record {
+      low = end.low;
+      within = omega arith;
+      occurs = occurs_in_front bytes n (n - 4) end.within (omega arith) end.occurs;
+      first = λ k low high at. end.first k low high (occurs_in_all bytes n k end.within at);
+    })
+
+-- what a head says that is served
+pub says_plain : {bytes who : List ℕ} {n size : ℕ} → length bytes ≤ HEAD_LIMIT → IsHeadEnd bytes n → (h : RequestHead) → IsHead (take n bytes) h → plain h ≡ Some (size, who)
+    → HeadSays (take n bytes) size who
+says_plain {bytes = bytes} {n = n} short end h is_head told = record {
+  short = let l : length (take n bytes) ≡ n = length-take-le n bytes end.within in let w : n ≤ length bytes = end.within in omega arith;
+  ends = head_alone bytes n end;
+  head = h;
+  is_head = is_head;
+  plain_is = told;
+}
+
+-- a body was read to its end
+pub received_whole : {received : Received} {input text rest body who : List ℕ} {size : ℕ}
+    → HeadSays text size who → IsWhole input text rest size body → IsHeld received body who → IsReceived received input rest
+received_whole {text = text} {rest = rest} {body = body} {who = who} says whole held = record {
+  text = text;
+  body = body;
+  who = who;
+  says = subst (λ k. HeadSays text k who) (sym whole.length_is) says;
+  input_is = whole.input_is ∙ sym (append_assoc text body rest);
+  held = held;
+}
+
+-- a body was cut short
+pub part_cut : {input text who : List ℕ} {size : ℕ} → HeadSays text size who → IsCut input text size → IsPart input
+part_cut {text = text} {who = who} {size = size} says cut = in_body text cut.front who size says cut.input_is cut.short
+
+-- the head that is pending is refused, with nothing read
+pub refused_here : {s : LinkState} {pending : List ℕ} {why : Refusal} → IsRefused pending (rule_of why) → Takes s s pending pending (taken.Refuses why)
+refused_here {s = s} {pending = pending} refused = record { taken = []; moves = Moves-refl s; outcome = (refused, append-nil pending) }
+
+stops_after : (ended : Ended) (rest : List ℕ) (s t u : LinkState) → s.read_faults ≤ t.read_faults → StopsAs ended rest t u → StopsAs ended rest s u
+stops_after Closed rest s t u le x = x
+stops_after CutShort rest s t u le x = x
+stops_after ReadFault rest s t u le x = (omega (arith, x.0), x.1)
+stops_after BadHead rest s t u le x = x
+stops_after Retired rest s t u le x = x
+stops_after WriteFault rest s t u le x = x
+stops_after Memory rest s t u le x = x
+
+taken_after : (s t u : LinkState) (input new : List ℕ) (r : Taken) → s.read_faults ≤ t.read_faults → IsTaken t u input new r → IsTaken s u input new r
+taken_after s t u input new (taken.Asks received) le x = x
+taken_after s t u input new (taken.Refuses why) le x = x
+taken_after s t u input new (taken.Ends ended) le x = stops_after ended input s t u le x
+
+-- a request was taken after reads
+pub takes_after : {s t u : LinkState} {a b c : List ℕ} {r : Taken} → Grows s t a b → Takes t u b c r → Takes s u a c r
+takes_after {s = s} {t = t} {u = u} {a = a} {b = b} {c = c} {r = r} x y =
+    let same : b ++ y.taken ≡ a ++ (x.taken ++ y.taken) = ap (λ l. l ++ y.taken) x.grown ∙ append_assoc a x.taken y.taken in
+    record {
+      taken = x.taken ++ y.taken;
+      moves = Moves-trans x.moves y.moves;
+      outcome = subst (λ input. IsTaken s u input c r) same (taken_after s t u (b ++ y.taken) c r x.moves.reads y.outcome);
+    }

@@ -1,0 +1,257 @@
+-- Exchanges, one after another.
+use Rattle.std.proofs.Common.{◌≡◌, ℕ, ◌+◌, ◌≤◌, List, [], ◌∷◌, ◌++◌, length, arith, refl, sym, ap, ◌∙◌, append_assoc, append-nil, length-append, Option, None, Result, subst}
+use Rattle.std.specs.Prelude.{◌≢◌}
+use Rattle.std.specs.List.{flat_map}
+use Rattle.std.specs.Io.KnownBytes.{Consumes}
+use Rattle.std.proofs.KnownBytes.{Consumes-nil, Consumes-trans}
+use Rattle.std.proofs.lemmas.List.Concat.{flat_map-append}
+use Rattle.sw_base.specs.Clock.{HandsIn}
+use Rattle.sw_base.specs.Faults.{Rose}
+use Rattle.sw_base.specs.Link.{LinkState, IsClean, Moves}
+use Rattle.sw_base.proofs.Moving.{Moves-refl, Moves-trans}
+use Rattle.swarm_model.specs.declared.pool_settings.Settings.{Settings}
+use Rattle.swarm_history.specs.Doors.{Logs, DoorState}
+use Rattle.swarm_http.specs.declared.ended.Ended.{Ended}
+use Rattle.swarm_http.specs.declared.ended.Ended.TheVariants.{Closed, CutShort, BadHead, Retired, ReadFault, WriteFault, Memory}
+use Rattle.swarm_http.specs.declared.reply.Refusal.{Refusal}
+use Rattle.swarm_http.specs.declared.reply.Shown.{Shown}
+use Rattle.swarm_http.specs.declared.request.Received.{Received}
+use Rattle.swarm_http.specs.declared.request.Taken.TheVariants as taken
+use Rattle.swarm_http.specs.Shown.{refusal}
+use Rattle.swarm_http.specs.Outcomes.{Outcome, Acts, shows, uses}
+use Rattle.swarm_http.specs.Exchange.{Exchange, HeadSays, spelled, reply_of, moments_of, Chain}
+use Rattle.swarm_http.specs.Answered.{replies, Serves, IsCutReply, last_reply, head_refusal, EndsAs, IsAnswered, KeepsDoor}
+use Rattle.swarm_http.specs.Sends.{Sends, rule_of, text_of}
+use Rattle.swarm_http.specs.Takes.{IsHeld, StopsAs, Takes}
+use Rattle.swarm_http.specs.Steps.{Answers, GoesOn, Stops}
+
+pub HandsIn-nil : (a : ℕ → Option (List ℕ)) → HandsIn a a []
+HandsIn-nil a more = let e : 0 + more ≡ more = omega arith in subst (λ k. Consumes (a k) (a more) []) (sym e) (Consumes-nil (a more))
+
+HandsIn-trans : (a b c : ℕ → Option (List ℕ)) (xs ys : List ℕ) → HandsIn a b xs → HandsIn b c ys → HandsIn a c (xs ++ ys)
+HandsIn-trans a b c xs ys p q more =
+    let e : length xs + (length ys + more) ≡ length (xs ++ ys) + more = omega (arith, length-append xs ys) in
+    subst (λ k. Consumes (a k) (c more) (xs ++ ys)) e
+    (Consumes-trans (a (length xs + (length ys + more))) (b (length ys + more)) (c more) xs ys (p (length ys + more)) (q more))
+
+Chain-append : (settings : Settings) (numbers : ℕ → ℕ) (old mid new : Logs) (xs ys : List Exchange)
+    → Chain settings numbers old xs mid → Chain settings numbers mid ys new → Chain settings numbers old (xs ++ ys) new
+Chain-append settings numbers old mid new [] ys same rest = subst (λ l. Chain settings numbers l ys new) same rest
+Chain-append settings numbers old mid new (x ∷ xs) ys first rest = (first.0, first.1, Chain-append settings numbers first.0 mid new xs ys first.2 rest)
+
+pub nothing_served : (settings : Settings) (numbers : ℕ → ℕ) (s : LinkState) (a : ℕ → Option (List ℕ)) (old : Logs) → Serves settings numbers [] [] [] [] s s a a old old
+nothing_served settings numbers s a old = record { taken = []; moves = Moves-refl s; input_is = refl; moments = HandsIn-nil a; chain = refl }
+
+Serves-trans : {settings : Settings} {numbers : ℕ → ℕ} {xs ys : List Exchange} {pending mid rest p q : List ℕ} {s t u : LinkState} {a b c : ℕ → Option (List ℕ)} {d e f : Logs}
+    → Serves settings numbers xs pending mid p s t a b d e → Serves settings numbers ys mid rest q t u b c e f
+    → Serves settings numbers (xs ++ ys) pending rest (p ++ q) s u a c d f
+Serves-trans {settings = settings} {numbers = numbers} {xs = xs} {ys = ys} {pending = pending} {mid = mid} {rest = rest} {a = a} {b = b} {c = c} {d = d} {e = e} {f = f} x y = record {
+  taken = x.taken ++ y.taken;
+  moves = Moves-trans x.moves y.moves;
+  input_is =
+      sym (append_assoc pending x.taken y.taken) ∙ ap (λ l. l ++ y.taken) x.input_is ∙ append_assoc (flat_map spelled xs) mid y.taken
+      ∙ ap (λ l. flat_map spelled xs ++ l) y.input_is ∙ sym (append_assoc (flat_map spelled xs) (flat_map spelled ys) rest)
+      ∙ ap (λ l. l ++ rest) (sym (flat_map-append spelled xs ys));
+  moments = subst (HandsIn a c) (sym (flat_map-append moments_of xs ys)) (HandsIn-trans a b c (flat_map moments_of xs) (flat_map moments_of ys) x.moments y.moments);
+  chain = Chain-append settings numbers d e f xs ys x.chain y.chain;
+}
+
+-- what was sent before goes in front
+replies_after : (xs ys : List Exchange) (sent : List ℕ) → sent ≡ replies ys → replies xs ++ sent ≡ replies (xs ++ ys)
+replies_after xs ys sent e = ap (λ l. replies xs ++ l) e ∙ sym (flat_map-append reply_of xs ys)
+
+cut_after : (xs ys : List Exchange) (rest sent : List ℕ) → IsCutReply ys rest sent → IsCutReply (xs ++ ys) rest (replies xs ++ sent)
+cut_after xs ys rest sent (last_reply zs x front back is so_far whole) =
+    last_reply (xs ++ zs) x front back (ap (λ l. xs ++ l) is ∙ sym (append_assoc xs zs (x ∷ [])))
+    (ap (λ l. replies xs ++ l) so_far ∙ sym (append_assoc (replies xs) (replies zs) front) ∙ ap (λ l. l ++ front) (sym (flat_map-append reply_of xs zs))) whole
+cut_after xs ys rest sent (head_refusal why front back refused so_far whole) =
+    head_refusal why front back refused
+    (ap (λ l. replies xs ++ l) so_far ∙ sym (append_assoc (replies xs) (replies ys) front) ∙ ap (λ l. l ++ front) (sym (flat_map-append reply_of xs ys))) whole
+
+-- a connection that ends after some exchanges
+ends_after : (ended : Ended) (xs ys : List Exchange) (rest sent : List ℕ) (s m t : LinkState) → s.read_faults ≤ m.read_faults → s.write_faults ≤ m.write_faults
+    → ended ≢ Retired → ended ≢ Memory → EndsAs ended ys rest sent m t → EndsAs ended (xs ++ ys) rest (replies xs ++ sent) s t
+ends_after Closed xs ys rest sent s m t r w nr nm e = (e.0, e.1, replies_after xs ys sent e.2)
+ends_after CutShort xs ys rest sent s m t r w nr nm e = (e.0, e.1, replies_after xs ys sent e.2)
+ends_after BadHead xs ys rest sent s m t r w nr nm e =
+    (e.0, e.1, ap (λ l. replies xs ++ l) e.2 ∙ sym (append_assoc (replies xs) (replies ys) (refusal None e.0)) ∙ ap (λ l. l ++ refusal None e.0) (sym (flat_map-append reply_of xs ys)))
+ends_after Retired xs ys rest sent s m t r w nr nm e = absurd (nr refl)
+ends_after ReadFault xs ys rest sent s m t r w nr nm e = (omega (arith, e.0), e.1, replies_after xs ys sent e.2)
+ends_after WriteFault xs ys rest sent s m t r w nr nm e = (omega (arith, e.0), cut_after xs ys rest sent e.1)
+ends_after Memory xs ys rest sent s m t r w nr nm e = absurd (nm refl)
+
+-- no request was answered
+none_served : {settings : Settings} {numbers : ℕ → ℕ} {pending rest taken sent : List ℕ} {s t : LinkState} {a : ℕ → Option (List ℕ)} {d : Logs}
+    → Moves s t taken sent → pending ++ taken ≡ rest → Serves settings numbers [] pending rest sent s t a a d d
+none_served {taken = taken} {a = a} m is = record { taken = taken; moves = m; input_is = is; moments = HandsIn-nil a; chain = refl }
+
+-- one request was answered
+one_served : {settings : Settings} {numbers : ℕ → ℕ} {pending rest taken sent text body who : List ℕ} {outcome : Outcome} {s t : LinkState} {a b : ℕ → Option (List ℕ)} {d e : Logs}
+    → Moves s t taken sent → pending ++ taken ≡ (text ++ body) ++ rest → HeadSays text (length body) who → Acts settings numbers body who outcome d e → HandsIn a b (uses outcome)
+    → Serves settings numbers (record { text = text; body = body; who = who; outcome = outcome } ∷ []) pending rest sent s t a b d e
+one_served {rest = rest} {taken = taken} {text = text} {body = body} {outcome = outcome} {a = a} {b = b} {e = e} m is says acts moments = record {
+  taken = taken;
+  moves = m;
+  input_is = is ∙ ap (λ l. l ++ rest) (sym (append-nil (text ++ body)));
+  moments = subst (HandsIn a b) (sym (append-nil (uses outcome))) moments;
+  chain = (e, record { says = says; acts = acts }, refl);
+}
+
+-- a request was taken, answered and its reply written
+pub goes_on : {settings : Settings} {numbers : ℕ → ℕ} {pending rest : List ℕ} {received : Received} {shown : Shown} {T E : Type 0} {r : Result T E} {s t u : LinkState} {a b : ℕ → Option (List ℕ)} {d e : Logs}
+    → Takes s t pending rest (taken.Asks received)
+    → ((body who : List ℕ) → IsHeld received body who → Answers settings numbers body who a b d e shown)
+    → (w : Sends t u (text_of shown) r) → w.back ≡ [] → IsClean u → GoesOn settings numbers pending rest s u a b d e
+goes_on {s = s} {u = u} x answers w all flushed =
+    let q = x.outcome in
+    let y = answers q.body q.who q.held in
+    let sent : w.written.sent ≡ shows y.outcome = sym (append-nil w.written.sent) ∙ ap (λ l. w.written.sent ++ l) (sym all) ∙ sym w.written.whole ∙ y.shown in
+    let moves = Moves-trans x.moves w.written.moves in
+    record {
+      x = record { text = q.text; body = q.body; who = q.who; outcome = y.outcome };
+      clean = flushed;
+      serves = one_served (subst (Moves s u x.taken) sent (subst (λ l. Moves s u l w.written.sent) (append-nil x.taken) moves)) q.input_is q.says y.acts y.moments;
+    }
+
+-- its reply was not written whole
+pub reply_cut : {settings : Settings} {numbers : ℕ → ℕ} {pending rest : List ℕ} {received : Received} {shown : Shown} {T E : Type 0} {r : Result T E} {s t u : LinkState} {a b : ℕ → Option (List ℕ)} {d e : Logs}
+    → Takes s t pending rest (taken.Asks received)
+    → ((body who : List ℕ) → IsHeld received body who → Answers settings numbers body who a b d e shown)
+    → Sends t u (text_of shown) r → Rose t.write_faults u.write_faults → Stops settings numbers pending s u a b d e WriteFault
+reply_cut {rest = rest} {s = s} {u = u} x answers w rose =
+    let q = x.outcome in
+    let y = answers q.body q.who q.held in
+    let one : Exchange = record { text = q.text; body = q.body; who = q.who; outcome = y.outcome } in
+    let moves = Moves-trans x.moves w.written.moves in
+    record {
+      xs = one ∷ [];
+      rest = rest;
+      sent = w.written.sent;
+      serves = one_served (subst (λ l. Moves s u l w.written.sent) (append-nil x.taken) moves) q.input_is q.says y.acts y.moments;
+      ends = (omega (arith, x.moves.writes, rose), last_reply [] one w.written.sent w.back refl refl (sym y.shown ∙ w.written.whole));
+      clean = λ n c. absurd (n refl);
+      not_retired = λ h. cc;
+      not_memory = λ h. cc;
+    }
+
+-- the head was refused
+pub head_refused : {settings : Settings} {numbers : ℕ → ℕ} {pending rest : List ℕ} {why : Refusal} {T E : Type 0} {r : Result T E} {s t u : LinkState} {a : ℕ → Option (List ℕ)} {d : Logs}
+    → Takes s t pending rest (taken.Refuses why) → (w : Sends t u (refusal None (rule_of why)) r) → w.back ≡ [] → IsClean u → Stops settings numbers pending s u a a d d BadHead
+head_refused {rest = rest} {why = why} {s = s} {u = u} x w all flushed =
+    let moves = Moves-trans x.moves w.written.moves in
+    record {
+      xs = [];
+      rest = rest;
+      sent = w.written.sent;
+      serves = none_served (subst (λ l. Moves s u l w.written.sent) (append-nil x.taken) moves) x.outcome.1;
+      ends = (rule_of why, x.outcome.0, sym (append-nil w.written.sent) ∙ ap (λ l. w.written.sent ++ l) (sym all) ∙ sym w.written.whole);
+      clean = λ n c. flushed;
+      not_retired = λ h. cc;
+      not_memory = λ h. cc;
+    }
+
+-- the refusal of a head was not written whole
+pub refusal_cut : {settings : Settings} {numbers : ℕ → ℕ} {pending rest : List ℕ} {why : Refusal} {T E : Type 0} {r : Result T E} {s t u : LinkState} {a : ℕ → Option (List ℕ)} {d : Logs}
+    → Takes s t pending rest (taken.Refuses why) → Sends t u (refusal None (rule_of why)) r → Rose t.write_faults u.write_faults → Stops settings numbers pending s u a a d d WriteFault
+refusal_cut {rest = rest} {why = why} {s = s} {u = u} x w rose =
+    let moves = Moves-trans x.moves w.written.moves in
+    record {
+      xs = [];
+      rest = rest;
+      sent = w.written.sent;
+      serves = none_served (subst (λ l. Moves s u l w.written.sent) (append-nil x.taken) moves) x.outcome.1;
+      ends = (omega (arith, x.moves.writes, rose), head_refusal (rule_of why) w.written.sent w.back x.outcome.0 refl w.written.whole);
+      clean = λ n c. absurd (n refl);
+      not_retired = λ h. cc;
+      not_memory = λ h. cc;
+    }
+
+ends_of : (ended : Ended) (rest : List ℕ) (s t : LinkState) → StopsAs ended rest s t → EndsAs ended [] rest [] s t × (ended ≢ Retired) × (ended ≢ Memory)
+ends_of Closed rest s t x = ((x.0, x.1, refl), (λ h. cc), (λ h. cc))
+ends_of CutShort rest s t x = ((x.0, x.1, refl), (λ h. cc), (λ h. cc))
+ends_of ReadFault rest s t x = ((x.0, x.1, refl), (λ h. cc), (λ h. cc))
+ends_of BadHead rest s t x = absurd x
+ends_of Retired rest s t x = absurd x
+ends_of WriteFault rest s t x = absurd x
+ends_of Memory rest s t x = absurd x
+
+-- no request came
+pub taking_ended : {settings : Settings} {numbers : ℕ → ℕ} {pending rest : List ℕ} {s t : LinkState} {a : ℕ → Option (List ℕ)} {d : Logs} (ended : Ended)
+    → Takes s t pending rest (taken.Ends ended) → Stops settings numbers pending s t a a d d ended
+taking_ended {pending = pending} {s = s} {t = t} ended x =
+    let e = ends_of ended (pending ++ x.taken) s t x.outcome in
+    record {
+      xs = [];
+      rest = pending ++ x.taken;
+      sent = [];
+      serves = none_served x.moves refl;
+      ends = e.0;
+      clean = λ n c. x.moves.clean refl c;
+      not_retired = e.1;
+      not_memory = e.2;
+    }
+
+keeps_on : {most : ℕ} {d e f : DoorState} → KeepsDoor most d e → KeepsDoor 1 e f → KeepsDoor (most + 1) d f
+keeps_on x k = record {
+  settings = k.settings ∙ x.settings;
+  numbers = k.numbers ∙ x.numbers;
+  faults = omega (arith, x.faults, k.faults);
+  calls = omega (arith, x.calls, k.calls);
+}
+
+-- the connection so far
+pub record SoFar (settings : Settings) (numbers : ℕ → ℕ) (count : ℕ) (pending : List ℕ) (s t : LinkState) (a b : ℕ → Option (List ℕ)) (d e : DoorState) : Type 0 where
+  pub xs : List Exchange
+  pub serves : Serves settings numbers xs [] pending (replies xs) s t a b d.seen e.seen
+  pub counted : length xs ≡ count
+  pub clean : IsClean s → IsClean t
+  pub settings_is : e.settings ≡ settings
+  pub numbers_are : e.numbers ≡ numbers
+  pub keeps : KeepsDoor count d e
+
+pub begun : (settings : Settings) (s : LinkState) (a : ℕ → Option (List ℕ)) (d : DoorState) → d.settings ≡ settings → SoFar settings d.numbers 0 [] s s a a d d
+begun settings s a d same = record {
+  xs = [];
+  serves = nothing_served settings d.numbers s a d.seen;
+  counted = refl;
+  clean = λ c. c;
+  settings_is = same;
+  numbers_are = refl;
+  keeps = record { settings = refl; numbers = refl; faults = omega arith; calls = omega arith };
+}
+
+pub one_on : {settings : Settings} {numbers : ℕ → ℕ} {count : ℕ} {pending more : List ℕ} {s t u : LinkState} {a b c : ℕ → Option (List ℕ)} {d e f : DoorState}
+    → SoFar settings numbers count pending s t a b d e → GoesOn settings e.numbers pending more t u b c e.seen f.seen → KeepsDoor 1 e f
+    → SoFar settings numbers (count + 1) more s u a c d f
+one_on {settings = settings} {numbers = numbers} {pending = pending} {more = more} {s = s} {t = t} {u = u} {a = a} {b = b} {c = c} {d = d} {e = e} {f = f} x y k =
+    let step = subst (λ n. Serves settings n (y.x ∷ []) pending more (reply_of y.x) t u b c e.seen f.seen) x.numbers_are y.serves in
+    record {
+      xs = x.xs ++ y.x ∷ [];
+      serves = subst (λ l. Serves settings numbers (x.xs ++ y.x ∷ []) [] more l s u a c d.seen f.seen)
+          (replies_after x.xs (y.x ∷ []) (reply_of y.x) (sym (append-nil (reply_of y.x)))) (Serves-trans x.serves step);
+      clean = λ c. y.clean;
+      counted = omega (arith, length-append x.xs (y.x ∷ []), x.counted);
+      settings_is = k.settings ∙ x.settings_is;
+      numbers_are = k.numbers ∙ x.numbers_are;
+      keeps = keeps_on x.keeps k;
+    }
+
+pub ended_so : {settings : Settings} {numbers : ℕ → ℕ} {count : ℕ} {pending : List ℕ} {s t u : LinkState} {a b c : ℕ → Option (List ℕ)} {d e : DoorState} {new : Logs} {ended : Ended}
+    → SoFar settings numbers count pending s t a b d e → Stops settings e.numbers pending t u b c e.seen new ended → IsAnswered settings numbers s u a c d.seen new ended
+ended_so {settings = settings} {pending = pending} {s = s} {t = t} {u = u} {b = b} {c = c} {e = e} {new = new} {ended = ended} x y =
+    let step = subst (λ n. Serves settings n y.xs pending y.rest y.sent t u b c e.seen new) x.numbers_are y.serves in
+    record {
+      xs = x.xs ++ y.xs;
+      rest = y.rest;
+      sent = replies x.xs ++ y.sent;
+      serves = Serves-trans x.serves step;
+      ends = ends_after ended x.xs y.xs y.rest y.sent s t u x.serves.moves.reads x.serves.moves.writes y.not_retired y.not_memory y.ends;
+      clean = λ n c. y.clean n (x.clean c);
+    }
+
+pub retired : {settings : Settings} {numbers : ℕ → ℕ} {pending : List ℕ} {s t : LinkState} {a b : ℕ → Option (List ℕ)} {d e : DoorState}
+    → SoFar settings numbers 65536 pending s t a b d e → IsAnswered settings numbers s t a b d.seen e.seen Retired
+retired {pending = pending} x = record { xs = x.xs; rest = pending; sent = replies x.xs; serves = x.serves; ends = (x.counted, refl); clean = λ n c. x.clean c }
+
+pub no_memory : {settings : Settings} {numbers : ℕ → ℕ} {s : LinkState} {a : ℕ → Option (List ℕ)} {old : Logs} → IsAnswered settings numbers s s a a old old Memory
+no_memory {settings = settings} {numbers = numbers} {s = s} {a = a} {old = old} = record { xs = []; rest = []; sent = []; serves = nothing_served settings numbers s a old; ends = (refl, refl, refl); clean = λ n c. c }

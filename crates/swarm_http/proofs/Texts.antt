@@ -1,0 +1,55 @@
+-- The replies that take no memory, written out.
+use Rattle.std.proofs.Common.{◌≡◌, ℕ, List, [], ◌++◌, length, refl, None, Some, append_assoc}
+use Rattle.std.specs.Prelude.{codes, decimal}
+use Rattle.std.specs.Fmt.{digits}
+use Rattle.json.specs.Print.{escape_byte}
+use Rattle.swarm_model.specs.declared.rule.Rule.TheVariants as rule
+use Rattle.swarm_model.specs.declared.rule.Unbuilt.TheVariants as unbuilt
+use Rattle.swarm_wire.specs.Bodies.{body_of}
+use Rattle.swarm_model.specs.declared.reply.Reply.{Reply}
+use Rattle.swarm_model.specs.declared.reply.Reply.TheVariants as reply
+use Rattle.swarm_http.specs.Shown.{status_of, phrase_of, head_with, reply_text, shown, refusal}
+
+pub bad_head : refusal None rule.BadHead ≡ codes "HTTP/1.1 400 Bad Request\r\nContent-Length: 19\r\nContent-Type: application/json\r\n\r\n{\"code\":\"bad_head\"}"
+unfolding refusal shown reply_text head_with body_of digits escape_byte
+bad_head = refl
+
+pub head_not_built : refusal None (rule.NotBuilt unbuilt.Head) ≡ codes "HTTP/1.1 501 Not Implemented\r\nContent-Length: 34\r\nContent-Type: application/json\r\n\r\n{\"code\":\"not_built\",\"what\":\"head\"}"
+unfolding refusal shown reply_text head_with body_of digits escape_byte
+head_not_built = refl
+
+pub task_not_built : refusal None (rule.NotBuilt unbuilt.Task) ≡ codes "HTTP/1.1 501 Not Implemented\r\nContent-Length: 34\r\nContent-Type: application/json\r\n\r\n{\"code\":\"not_built\",\"what\":\"task\"}"
+unfolding refusal shown reply_text head_with body_of digits escape_byte
+task_not_built = refl
+
+pub log_full : refusal None rule.LogFull ≡ codes "HTTP/1.1 503 Service Unavailable\r\nContent-Length: 19\r\nContent-Type: application/json\r\n\r\n{\"code\":\"log_full\"}"
+unfolding refusal shown reply_text head_with body_of digits escape_byte
+log_full = refl
+
+pub want_of_memory : refusal None rule.WantOfMemory ≡ codes "HTTP/1.1 503 Service Unavailable\r\nContent-Length: 25\r\nContent-Type: application/json\r\n\r\n{\"code\":\"want_of_memory\"}"
+unfolding refusal shown reply_text head_with body_of digits escape_byte
+want_of_memory = refl
+
+status_503 : decimal 503 ≡ codes "503"
+unfolding digits
+status_503 = refl
+
+want_body : body_of 0 (reply.No rule.WantOfMemory) [] ≡ codes "{\"code\":\"want_of_memory\"}"
+unfolding body_of escape_byte
+want_body = refl
+
+size_25 : decimal 25 ≡ codes "25"
+unfolding digits
+size_25 = refl
+
+pub want_of_memory_at : (n : ℕ) → refusal (Some n) rule.WantOfMemory
+    ≡ codes "HTTP/1.1 503 Service Unavailable\r\nContent-Length: 25\r\nContent-Type: application/json\r\nX-Swarming-Front: " ++ (decimal n ++ codes "\r\n\r\n{\"code\":\"want_of_memory\"}")
+unfolding refusal shown reply_text head_with
+want_of_memory_at n = rw (status_503, want_body, size_25) (simp append_assoc)
+
+-- the reply of a call that answered
+pub reply_is : (place front : ℕ) (reply : Reply) (pieces : List (List ℕ)) (head body : List ℕ)
+    → body ≡ body_of place reply pieces → head ≡ head_with (status_of reply) (phrase_of (status_of reply)) (length body) (Some front)
+    → head ++ body ≡ shown place (Some front) reply pieces
+unfolding shown reply_text
+reply_is place front reply pieces head body b h = rw (h, b)

@@ -1,0 +1,79 @@
+-- What one connection does.
+use Rattle.std.specs.Prelude.{◌≡◌, ◌≢◌, ℕ, ◌+◌, ◌<◌, ◌≤◌, ◌⊎◌, List, [], ◌∷◌, ◌++◌, length, take, Option, None}
+use Rattle.std.specs.List.{flat_map}
+use Rattle.std.specs.Io.KnownBytes.{IsAtEnd}
+use Rattle.httparse.specs.Grammar.{RequestHead}
+use Rattle.sw_base.specs.Clock.{HandsIn}
+use Rattle.sw_base.specs.Faults.{Rose}
+use Rattle.sw_base.specs.Link.{LinkState, IsClean, Moves}
+use Rattle.link_reader.specs.Heads.{IsHeadEnd, IsOpen, IsTooLong}
+use Rattle.request_head.specs.Plain.{IsHead, IsNoHead, plain}
+use Rattle.swarm_model.specs.declared.pool_settings.Settings.{Settings}
+use Rattle.swarm_model.specs.declared.rule.Rule.{Rule}
+use Rattle.swarm_model.specs.declared.rule.Rule.TheVariants as rule
+use Rattle.swarm_model.specs.declared.rule.Unbuilt.TheVariants as unbuilt
+use Rattle.swarm_history.specs.Doors.{Logs, DoorState}
+use Rattle.swarm_http.specs.declared.ended.Ended.{Ended}
+use Rattle.swarm_http.specs.declared.ended.Ended.TheVariants.{Closed, CutShort, BadHead, Retired, ReadFault, WriteFault, Memory}
+use Rattle.swarm_http.specs.Shown.{refusal}
+use Rattle.swarm_http.specs.Exchange.{Exchange, spelled, reply_of, moments_of, HeadSays, Chain}
+
+-- the replies, one after another
+abbrev pub replies : List Exchange → List ℕ
+replies xs = flat_map reply_of xs
+
+-- from the bytes that were pending on, these requests were read and answered, this rest is pending,
+-- and these bytes were written
+pub record Serves (settings : Settings) (numbers : ℕ → ℕ) (xs : List Exchange) (pending rest sent : List ℕ) (s t : LinkState) (a b : ℕ → Option (List ℕ)) (old new : Logs) : Type 0 where
+  pub taken : List ℕ
+  pub moves : Moves s t taken sent
+  pub input_is : pending ++ taken ≡ flat_map spelled xs ++ rest
+  pub moments : HandsIn a b (flat_map moments_of xs)
+  pub chain : Chain settings numbers old xs new
+
+-- an input that ends here is cut short: inside a head, or inside the body of one that is served
+pub data IsPart (rest : List ℕ) : Type 0 where
+  in_head : 0 < length rest → IsOpen rest → IsPart rest
+  in_body : (text front who : List ℕ) (size : ℕ) → HeadSays text size who → rest ≡ text ++ front → length front < size → IsPart rest
+
+-- why the head at the front is refused: it is too long, it is none, or it isn't served
+pub data IsRefused (rest : List ℕ) (why : Rule) : Type 0 where
+  too_long : why ≡ rule.BadHead → IsTooLong rest → IsRefused rest why
+  no_head : (n : ℕ) → why ≡ rule.BadHead → IsHeadEnd rest n → IsNoHead (take n rest) → IsRefused rest why
+  not_built : (n : ℕ) (head : RequestHead) → why ≡ rule.NotBuilt unbuilt.Head → IsHeadEnd rest n → IsHead (take n rest) head → plain head ≡ None
+      → IsRefused rest why
+
+-- the last reply, or the refusal of the head, was not written and flushed whole
+pub data IsCutReply (xs : List Exchange) (rest sent : List ℕ) : Type 0 where
+  last_reply : (ys : List Exchange) (x : Exchange) (front back : List ℕ) → xs ≡ ys ++ x ∷ [] → sent ≡ replies ys ++ front → reply_of x ≡ front ++ back
+      → IsCutReply xs rest sent
+  head_refusal : (why : Rule) (front back : List ℕ) → IsRefused rest why → sent ≡ replies xs ++ front → refusal None why ≡ front ++ back
+      → IsCutReply xs rest sent
+
+-- what each ending says of the requests answered, of the rest, and of the bytes written
+abbrev pub EndsAs : Ended → List Exchange → List ℕ → List ℕ → LinkState → LinkState → Type 0
+EndsAs Closed xs rest sent s t = (rest ≡ []) × IsAtEnd t.left × (sent ≡ replies xs)
+EndsAs CutShort xs rest sent s t = IsPart rest × IsAtEnd t.left × (sent ≡ replies xs)
+EndsAs BadHead xs rest sent s t = (why : Rule) × IsRefused rest why × (sent ≡ replies xs ++ refusal None why)
+EndsAs Retired xs rest sent s t = (length xs ≡ 65536) × (sent ≡ replies xs)
+EndsAs ReadFault xs rest sent s t = Rose s.read_faults t.read_faults × ((rest ≡ []) ⊎ IsPart rest) × (sent ≡ replies xs)
+EndsAs WriteFault xs rest sent s t = Rose s.write_faults t.write_faults × IsCutReply xs rest sent
+EndsAs Memory xs rest sent s t = (xs ≡ []) × (rest ≡ []) × (sent ≡ [])
+
+-- The whole connection, with nothing pending at its begin: there are requests and a rest such that
+-- all that was read, asked of the clock and the door, and written is theirs, in order. All that was
+-- written is flushed, if no write or flush failed.
+pub record IsAnswered (settings : Settings) (numbers : ℕ → ℕ) (s t : LinkState) (a b : ℕ → Option (List ℕ)) (old new : Logs) (ended : Ended) : Type 0 where
+  pub xs : List Exchange
+  pub rest : List ℕ
+  pub sent : List ℕ
+  pub serves : Serves settings numbers xs [] rest sent s t a b old new
+  pub ends : EndsAs ended xs rest sent s t
+  pub clean : ended ≢ WriteFault → IsClean s → IsClean t
+
+-- what a connection keeps of its door, on which it made so many calls at most
+pub record KeepsDoor (most : ℕ) (old new : DoorState) : Type 0 where
+  pub settings : new.settings ≡ old.settings
+  pub numbers : new.numbers ≡ old.numbers
+  pub faults : old.faults ≤ new.faults
+  pub calls : new.calls ≤ old.calls + most

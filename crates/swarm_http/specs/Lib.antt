@@ -1,0 +1,7 @@
+pub mod Shown
+pub mod Outcomes
+pub mod Exchange
+pub mod Answered
+pub mod Sends
+pub mod Takes
+pub mod Steps

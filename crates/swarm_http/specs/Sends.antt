@@ -1,0 +1,38 @@
+-- What is written of a text.
+use Rattle.std.specs.Prelude.{◌≡◌, ℕ, List, [], ◌++◌, Result, MatchResult, Some, None, string_bytes}
+use Rattle.sw_base.specs.Faults.{Rose}
+use Rattle.sw_base.specs.Link.{LinkState, Moves}
+use Rattle.swarm_model.specs.declared.rule.Rule.{Rule}
+use Rattle.swarm_model.specs.declared.rule.Rule.TheVariants as rule
+use Rattle.swarm_model.specs.declared.rule.Unbuilt.TheVariants as unbuilt
+use Rattle.swarm_http.specs.declared.reply.Refusal.{Refusal}
+use Rattle.swarm_http.specs.declared.reply.Refusal.TheVariants.{BadHead, HeadNotBuilt, TaskNotBuilt, LogFull, WantOfMemory}
+use Rattle.swarm_http.specs.declared.reply.Shown.{Shown}
+use Rattle.swarm_http.specs.declared.reply.Shown.TheVariants as shown
+use Rattle.swarm_http.specs.Shown.{refusal}
+
+-- so much of the text was written, and this is left
+pub record Written (s t : LinkState) (text back : List ℕ) : Type 0 where
+  pub sent : List ℕ
+  pub moves : Moves s t [] sent
+  pub whole : text ≡ sent ++ back
+
+-- the text was written whole, or a call on the link failed and a front of it was written
+pub record Sends {T E : Type 0} (s t : LinkState) (text : List ℕ) (result : Result T E) : Type 0 where
+  pub back : List ℕ
+  pub written : Written s t text back
+  pub outcome : MatchResult result (λ _. back ≡ []) (λ _. Rose s.write_faults t.write_faults)
+
+-- the rule of a refusal whose reply takes no memory
+abbrev pub rule_of : Refusal → Rule
+rule_of BadHead = rule.BadHead
+rule_of HeadNotBuilt = rule.NotBuilt unbuilt.Head
+rule_of TaskNotBuilt = rule.NotBuilt unbuilt.Task
+rule_of LogFull = rule.LogFull
+rule_of WantOfMemory = rule.WantOfMemory
+
+-- the bytes of a reply that is ready to be written
+abbrev pub text_of : Shown → List ℕ
+text_of (shown.Refused why) = refusal None (rule_of why)
+text_of (shown.Whole head body) = string_bytes head ++ body
+text_of (shown.WantOfMemoryAt front) = refusal (Some front) rule.WantOfMemory

@@ -1,0 +1,44 @@
+-- One request of a connection.
+use Rattle.std.specs.Prelude.{◌≡◌, ◌≢◌, ℕ, List, [], ◌∷◌, Option}
+use Rattle.sw_base.specs.Clock.{HandsIn}
+use Rattle.sw_base.specs.Link.{LinkState, IsClean}
+use Rattle.swarm_model.specs.declared.pool_settings.Settings.{Settings}
+use Rattle.swarm_history.specs.Doors.{Logs}
+use Rattle.swarm_http.specs.declared.ended.Ended.{Ended}
+use Rattle.swarm_http.specs.declared.ended.Ended.TheVariants.{Retired, WriteFault, Memory}
+use Rattle.swarm_http.specs.declared.connection.Step.{Step}
+use Rattle.swarm_http.specs.declared.connection.Step.TheVariants.{Next, End}
+use Rattle.swarm_http.specs.declared.reply.Shown.{Shown}
+use Rattle.swarm_http.specs.Outcomes.{Outcome, Acts, shows, uses}
+use Rattle.swarm_http.specs.Exchange.{Exchange, reply_of}
+use Rattle.swarm_http.specs.Answered.{Serves, EndsAs}
+use Rattle.swarm_http.specs.Sends.{text_of}
+
+-- a request with this body and caller has the reply
+pub record Answers (settings : Settings) (numbers : ℕ → ℕ) (body who : List ℕ) (a b : ℕ → Option (List ℕ)) (old new : Logs) (result : Shown) : Type 0 where
+  pub outcome : Outcome
+  pub acts : Acts settings numbers body who outcome old new
+  pub moments : HandsIn a b (uses outcome)
+  pub shown : text_of result ≡ shows outcome
+
+-- one request was answered, and its reply written and flushed
+pub record GoesOn (settings : Settings) (numbers : ℕ → ℕ) (pending rest : List ℕ) (s t : LinkState) (a b : ℕ → Option (List ℕ)) (old new : Logs) : Type 0 where
+  pub x : Exchange
+  pub serves : Serves settings numbers (x ∷ []) pending rest (reply_of x) s t a b old new
+  pub clean : IsClean t
+
+-- the connection ends so, after one request more or none
+pub record Stops (settings : Settings) (numbers : ℕ → ℕ) (pending : List ℕ) (s t : LinkState) (a b : ℕ → Option (List ℕ)) (old new : Logs) (ended : Ended) : Type 0 where
+  pub xs : List Exchange
+  pub rest : List ℕ
+  pub sent : List ℕ
+  pub serves : Serves settings numbers xs pending rest sent s t a b old new
+  pub ends : EndsAs ended xs rest sent s t
+  pub clean : ended ≢ WriteFault → IsClean s → IsClean t
+  pub not_retired : ended ≢ Retired
+  pub not_memory : ended ≢ Memory
+
+-- the connection goes on, or ends
+abbrev pub IsStep : Settings → (ℕ → ℕ) → List ℕ → List ℕ → LinkState → LinkState → (ℕ → Option (List ℕ)) → (ℕ → Option (List ℕ)) → Logs → Logs → Step → Type 0
+IsStep settings numbers pending rest s t a b old new Next = GoesOn settings numbers pending rest s t a b old new
+IsStep settings numbers pending rest s t a b old new (End ended) = Stops settings numbers pending s t a b old new ended

@@ -1,0 +1,82 @@
+//! One connection.
+ghost use Rattle.std.specs.Prelude.{◌≡◌, ◌<◌, ◌≤◌, ◌+◌, ◌^◌};
+ghost use Rattle.swarm_model.specs.Settings.{AreOpen};
+ghost use Rattle.swarm_http.specs.Answered.{IsAnswered, KeepsDoor};
+ghost use Rattle.swarm_http.specs.Steps.{IsStep};
+
+use crate::Ended;
+use crate::answer::answer_request;
+use crate::reply::Shown;
+use crate::request::{Taken, take_request};
+use crate::send::send_shown;
+use link_reader::Pending;
+use std::alloc::Global;
+use sw_base::{Clock, Link};
+use swarm_history::Door;
+use swarm_model::Settings;
+
+/// Whether a connection goes on after a request.
+#[derive(Clone, Copy, Debug, PartialEq, Eq)]
+enum Step {
+    Next,
+    End(Ended),
+}
+
+// The most requests of one connection.
+const REQUEST_LIMIT: u32 = 65536;
+
+fn serve_one<D: Door, L: Link, C: Clock>(
+    alloc: Global,
+    settings: &Settings,
+    pending: &mut Pending,
+    door: &mut D,
+    clock: &mut C,
+    link: &mut L,
+) -> Step
+    requires settings { (D.state door.old).settings ≡ settings.now }
+    requires open { AreOpen settings.now }
+    requires calls { (D.state door.old).calls < 2 ^ 40 }
+    ensures step { IsStep settings.now (D.state door.old).numbers pending.old pending.new (L.state link.old) (L.state link.new) (C.ahead clock.old) (C.ahead clock.new) (D.state door.old).seen (D.state door.new).seen result }
+    ensures door { KeepsDoor 1 (D.state door.old) (D.state door.new) }
+{
+    match take_request(alloc, pending, link) {
+        Taken::Asks(received) => {
+            let shown = answer_request(alloc, settings, received, door, clock);
+            match send_shown(link, &shown) {
+                Ok(()) => Step::Next,
+                Err(_) => Step::End(Ended::WriteFault),
+            }
+        }
+        Taken::Refuses(why) => match send_shown(link, &Shown::Refused(why)) {
+            Ok(()) => Step::End(Ended::BadHead),
+            Err(_) => Step::End(Ended::WriteFault),
+        },
+        Taken::Ends(ended) => Step::End(ended),
+    }
+}
+
+/// Answers the requests that come over a link, until it ends or has asked 65536 times.
+pub fn session<D: Door, L: Link, C: Clock>(
+    alloc: Global,
+    settings: &Settings,
+    door: &mut D,
+    clock: &mut C,
+    link: &mut L,
+) -> Ended
+    requires settings { (D.state door.old).settings ≡ settings.now }
+    requires open { AreOpen settings.now }
+    requires calls { (D.state door.old).calls + 65536 ≤ 2 ^ 40 }
+    ensures answered { IsAnswered settings.now (D.state door.old).numbers (L.state link.old) (L.state link.new) (C.ahead clock.old) (C.ahead clock.new) (D.state door.old).seen (D.state door.new).seen result }
+    ensures door { KeepsDoor 65536 (D.state door.old) (D.state door.new) }
+{
+    let Ok(mut pending) = Pending::new(alloc) else {
+        return Ended::Memory;
+    };
+    'requests: for turn in 0..REQUEST_LIMIT {
+        match serve_one(alloc, settings, &mut pending, door, clock, link) {
+            Step::Next => {}
+            Step::End(ended) => return ended,
+        }
+    }
+    Ended::Retired
+}

@@ -1,0 +1,27 @@
+//! One connection of the task server: the requests that come over a link are taken, answered by a
+//! door, and their replies written, one after the other.
+//!
+//! [`session`] is the whole of it. Its contract, `IsAnswered` of `specs/Answered.antt`, is a relation
+//! between what it finds and what it leaves: there is a list of exchanges, each a request as it
+//! stood on the link with its outcome, such that the bytes taken from the link are those requests
+//! one after the other and a rest, the bytes written are their replies, the moments that the clock
+//! handed in are theirs, and the logs of the pools grew by what each of them did. How the
+//! connection ended then says what the rest is. The bytes of a reply are `shown` of
+//! `specs/Shown.antt`.
+//!
+//! The crate passes on the link and the clock of `sw_base` and the door of `swarm_history`, which
+//! a caller of [`session`] needs.
+#![tactic(auto)]
+
+mod answer;
+mod connection;
+mod ended;
+mod reply;
+mod request;
+mod send;
+
+pub use connection::session;
+pub use ended::Ended;
+pub use send::send_whole;
+pub use sw_base::{Clock, ConsoleLink, Failed, Link, MemoryLink, StepClock, SystemClock};
+pub use swarm_history::{Answered, CallFault, Door, PlainDoor};

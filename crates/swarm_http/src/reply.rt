@@ -1,0 +1,91 @@
+//! The bytes of a reply.
+ghost use Rattle.std.specs.Prelude.{◌≡◌, ◌<◌, Some, IfOk, string_bytes};
+ghost use Rattle.http.specs.StatusCode.{IsStatusCode};
+ghost use Rattle.swarm_http.specs.Shown.{refusal_status as spec_refusal_status, status_of as spec_status_of, phrase_of as spec_phrase_of, head_with, shown};
+ghost use Rattle.swarm_http.specs.Sends.{text_of};
+
+use dimensions::Seq;
+use http::StatusCode;
+use std::alloc::{AllocError, Global};
+use swarm_history::Answered;
+use swarm_model::{Reply, Rule};
+use swarm_wire::show_reply;
+
+/// A refusal whose reply takes no memory.
+#[derive(Clone, Copy, Debug, PartialEq, Eq)]
+pub enum Refusal {
+    BadHead,
+    HeadNotBuilt,
+    TaskNotBuilt,
+    LogFull,
+    WantOfMemory,
+}
+
+/// A reply that is ready to be written.
+#[derive(Drop)]
+pub enum Shown {
+    Refused(Refusal),
+    /// Its head and its body.
+    Whole(String, Seq<u8>),
+    /// Its call answered with this front, and there was no memory for the reply.
+    WantOfMemoryAt(u64),
+}
+
+fn refusal_status(why: Rule) -> u16
+    ensures status { result ≡ spec_refusal_status why }
+    ensures code { IsStatusCode result }
+{
+    match why {
+        Rule::BadHead => 400,
+        Rule::FrontAhead { length: _ } => 409,
+        Rule::NotBuilt { what: _ } => 501,
+        Rule::PoolTasksFull { limit: _ } | Rule::LogFull | Rule::WantOfMemory => 503,
+    }
+}
+
+fn status_of(reply: &Reply) -> u16
+    ensures status { result ≡ spec_status_of reply.now }
+    ensures code { IsStatusCode result }
+{
+    match reply {
+        Reply::New { task: _, state: _ } => 200,
+        Reply::No(why) => refusal_status(*why),
+    }
+}
+
+fn phrase_of(status: u16) -> &'static str
+    requires { IsStatusCode status }
+    ensures { result.now ≡ spec_phrase_of status }
+{
+    match StatusCode::from_u16(status) {
+        Ok(code) => code.canonical_reason().unwrap_or(""),
+        Err(_) => "",
+    }
+}
+
+#[tactic(auto, unfolding(crate::specs::Shown::head_with))]
+fn head_text(
+    alloc: Global,
+    status: u16,
+    phrase: &str,
+    size: usize,
+    front: u64,
+) -> Result<String, AllocError>
+    ensures { IfOk result (λ s. string_bytes s ≡ head_with status phrase.now size (Some front)) }
+{
+    format!(in alloc;
+        "HTTP/1.1 {status} {phrase}\r\nContent-Length: {size}\r\nContent-Type: application/json\r\nX-Swarming-Front: {front}\r\n\r\n"
+    )
+}
+
+/// The reply of the pool at a place.
+pub fn whole_reply(alloc: Global, place: u32, answered: &Answered) -> Result<Shown, AllocError>
+    requires { place < 4 }
+    ensures { IfOk result (λ s. text_of s ≡ shown place (Some answered.now.front) answered.now.reply answered.now.pieces) }
+{
+    let body = show_reply(alloc, place, &answered.reply, &answered.pieces)?;
+    let status = status_of(&answered.reply);
+    let size = body.as_slice().len();
+    let head = head_text(alloc, status, phrase_of(status), size, answered.front)?;
+    Ok(Shown::Whole(head, body))
+}

@@ -1,0 +1,98 @@
+//! Writing a reply.
+ghost use Rattle.std.specs.Prelude.{◌≡◌, ◌++◌, None, Some, decimal, codes, OnOk};
+ghost use Rattle.sw_base.specs.Link.{IsClean};
+ghost use Rattle.swarm_model.specs.declared.rule.Rule.TheVariants as rule;
+ghost use Rattle.swarm_http.specs.Shown.{refusal};
+ghost use Rattle.swarm_http.specs.Sends.{Sends, rule_of, text_of};
+
+use crate::reply::{Refusal, Shown};
+use itoa::Buffer;
+use sw_base::{Failed, Link};
+
+const FRONT_BEFORE: &[u8] =
+    b"HTTP/1.1 503 Service Unavailable\r\nContent-Length: 25\r\nContent-Type: application/json\r\nX-Swarming-Front: ";
+
+const FRONT_AFTER: &[u8] = b"\r\n\r\n{\"code\":\"want_of_memory\"}";
+
+/// Writes a text whole, unless a write fails. It doesn't flush.
+pub fn send_whole<L: Link>(link: &mut L, text: &[u8]) -> Result<(), Failed>
+    ensures { Sends (L.state link.old) (L.state link.new) text.now result }
+{
+    let mut rest = text;
+    'writes: while !rest.is_empty() {
+        match link.write(rest) {
+            Ok(n) => {
+                let (_, after) = rest.split_at(n);
+                rest = after;
+            }
+            Err(failed) => return Err(failed),
+        }
+    }
+    Ok(())
+}
+
+fn refusal_bytes(why: Refusal) -> &'static [u8]
+    ensures { result.now ≡ refusal None (rule_of why) }
+{
+    match why {
+        Refusal::BadHead =>
+            b"HTTP/1.1 400 Bad Request\r\nContent-Length: 19\r\nContent-Type: application/json\r\n\r\n{\"code\":\"bad_head\"}",
+        Refusal::HeadNotBuilt =>
+            b"HTTP/1.1 501 Not Implemented\r\nContent-Length: 34\r\nContent-Type: application/json\r\n\r\n{\"code\":\"not_built\",\"what\":\"head\"}",
+        Refusal::TaskNotBuilt =>
+            b"HTTP/1.1 501 Not Implemented\r\nContent-Length: 34\r\nContent-Type: application/json\r\n\r\n{\"code\":\"not_built\",\"what\":\"task\"}",
+        Refusal::LogFull =>
+            b"HTTP/1.1 503 Service Unavailable\r\nContent-Length: 19\r\nContent-Type: application/json\r\n\r\n{\"code\":\"log_full\"}",
+        Refusal::WantOfMemory =>
+            b"HTTP/1.1 503 Service Unavailable\r\nContent-Length: 25\r\nContent-Type: application/json\r\n\r\n{\"code\":\"want_of_memory\"}",
+    }
+}
+
+fn send_front<L: Link>(link: &mut L, front: u64) -> Result<(), Failed>
+    ensures { Sends (L.state link.old) (L.state link.new) (decimal front ++ codes "\r\n\r\n{\"code\":\"want_of_memory\"}") result }
+{
+    let mut digits = Buffer::new();
+    match send_whole(link, digits.format(front).as_bytes()) {
+        Ok(()) => send_whole(link, FRONT_AFTER),
+        Err(failed) => Err(failed),
+    }
+}
+
+fn send_want_of_memory<L: Link>(link: &mut L, front: u64) -> Result<(), Failed>
+    ensures { Sends (L.state link.old) (L.state link.new) (refusal (Some front) rule.WantOfMemory) result }
+{
+    match send_whole(link, FRONT_BEFORE) {
+        Ok(()) => send_front(link, front),
+        Err(failed) => Err(failed),
+    }
+}
+
+fn send_parts<L: Link>(link: &mut L, head: &[u8], body: &[u8]) -> Result<(), Failed>
+    ensures { Sends (L.state link.old) (L.state link.new) (head.now ++ body.now) result }
+{
+    match send_whole(link, head) {
+        Ok(()) => send_whole(link, body),
+        Err(failed) => Err(failed),
+    }
+}
+
+fn send_text<L: Link>(link: &mut L, shown: &Shown) -> Result<(), Failed>
+    ensures { Sends (L.state link.old) (L.state link.new) (text_of shown.now) result }
+{
+    match shown {
+        Shown::Refused(why) => send_whole(link, refusal_bytes(*why)),
+        Shown::Whole(head, body) => send_parts(link, head.as_bytes(), body.as_slice()),
+        Shown::WantOfMemoryAt(front) => send_want_of_memory(link, *front),
+    }
+}
+
+/// Writes a reply whole and flushes it, unless a write or the flush fails.
+pub fn send_shown<L: Link>(link: &mut L, shown: &Shown) -> Result<(), Failed>
+    ensures flushed { OnOk result (IsClean (L.state link.new)) }
+    ensures sends { Sends (L.state link.old) (L.state link.new) (text_of shown.now) result }
+{
+    match send_text(link, shown) {
+        Ok(()) => link.flush(),
+        Err(failed) => Err(failed),
+    }
+}
