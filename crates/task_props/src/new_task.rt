@@ -151,17 +151,21 @@ mod tests {
         Ok(())
     }
 
+    fn told(checked: Result<NewTask, PropFault>) -> Option<(Text, PropRule)> {
+        match checked {
+            Err(PropFault::Broken { field, rule }) => Some((field, rule)),
+            _ => None,
+        }
+    }
+
     #[test]
     fn tells_the_path_of_a_broken_rule(rt: HostRuntime) -> Result<(), Fail> {
         let alloc = rt.alloc();
-        match NewTask::check(alloc, raw(alloc, "a||b")?) {
-            Err(PropFault::Broken { field, rule }) => {
-                assert_eq!(rt; field.as_str(), "task_slices.0.properties.dimensions.1");
-                assert_eq!(rt; rule, PropRule::Alternative);
-                assert_eq!(rt; rule.name(), "alternative");
-            }
-            _ => assert!(rt; false),
-        }
+        let fault = told(NewTask::check(alloc, raw(alloc, "a||b")?));
+        let (field, rule) = fault.ok_or("a rule is broken")?;
+        assert!(rt; field == Text::from_str(alloc, "task_slices.0.properties.dimensions.1")?);
+        assert_eq!(rt; rule, PropRule::Alternative);
+        assert_eq!(rt; rule.name(), "alternative");
         Ok(())
     }
 }
