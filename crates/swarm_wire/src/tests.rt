@@ -5,18 +5,24 @@ use std::test::Fail;
 use swarm_model::{Reply, Rule, TaskState, Unbuilt};
 use swarm_policy::open_settings;
 
-fn told(alloc: Global, asked: Result<Asked, WireFault>) -> Result<String, Fail> {
-    Ok(match asked {
-        Ok(_) => String::from_str(alloc, "asked")?,
-        Err(WireFault::Memory) => String::from_str(alloc, "memory")?,
-        Err(WireFault::BadJson) => String::from_str(alloc, "bad_json")?,
-        Err(WireFault::NotBuilt) => String::from_str(alloc, "not_built")?,
-        Err(WireFault::BadField { field, rule }) => {
+fn fault_text(alloc: Global, fault: WireFault) -> Result<String, Fail> {
+    match fault {
+        WireFault::Memory => Ok(String::from_str(alloc, "memory")?),
+        WireFault::BadJson => Ok(String::from_str(alloc, "bad_json")?),
+        WireFault::NotBuilt => Ok(String::from_str(alloc, "not_built")?),
+        WireFault::BadField { field, rule } => {
             let path = field.as_str();
             let name = rule.name();
-            format!(in alloc; "{path} {name}")?
+            Ok(format!(in alloc; "{path} {name}")?)
         }
-    })
+    }
+}
+
+fn told(alloc: Global, asked: Result<Asked, WireFault>) -> Result<String, Fail> {
+    match asked {
+        Ok(_asked) => Ok(String::from_str(alloc, "asked")?),
+        Err(fault) => fault_text(alloc, fault),
+    }
 }
 
 /// A task with these properties.
