@@ -49,12 +49,7 @@ fn are_session(words: &[String]) -> bool
 /// | 4 | a read, a write or a flush on the console failed |
 /// | 5 | there was no memory to begin with |
 /// | 7 | the input ended inside a request, or a head was refused |
-pub fn run<L: Link, C: Clock>(
-    alloc: Global,
-    words: &[String],
-    console: &mut L,
-    clock: &mut C,
-) -> u8
+pub fn run<L: Link, C: Clock>(alloc: Global, words: &[String], console: &mut L, clock: &mut C) -> u8
     ensures session { AreSession (map string_bytes words.now) →
         RunsSession (L.state console.old) (L.state console.new) (C.ahead clock.old) (C.ahead clock.new) result }
     ensures usage { ¬ (AreSession (map string_bytes words.now)) →

@@ -34,7 +34,9 @@ fn task_of(alloc: Global, secs: &str) -> Result<String, AllocError> {
         "{{\"task_slices\":[{{\"expiration_secs\":{secs},\"wait_for_capacity\":true,\"properties\":{{\"command\":[\"true\"],\"dimensions\":[{{\"key\":\"pool\",\"value\":\"default\"}}]}}}}]}}"
     )?;
     let size = body.len();
-    format!(in alloc; "POST {PATH} HTTP/1.1\r\nX-Swarming-Caller: ana\r\nContent-Length: {size}\r\n\r\n{body}")
+    format!(in alloc;
+        "POST {PATH} HTTP/1.1\r\nX-Swarming-Caller: ana\r\nContent-Length: {size}\r\n\r\n{body}"
+    )
 }
 
 /// How a run ended, and what it wrote.
@@ -109,13 +111,37 @@ fn heads_that_are_refused(rt: HostRuntime) -> Result<(), Fail> {
     let rows = [
         // No head of a request.
         ("GET /\r\n", "", BAD_HEAD),
-        ("POST /prpc/swarming.v2.Tasks/NewTask HTTP/1.1\r\n", "X-Swarming Caller: ana\r\n", BAD_HEAD),
+        (
+            "POST /prpc/swarming.v2.Tasks/NewTask HTTP/1.1\r\n",
+            "X-Swarming Caller: ana\r\n",
+            BAD_HEAD,
+        ),
         // Heads that aren't served yet.
-        ("POST /prpc/swarming.v2.Tasks/NewTask HTTP/1.0\r\n", good, NOT_BUILT_HEAD),
-        ("GET /prpc/swarming.v2.Tasks/NewTask HTTP/1.1\r\n", good, NOT_BUILT_HEAD),
-        ("POST /prpc/swarming.v2.Tasks/CountTasks HTTP/1.1\r\n", good, NOT_BUILT_HEAD),
-        ("POST /prpc/swarming.v2.Tasks/NewTask HTTP/1.1\r\n", "Content-Length: 2\r\n", NOT_BUILT_HEAD),
-        ("POST /prpc/swarming.v2.Tasks/NewTask HTTP/1.1\r\n", "X-Swarming-Caller: ana\r\n", NOT_BUILT_HEAD),
+        (
+            "POST /prpc/swarming.v2.Tasks/NewTask HTTP/1.0\r\n",
+            good,
+            NOT_BUILT_HEAD,
+        ),
+        (
+            "GET /prpc/swarming.v2.Tasks/NewTask HTTP/1.1\r\n",
+            good,
+            NOT_BUILT_HEAD,
+        ),
+        (
+            "POST /prpc/swarming.v2.Tasks/CountTasks HTTP/1.1\r\n",
+            good,
+            NOT_BUILT_HEAD,
+        ),
+        (
+            "POST /prpc/swarming.v2.Tasks/NewTask HTTP/1.1\r\n",
+            "Content-Length: 2\r\n",
+            NOT_BUILT_HEAD,
+        ),
+        (
+            "POST /prpc/swarming.v2.Tasks/NewTask HTTP/1.1\r\n",
+            "X-Swarming-Caller: ana\r\n",
+            NOT_BUILT_HEAD,
+        ),
         (
             "POST /prpc/swarming.v2.Tasks/NewTask HTTP/1.1\r\n",
             "X-Swarming-Caller: ana\r\nX-Swarming-Caller: bob\r\nContent-Length: 2\r\n",

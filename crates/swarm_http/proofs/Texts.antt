@@ -1,5 +1,5 @@
 -- The replies that take no memory, written out.
-use Rattle.std.proofs.Common.{◌≡◌, ℕ, List, [], ◌++◌, length, refl, None, Some, append_assoc}
+use Rattle.std.proofs.Common.{Option, ◌≡◌, ℕ, List, [], ◌++◌, length, refl, None, Some, append_assoc}
 use Rattle.std.specs.Prelude.{codes, decimal}
 use Rattle.std.specs.Fmt.{digits}
 use Rattle.json.specs.Print.{escape_byte}
@@ -13,6 +13,10 @@ use Rattle.swarm_http.specs.Shown.{status_of, phrase_of, head_with, reply_text, 
 pub bad_head : refusal None rule.BadHead ≡ codes "HTTP/1.1 400 Bad Request\r\nContent-Length: 19\r\nContent-Type: application/json\r\n\r\n{\"code\":\"bad_head\"}"
 unfolding refusal shown reply_text head_with body_of digits escape_byte
 bad_head = refl
+
+pub bad_json : refusal None rule.BadJson ≡ codes "HTTP/1.1 400 Bad Request\r\nContent-Length: 19\r\nContent-Type: application/json\r\n\r\n{\"code\":\"bad_json\"}"
+unfolding refusal shown reply_text head_with body_of digits escape_byte
+bad_json = refl
 
 pub head_not_built : refusal None (rule.NotBuilt unbuilt.Head) ≡ codes "HTTP/1.1 501 Not Implemented\r\nContent-Length: 34\r\nContent-Type: application/json\r\n\r\n{\"code\":\"not_built\",\"what\":\"head\"}"
 unfolding refusal shown reply_text head_with body_of digits escape_byte
@@ -47,9 +51,9 @@ pub want_of_memory_at : (n : ℕ) → refusal (Some n) rule.WantOfMemory
 unfolding refusal shown reply_text head_with
 want_of_memory_at n = rw (status_503, want_body, size_25) (simp append_assoc)
 
--- the reply of a call that answered
-pub reply_is : (place front : ℕ) (reply : Reply) (pieces : List (List ℕ)) (head body : List ℕ)
-    → body ≡ body_of place reply pieces → head ≡ head_with (status_of reply) (phrase_of (status_of reply)) (length body) (Some front)
-    → head ++ body ≡ shown place (Some front) reply pieces
+-- a reply that was put together
+pub reply_is : (place : ℕ) (front : Option ℕ) (reply : Reply) (pieces : List (List ℕ)) (head body : List ℕ)
+    → body ≡ body_of place reply pieces → head ≡ head_with (status_of reply) (phrase_of (status_of reply)) (length body) front
+    → head ++ body ≡ shown place front reply pieces
 unfolding shown reply_text
 reply_is place front reply pieces head body b h = rw (h, b)

@@ -26,6 +26,8 @@ pub data Outcome : Type 0 where
 -- the refusal of a body
 abbrev pub early_rule : WireFault → Rule
 early_rule fault.Memory = rule.WantOfMemory
+early_rule fault.BadJson = rule.BadJson
+early_rule (fault.BadField field broken) = rule.BadField field broken
 early_rule fault.NotBuilt = rule.NotBuilt unbuilt.Task
 
 -- the refusal of a request whose call stopped

@@ -6,7 +6,7 @@ use Rattle.swarm_model.specs.declared.rule.Rule.{Rule}
 use Rattle.swarm_model.specs.declared.rule.Rule.TheVariants as rule
 use Rattle.swarm_model.specs.declared.rule.Unbuilt.TheVariants as unbuilt
 use Rattle.swarm_http.specs.declared.reply.Refusal.{Refusal}
-use Rattle.swarm_http.specs.declared.reply.Refusal.TheVariants.{BadHead, HeadNotBuilt, TaskNotBuilt, LogFull, WantOfMemory}
+use Rattle.swarm_http.specs.declared.reply.Refusal.TheVariants.{BadHead, BadJson, HeadNotBuilt, TaskNotBuilt, LogFull, WantOfMemory}
 use Rattle.swarm_http.specs.declared.reply.Shown.{Shown}
 use Rattle.swarm_http.specs.declared.reply.Shown.TheVariants as shown
 use Rattle.swarm_http.specs.Shown.{refusal}
@@ -26,6 +26,7 @@ pub record Sends {T E : Type 0} (s t : LinkState) (text : List ℕ) (result : Re
 -- the rule of a refusal whose reply takes no memory
 abbrev pub rule_of : Refusal → Rule
 rule_of BadHead = rule.BadHead
+rule_of BadJson = rule.BadJson
 rule_of HeadNotBuilt = rule.NotBuilt unbuilt.Head
 rule_of TaskNotBuilt = rule.NotBuilt unbuilt.Task
 rule_of LogFull = rule.LogFull

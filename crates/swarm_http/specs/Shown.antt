@@ -10,6 +10,8 @@ use Rattle.swarm_wire.specs.Bodies.{body_of}
 -- the status of a refusal
 abbrev pub refusal_status : Rule → ℕ
 refusal_status rule.BadHead = 400
+refusal_status rule.BadJson = 400
+refusal_status (rule.BadField field broken) = 400
 refusal_status (rule.PoolTasksFull limit) = 503
 refusal_status rule.LogFull = 503
 refusal_status (rule.FrontAhead length) = 409

@@ -9,7 +9,7 @@ ghost use Rattle.swarm_http.specs.Takes.{IsHeld};
 ghost use Rattle.swarm_http.specs.Answered.{KeepsDoor};
 ghost use Rattle.swarm_http.specs.Steps.{Answers};
 
-use crate::reply::{Refusal, Shown, whole_reply};
+use crate::reply::{Refusal, Shown, field_refusal, whole_reply};
 use crate::request::Received;
 use dimensions::Text;
 use std::alloc::Global;
@@ -51,7 +51,13 @@ fn call_door<D: Door, C: Clock>(
         &asked.request,
         asked.bytes.as_slice(),
     ) {
-        Ok(answered) => match whole_reply(alloc, asked.place, &answered) {
+        Ok(answered) => match whole_reply(
+            alloc,
+            asked.place,
+            Some(answered.front),
+            &answered.reply,
+            &answered.pieces,
+        ) {
             Ok(shown) => shown,
             Err(_) => Shown::WantOfMemoryAt(answered.front),
         },
@@ -79,6 +85,11 @@ pub fn answer_request<D: Door, C: Clock>(
     };
     match read_request(alloc, settings, &body) {
         Ok(asked) => call_door(alloc, &who, &asked, door, clock),
+        Err(WireFault::BadJson) => Shown::Refused(Refusal::BadJson),
+        Err(WireFault::BadField { field, rule }) => match field_refusal(alloc, field, rule) {
+            Ok(shown) => shown,
+            Err(_) => Shown::Refused(Refusal::WantOfMemory),
+        },
         Err(WireFault::NotBuilt) => Shown::Refused(Refusal::TaskNotBuilt),
         Err(WireFault::Memory) => Shown::Refused(Refusal::WantOfMemory),
     }

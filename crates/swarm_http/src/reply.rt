@@ -1,20 +1,21 @@
 //! The bytes of a reply.
-ghost use Rattle.std.specs.Prelude.{◌≡◌, ◌<◌, Some, IfOk, string_bytes};
+ghost use Rattle.std.specs.Prelude.{◌≡◌, ◌<◌, None, Some, IfOk, string_bytes};
 ghost use Rattle.http.specs.StatusCode.{IsStatusCode};
-ghost use Rattle.swarm_http.specs.Shown.{refusal_status as spec_refusal_status, status_of as spec_status_of, phrase_of as spec_phrase_of, head_with, shown};
+ghost use Rattle.swarm_http.specs.Shown.{refusal_status as spec_refusal_status, status_of as spec_status_of, phrase_of as spec_phrase_of, head_with, shown, refusal};
 ghost use Rattle.swarm_http.specs.Sends.{text_of};
 
-use dimensions::Seq;
+use dimensions::{Seq, Text};
 use http::StatusCode;
 use std::alloc::{AllocError, Global};
-use swarm_history::Answered;
 use swarm_model::{Reply, Rule};
 use swarm_wire::show_reply;
+use task_props::PropRule;
 
 /// A refusal whose reply takes no memory.
 #[derive(Clone, Copy, Debug, PartialEq, Eq)]
 pub enum Refusal {
     BadHead,
+    BadJson,
     HeadNotBuilt,
     TaskNotBuilt,
     LogFull,
@@ -31,12 +32,12 @@ pub enum Shown {
     WantOfMemoryAt(u64),
 }
 
-fn refusal_status(why: Rule) -> u16
-    ensures status { result ≡ spec_refusal_status why }
+fn refusal_status(why: &Rule) -> u16
+    ensures status { result ≡ spec_refusal_status why.now }
     ensures code { IsStatusCode result }
 {
     match why {
-        Rule::BadHead => 400,
+        Rule::BadHead | Rule::BadJson | Rule::BadField { field: _, rule: _ } => 400,
         Rule::FrontAhead { length: _ } => 409,
         Rule::NotBuilt { what: _ } => 501,
         Rule::PoolTasksFull { limit: _ } | Rule::LogFull | Rule::WantOfMemory => 503,
@@ -49,7 +50,7 @@ fn status_of(reply: &Reply) -> u16
 {
     match reply {
         Reply::New { task: _, state: _ } => 200,
-        Reply::No(why) => refusal_status(*why),
+        Reply::No(why) => refusal_status(why),
     }
 }
 
@@ -64,7 +65,7 @@ fn phrase_of(status: u16) -> &'static str
 }
 
 #[tactic(auto, unfolding(crate::specs::Shown::head_with))]
-fn head_text(
+fn head_with_front(
     alloc: Global,
     status: u16,
     phrase: &str,
@@ -78,14 +79,59 @@ fn head_text(
     )
 }
 
-/// The reply of the pool at a place.
-pub fn whole_reply(alloc: Global, place: u32, answered: &Answered) -> Result<Shown, AllocError>
-    requires { place < 4 }
-    ensures { IfOk result (λ s. text_of s ≡ shown place (Some answered.now.front) answered.now.reply answered.now.pieces) }
+#[tactic(auto, unfolding(crate::specs::Shown::head_with))]
+fn head_alone(
+    alloc: Global,
+    status: u16,
+    phrase: &str,
+    size: usize,
+) -> Result<String, AllocError>
+    ensures { IfOk result (λ s. string_bytes s ≡ head_with status phrase.now size None) }
 {
-    let body = show_reply(alloc, place, &answered.reply, &answered.pieces)?;
-    let status = status_of(&answered.reply);
+    format!(in alloc;
+        "HTTP/1.1 {status} {phrase}\r\nContent-Length: {size}\r\nContent-Type: application/json\r\n\r\n"
+    )
+}
+
+fn head_text(
+    alloc: Global,
+    status: u16,
+    phrase: &str,
+    size: usize,
+    front: Option<u64>,
+) -> Result<String, AllocError>
+    ensures { IfOk result (λ s. string_bytes s ≡ head_with status phrase.now size front) }
+{
+    match front {
+        None => head_alone(alloc, status, phrase, size),
+        Some(front) => head_with_front(alloc, status, phrase, size, front),
+    }
+}
+
+/// A reply of the pool at a place, with the front of its call, if there was one.
+pub fn whole_reply(
+    alloc: Global,
+    place: u32,
+    front: Option<u64>,
+    reply: &Reply,
+    pieces: &Seq<Seq<u8>>,
+) -> Result<Shown, AllocError>
+    requires { place < 4 }
+    ensures { IfOk result (λ s. text_of s ≡ shown place front reply.now pieces.now) }
+{
+    let body = show_reply(alloc, place, reply, pieces)?;
+    let status = status_of(reply);
     let size = body.as_slice().len();
-    let head = head_text(alloc, status, phrase_of(status), size, answered.front)?;
+    let head = head_text(alloc, status, phrase_of(status), size, front)?;
     Ok(Shown::Whole(head, body))
+}
+
+/// The refusal of a field.
+#[tactic(auto, unfolding(crate::specs::Shown::refusal))]
+pub fn field_refusal(alloc: Global, field: Text, rule: PropRule) -> Result<Shown, AllocError>
+    ensures { IfOk result (λ s. text_of s ≡ refusal None (Rule.BadField field rule)) }
+{
+    let reply = Reply::No(Rule::BadField { field, rule });
+    let pieces = Seq::new(alloc);
+    whole_reply(alloc, 0, None, &reply, &pieces)
 }

@@ -37,6 +37,8 @@ fn refusal_bytes(why: Refusal) -> &'static [u8]
     match why {
         Refusal::BadHead =>
             b"HTTP/1.1 400 Bad Request\r\nContent-Length: 19\r\nContent-Type: application/json\r\n\r\n{\"code\":\"bad_head\"}",
+        Refusal::BadJson =>
+            b"HTTP/1.1 400 Bad Request\r\nContent-Length: 19\r\nContent-Type: application/json\r\n\r\n{\"code\":\"bad_json\"}",
         Refusal::HeadNotBuilt =>
             b"HTTP/1.1 501 Not Implemented\r\nContent-Length: 34\r\nContent-Type: application/json\r\n\r\n{\"code\":\"not_built\",\"what\":\"head\"}",
         Refusal::TaskNotBuilt =>

@@ -10,7 +10,8 @@ use Rattle.swarm_model.specs.declared.entry.EntryKind.{EntryKind}
 use Rattle.swarm_model.specs.declared.entry.EntryKind.TheVariants as kind
 use Rattle.swarm_model.specs.declared.request.Request.{Request}
 use Rattle.swarm_model.specs.declared.request.Request.TheVariants as ask
-use Rattle.swarm_model.specs.Words.{when, ◌otherwise◌}
+use Rattle.dimensions.specs.Choosing.{when}
+use Rattle.swarm_model.specs.Words.{◌otherwise◌}
 use Rattle.swarm_model.specs.Fits.{fits}
 use Rattle.swarm_model.specs.Answers.{answer, entry_at, accepted, tasks_full}
 use Rattle.swarm_model.specs.Deadlines.{due_entry}

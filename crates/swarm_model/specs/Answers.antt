@@ -15,7 +15,8 @@ use Rattle.swarm_model.specs.declared.reply.Reply.{Reply}
 use Rattle.swarm_model.specs.declared.reply.Reply.TheVariants as reply
 use Rattle.swarm_model.specs.declared.answer.Answer.{Answer}
 use Rattle.swarm_model.specs.declared.answer.Told.{Told}
-use Rattle.swarm_model.specs.Words.{when, ◌otherwise◌}
+use Rattle.dimensions.specs.Choosing.{when}
+use Rattle.swarm_model.specs.Words.{◌otherwise◌}
 
 -- a reply that adds nothing
 abbrev pub says : Reply → Told

@@ -2,6 +2,7 @@
 use Rattle.std.specs.Prelude.{◌≡◌, ℕ, Bool, true, ◌+◌, ◌==◌, ◌&&◌, ◌||◌, nat_le, IsTrue, List, [], ◌∷◌, length, codes}
 use Rattle.std.specs.List.{list_all, list_any}
 use Rattle.dimensions.specs.Alike.{same}
+use Rattle.dimensions.specs.Rules.{has_length_to, is_key_byte}
 use Rattle.swarm_model.specs.declared.pool_settings.Permission.{Permission}
 use Rattle.swarm_model.specs.declared.pool_settings.Permission.TheVariants as permission
 use Rattle.swarm_model.specs.declared.pool_settings.Grant.{Grant}
@@ -9,12 +10,9 @@ use Rattle.swarm_model.specs.declared.pool_settings.PoolSettings.{PoolSettings}
 use Rattle.swarm_model.specs.declared.pool_settings.Settings.{Settings}
 use Rattle.swarm_model.specs.Words.{is_between}
 
--- ASCII letters, digits, '-', '_' and '.'
-abbrev pub is_name_byte : ℕ → Bool
-is_name_byte b = is_between 48 57 b || is_between 65 90 b || is_between 97 122 b || b == 45 || b == 95 || b == 46
-
+-- 1 to 64 ASCII letters, digits, '-', '_' and '.'
 abbrev pub is_pool_name : List ℕ → Bool
-is_pool_name name = is_between 1 64 (length name) && list_all is_name_byte name
+is_pool_name name = has_length_to 64 name && list_all is_key_byte name
 
 -- everyone, or 1 to 128 visible ASCII characters
 abbrev pub is_caller : List ℕ → Bool

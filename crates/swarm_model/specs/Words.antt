@@ -1,16 +1,11 @@
 -- Words that the rules are written in.
-use Rattle.std.specs.Prelude.{ℕ, Bool, true, false, ◌-◌, ◌^◌, min, ◌&&◌, nat_le, Option, Some, None}
+use Rattle.std.specs.Prelude.{ℕ, Bool, ◌-◌, ◌^◌, min, ◌&&◌, nat_le, Option, Some, None}
 
 -- the first value, where there is one, or else the second
 infixr 3 ◌otherwise◌
 abbrev pub ◌otherwise◌ : {A : Type 0} → Option A → A → A
 (Some x) otherwise y = x
 None otherwise y = y
-
--- a value under a condition
-abbrev pub when : {A : Type 0} → Bool → A → Option A
-when true x = Some x
-when false x = None
 
 -- a number in a range, ends included
 abbrev pub is_between : ℕ → ℕ → ℕ → Bool

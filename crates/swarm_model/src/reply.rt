@@ -1,7 +1,7 @@
 use crate::{Rule, TaskState};
 
 /// What a request is answered.
-#[derive(Clone, Copy, Debug, PartialEq, Eq)]
+#[derive(Drop)]
 pub enum Reply {
     /// The number of the new task, and its state.
     New { task: u32, state: TaskState },

@@ -1,3 +1,6 @@
+use dimensions::Text;
+use task_props::PropRule;
+
 /// What isn't built yet and was asked for.
 #[derive(Clone, Copy, Debug, PartialEq, Eq)]
 pub enum Unbuilt {
@@ -8,10 +11,14 @@ pub enum Unbuilt {
 }
 
 /// Why a request is refused.
-#[derive(Clone, Copy, Debug, PartialEq, Eq)]
+#[derive(Drop)]
 pub enum Rule {
     /// The bytes are no head of a request.
     BadHead,
+    /// The body is no JSON in UTF-8 (RFC 8259).
+    BadJson,
+    /// The first broken rule of the body, with the dotted path of its field.
+    BadField { field: Text, rule: PropRule },
     /// The pool has as many tasks as it may have.
     PoolTasksFull { limit: u32 },
     /// The log has no room for the entry that must be added.

@@ -9,3 +9,19 @@
 mod open;
 
 pub use open::open_settings;
+
+#[cfg(test)]
+mod tests {
+    use super::open_settings;
+    use std::test::Fail;
+
+    #[test]
+    fn one_pool_for_everyone(rt: HostRuntime) -> Result<(), Fail> {
+        let settings = open_settings(rt.alloc())?;
+        assert_eq!(rt; settings.pools.as_slice().len(), 1);
+        let pool = &settings.pools.as_slice()[0];
+        assert_eq!(rt; pool.name.as_str(), "default");
+        assert_eq!(rt; pool.most_tasks, 262_144);
+        Ok(())
+    }
+}

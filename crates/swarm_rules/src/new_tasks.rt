@@ -1,5 +1,5 @@
 ghost use Rattle.std.specs.Prelude.{◌≡◌, ◌+◌, ◌<◌, ◌^◌, length, nat_le, IfOk};
-ghost use Rattle.swarm_model.specs.Words.{when};
+ghost use Rattle.dimensions.specs.Choosing.{when};
 ghost use Rattle.swarm_model.specs.Answers.{new_task, accepted, tasks_full};
 
 use crate::LookUps;

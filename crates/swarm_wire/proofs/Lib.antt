@@ -1,5 +1,6 @@
-pub mod Views
 pub mod BodyLemmas
-pub mod Single
 pub mod NoFloats
+pub mod Numerals
+pub mod Lists
+pub mod Steps
 pub mod Fitting

@@ -9,6 +9,8 @@ use Rattle.swarm_wire.specs.Bodies.{refusal_data, reply_data}
 
 refusal_is_plain : (why : Rule) → has_float (refusal_data why) ≡ false
 refusal_is_plain rule.BadHead = refl
+refusal_is_plain rule.BadJson = refl
+refusal_is_plain (rule.BadField field broken) = refl
 refusal_is_plain (rule.PoolTasksFull limit) = refl
 refusal_is_plain rule.LogFull = refl
 refusal_is_plain (rule.FrontAhead length) = refl

@@ -3,6 +3,7 @@ use Rattle.std.specs.Prelude.{ℕ, ◌+◌, ◌*◌, false, List, ◌++◌, code
 use Rattle.std.specs.Fmt.{digits}
 use Rattle.serde_json.specs.Data.{Data, number, unsigned, string, object, no_members, member}
 use Rattle.serde_json.specs.Written.{compact_text}
+use Rattle.task_props.specs.RuleNames.{rule_name}
 use Rattle.swarm_model.specs.declared.task_state.TaskState.{TaskState}
 use Rattle.swarm_model.specs.declared.task_state.TaskState.TheVariants.{Pending, Running, Expired, TimedOut, BotDied, Canceled, Completed, Killed, NoResource}
 use Rattle.swarm_model.specs.declared.rule.Unbuilt.{Unbuilt}
@@ -39,12 +40,19 @@ one_member key value = object (member key value no_members)
 abbrev pub two_members : List ℕ → Data → List ℕ → Data → Data
 two_members first value second other = object (member first value (member second other no_members))
 
+-- an object of three members, the keys in their order
+abbrev pub three_members : List ℕ → Data → List ℕ → Data → List ℕ → Data → Data
+three_members first value second other third last = object (member first value (member second other (member third last no_members)))
+
 abbrev pub whole : ℕ → Data
 whole n = number (unsigned n)
 
 -- a refusal: its code, and what its rule tells
 abbrev pub refusal_data : Rule → Data
 refusal_data rule.BadHead = one_member (codes "code") (string (codes "bad_head"))
+refusal_data rule.BadJson = one_member (codes "code") (string (codes "bad_json"))
+refusal_data (rule.BadField field broken) =
+    three_members (codes "code") (string (codes "bad_field")) (codes "field") (string field) (codes "rule") (string (rule_name broken))
 refusal_data (rule.PoolTasksFull limit) = two_members (codes "code") (string (codes "pool_tasks_full")) (codes "limit") (whole limit)
 refusal_data rule.LogFull = one_member (codes "code") (string (codes "log_full"))
 refusal_data (rule.FrontAhead length) = two_members (codes "code") (string (codes "front_ahead")) (codes "length") (whole length)

@@ -1,5 +1,7 @@
-use dimensions::Seq;
+use dimensions::{Seq, Text};
+use std::alloc::AllocError;
 use swarm_model::Request;
+use task_props::{PropFault, PropRule};
 
 /// What a body asks for.
 #[derive(Drop)]
@@ -12,9 +14,39 @@ pub struct Asked {
 }
 
 /// Why a body asks for nothing.
-#[derive(Clone, Copy, Debug, PartialEq, Eq)]
+#[derive(Debug, PartialEq, Drop)]
 pub enum WireFault {
     Memory,
-    /// The task isn't served.
+    /// The body is no JSON in UTF-8.
+    BadJson,
+    /// The first broken rule, with the dotted path of its field. The path is empty where the body
+    /// is no object.
+    BadField { field: Text, rule: PropRule },
+    /// The task breaks no rule, and isn't served.
     NotBuilt,
+}
+
+impl From<AllocError> for WireFault {
+    ghost use Rattle.std.specs.Prelude.{◌≡◌};
+    ghost use Rattle.swarm_wire.specs.declared.asked.WireFault.TheVariants.{Memory};
+
+    ghost from_gives = { λ _ fault. fault ≡ Memory };
+
+    fn from(_: AllocError) -> WireFault {
+        WireFault::Memory
+    }
+}
+
+impl From<PropFault> for WireFault {
+    ghost use Rattle.std.specs.Prelude.{◌≡◌};
+    ghost use Rattle.swarm_wire.specs.Asking.{wire_fault};
+
+    ghost from_gives = { λ broken fault. fault ≡ wire_fault broken };
+
+    fn from(broken: PropFault) -> WireFault {
+        match broken {
+            PropFault::Memory => WireFault::Memory,
+            PropFault::Broken { field, rule } => WireFault::BadField { field, rule },
+        }
+    }
 }

@@ -1,12 +1,14 @@
 ghost use Rattle.std.specs.Prelude.{◌≡◌, ◌<◌, IfOk, codes, string_bytes};
 ghost use Rattle.serde_json.specs.Data.{string};
 ghost use Rattle.serde_json.specs.View.{view};
-ghost use Rattle.swarm_wire.specs.Bodies.{state_name as spec_state_name, task_id as spec_task_id, unbuilt_name as spec_unbuilt_name, one_member as spec_one_member, two_members as spec_two_members, refusal_data, reply_data, body_of, whole};
+ghost use Rattle.task_props.specs.RuleNames.{rule_name};
+ghost use Rattle.swarm_wire.specs.Bodies.{state_name as spec_state_name, task_id as spec_task_id, unbuilt_name as spec_unbuilt_name, one_member as spec_one_member, two_members as spec_two_members, three_members as spec_three_members, refusal_data, reply_data, body_of, whole};
 
-use dimensions::Seq;
+use dimensions::{Seq, Text};
 use serde_json::{Value, json};
 use std::alloc::{AllocError, Global};
 use swarm_model::{Reply, Rule, TaskState, Unbuilt};
+use task_props::PropRule;
 
 fn state_name(state: TaskState) -> &'static str
     ensures { result.now ≡ spec_state_name state }
@@ -67,16 +69,31 @@ fn unbuilt_value(alloc: Global, code: &str, what: Unbuilt) -> Result<Value, Allo
     json!(in alloc; {"code": code, "what": name})
 }
 
-fn refusal_value(alloc: Global, rule: Rule) -> Result<Value, AllocError>
-    ensures { IfOk result (λ value. view value ≡ refusal_data rule) }
+fn field_value(
+    alloc: Global,
+    code: &str,
+    field: &Text,
+    rule: PropRule,
+) -> Result<Value, AllocError>
+    ensures { IfOk result (λ value. view value ≡ spec_three_members (codes "code") (string code.now) (codes "field") (string field.now) (codes "rule") (string (rule_name rule))) }
+{
+    let field = field.as_str();
+    let name = rule.name();
+    json!(in alloc; {"code": code, "field": field, "rule": name})
+}
+
+fn refusal_value(alloc: Global, rule: &Rule) -> Result<Value, AllocError>
+    ensures { IfOk result (λ value. view value ≡ refusal_data rule.now) }
 {
     match rule {
         Rule::BadHead => code_alone(alloc, "bad_head"),
-        Rule::PoolTasksFull { limit } => limit_value(alloc, "pool_tasks_full", limit),
+        Rule::BadJson => code_alone(alloc, "bad_json"),
+        Rule::BadField { field, rule } => field_value(alloc, "bad_field", field, *rule),
+        Rule::PoolTasksFull { limit } => limit_value(alloc, "pool_tasks_full", *limit),
         Rule::LogFull => code_alone(alloc, "log_full"),
-        Rule::FrontAhead { length } => length_value(alloc, "front_ahead", length),
+        Rule::FrontAhead { length } => length_value(alloc, "front_ahead", *length),
         Rule::WantOfMemory => code_alone(alloc, "want_of_memory"),
-        Rule::NotBuilt { what } => unbuilt_value(alloc, "not_built", what),
+        Rule::NotBuilt { what } => unbuilt_value(alloc, "not_built", *what),
     }
 }
 
@@ -95,7 +112,7 @@ fn reply_value(alloc: Global, place: u32, reply: &Reply) -> Result<Value, AllocE
 {
     match reply {
         Reply::New { task, state } => new_value(alloc, place, *task, *state),
-        Reply::No(rule) => refusal_value(alloc, *rule),
+        Reply::No(rule) => refusal_value(alloc, rule),
     }
 }
 

@@ -4,7 +4,8 @@ ghost use Rattle.task_props.specs.Broken.{broken_slice, first_broken_slice, firs
 ghost use Rattle.task_props.specs.Fields.{task_path};
 
 use crate::field_rules::{
-    broken_command, broken_dimensions, count_rule, expiration_rule, name_rule, priority_rule,
+    MOST_SLICES, broken_command, broken_dimensions, count_rule, expiration_rule, name_rule,
+    priority_rule,
 };
 use crate::{PropRule, RawSlice, RawTask, SliceField, TaskField};
 use dimensions::Text;
@@ -51,7 +52,7 @@ pub(crate) fn first_broken_field(raw: &RawTask) -> Option<(TaskField, PropRule)>
     if let Some(rule) = priority_rule(raw.priority) {
         return Some((TaskField::Priority, rule));
     }
-    if let Some(rule) = count_rule(8, raw.task_slices.as_slice().len()) {
+    if let Some(rule) = count_rule(MOST_SLICES, raw.task_slices.as_slice().len()) {
         return Some((TaskField::TaskSlices, rule));
     }
     first_broken_slice(raw.task_slices.as_slice())

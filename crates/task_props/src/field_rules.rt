@@ -7,6 +7,12 @@ ghost use Rattle.task_props.specs.FieldRules.{name_rule, range_rule, priority_ru
 use crate::{PropRule, SliceField};
 use dimensions::{DimRule, DimSet, Text};
 
+pub(crate) const HIGHEST_PRIORITY: u32 = 255;
+
+pub(crate) const LONGEST_EXPIRATION_SECS: u32 = 604_800;
+
+pub(crate) const MOST_SLICES: usize = 8;
+
 fn has_control(text: &str) -> bool
     ensures { result ≡ list_any is_ascii_control text.now }
 {
@@ -44,13 +50,13 @@ fn range_rule(low: u32, high: u32, number: i128) -> Option<PropRule>
 pub(crate) fn priority_rule(number: i128) -> Option<PropRule>
     ensures { result ≡ priority_rule number }
 {
-    range_rule(0, 255, number)
+    range_rule(0, HIGHEST_PRIORITY, number)
 }
 
 pub(crate) fn expiration_rule(seconds: i128) -> Option<PropRule>
     ensures { result ≡ expiration_rule seconds }
 {
-    range_rule(1, 604800, seconds)
+    range_rule(1, LONGEST_EXPIRATION_SECS, seconds)
 }
 
 pub(crate) fn count_rule(most: usize, count: usize) -> Option<PropRule>

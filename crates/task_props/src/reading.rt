@@ -7,6 +7,8 @@ ghost use Rattle.task_props.specs.Checked.{is_sound_slice};
 ghost use Rattle.task_props.specs.FieldRules.{range_rule, broken_command, broken_dimensions};
 ghost use Rattle.task_props.specs.Reading.{natural, properties_of, slice_of};
 
+use crate::field_rules::LONGEST_EXPIRATION_SECS;
+use crate::properties::ABSENT_GRACE_SECS;
 use crate::{Properties, RawProperties, RawSlice, Slice};
 use dimensions::{DimSet, Seq};
 use std::alloc::{AllocError, Global};
@@ -24,6 +26,7 @@ fn read_properties(alloc: Global, raw: RawProperties) -> Result<Properties, Allo
     ensures value { IfOk result (λ properties. properties ≡ properties_of raw) }
     ensures checked { IfOk result (λ properties. are_checked properties.dimensions ≡ true) }
 {
+    // No rule is broken, so only memory can be missing.
     let dimensions = match DimSet::read(alloc, raw.dimensions.as_slice()) {
         Ok(dimensions) => dimensions,
         Err(_) => return Err(AllocError),
@@ -37,7 +40,7 @@ fn read_properties(alloc: Global, raw: RawProperties) -> Result<Properties, Allo
         outputs: Seq::new(alloc),
         execution_timeout_secs: 0,
         io_timeout_secs: 0,
-        grace_period_secs: 30,
+        grace_period_secs: ABSENT_GRACE_SECS,
         idempotent: false,
     })
 }
@@ -48,7 +51,7 @@ fn read_slice(alloc: Global, raw: RawSlice) -> Result<Slice, AllocError>
     ensures sound { IfOk result (λ slice. is_sound_slice slice ≡ true) }
 {
     Ok(Slice {
-        expiration_secs: natural(1, 604800, raw.expiration_secs),
+        expiration_secs: natural(1, LONGEST_EXPIRATION_SECS, raw.expiration_secs),
         wait_for_capacity: raw.wait_for_capacity,
         properties: read_properties(alloc, raw.properties)?,
     })

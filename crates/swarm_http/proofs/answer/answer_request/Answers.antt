@@ -16,3 +16,28 @@ returns-in-Err-NotBuilt-clause-answers g c = λ body who held.
       moments = HandsIn-nil (g.C.Clock.ahead c.args.clock.now);
       shown = refl;
     }
+
+pub returns-in-Err-BadJson-clause-answers : goal.returns-in-Err-BadJson-clause-answers
+returns-in-Err-BadJson-clause-answers g c = λ body who held.
+    let refused = rw c.in-Err-BadJson.field-0-is at c.in-Err-BadJson.ensures.refused in
+    let items = rw c.in-Some-Some.is-1 at held.body_is in
+    let same : c.deref.result.now ≡ body = c.deref.ensures.value ∙ items in
+    record {
+      outcome = early fault.BadJson;
+      acts = (subst (λ l. asked_of l ≡ Err fault.BadJson) same (refused (λ e. cc)), refl);
+      moments = HandsIn-nil (g.C.Clock.ahead c.args.clock.now);
+      shown = refl;
+    }
+
+pub returns-in-Ok-field_refusal-clause-answers : goal.returns-in-Ok-field_refusal-clause-answers
+returns-in-Ok-field_refusal-clause-answers g c = λ body who held.
+    let why = fault.BadField c.in-Err-BadField.field c.in-Err-BadField.rule in
+    let refused = rw c.in-Err-BadField.field-0-is at c.in-Err-BadField.ensures.refused in
+    let items = rw c.in-Some-Some.is-1 at held.body_is in
+    let same : c.deref.result.now ≡ body = c.deref.ensures.value ∙ items in
+    record {
+      outcome = early why;
+      acts = (subst (λ l. asked_of l ≡ Err why) same (refused (λ e. cc)), refl);
+      moments = HandsIn-nil (g.C.Clock.ahead c.args.clock.now);
+      shown = c.in-Ok-field_refusal.ensures;
+    }

@@ -1,11 +1,14 @@
 use Rattle.std.proofs.Common.{sym, ap, ◌∙◌, None}
 use Rattle.swarm_http.specs.Shown.{refusal}
 use Rattle.swarm_http.specs.Sends.{rule_of}
-use Rattle.swarm_http.proofs.Texts.{bad_head, head_not_built, task_not_built, log_full, want_of_memory}
+use Rattle.swarm_http.proofs.Texts.{bad_head, bad_json, head_not_built, task_not_built, log_full, want_of_memory}
 use Rattle.swarm_http.proofs.send.refusal_bytes.Goals as goal
 
 pub returns-in-BadHead : goal.returns-in-BadHead
 returns-in-BadHead c = sym (ap (λ why. refusal None (rule_of why)) c.in-BadHead.is ∙ bad_head)
+
+pub returns-in-BadJson : goal.returns-in-BadJson
+returns-in-BadJson c = sym (ap (λ why. refusal None (rule_of why)) c.in-BadJson.is ∙ bad_json)
 
 pub returns-in-HeadNotBuilt : goal.returns-in-HeadNotBuilt
 returns-in-HeadNotBuilt c = sym (ap (λ why. refusal None (rule_of why)) c.in-HeadNotBuilt.is ∙ head_not_built)

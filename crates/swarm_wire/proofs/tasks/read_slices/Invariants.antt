@@ -1,0 +1,10 @@
+use Rattle.std.proofs.Common.{◌≡◌, map, drop}
+use Rattle.serde_json.specs.View.{view}
+use Rattle.swarm_wire.specs.Readings.{each_from}
+use Rattle.swarm_wire.specs.Tasks.{slice_item}
+use Rattle.swarm_wire.proofs.Steps.{then_more}
+use Rattle.swarm_wire.proofs.tasks.read_slices.Given as goal
+
+abbrev pub invariant-loop-place : goal.invariant-loop-place
+invariant-loop-place l =
+    each_from slice_item 0 (map view l.items) ≡ then_more l.slices.items (each_from slice_item l.place (map view (drop l.place l.items)))
