@@ -4,6 +4,8 @@ use std::alloc::{AllocError, Global};
 use std::test::Fail;
 use swarm_http::{MemoryLink, StepClock};
 
+mod bodies;
+mod limits;
 mod turns;
 
 const PATH: &str = "/prpc/swarming.v2.Tasks/NewTask";
@@ -20,6 +22,9 @@ const NOT_BUILT_TASK: &str =
 const NOT_BUILT_HEAD: &str =
     "HTTP/1.1 501 Not Implemented\r\nContent-Length: 34\r\nContent-Type: application/json\r\n\r\n{\"code\":\"not_built\",\"what\":\"head\"}";
 
+const OUT_OF_RANGE: &str =
+    "HTTP/1.1 400 Bad Request\r\nContent-Length: 75\r\nContent-Type: application/json\r\n\r\n{\"code\":\"bad_field\",\"field\":\"task_slices.0.expiration_secs\",\"rule\":\"range\"}";
+
 const BAD_HEAD: &str =
     "HTTP/1.1 400 Bad Request\r\nContent-Length: 19\r\nContent-Type: application/json\r\n\r\n{\"code\":\"bad_head\"}";
 
@@ -34,7 +39,9 @@ fn task_of(alloc: Global, secs: &str) -> Result<String, AllocError> {
         "{{\"task_slices\":[{{\"expiration_secs\":{secs},\"wait_for_capacity\":true,\"properties\":{{\"command\":[\"true\"],\"dimensions\":[{{\"key\":\"pool\",\"value\":\"default\"}}]}}}}]}}"
     )?;
     let size = body.len();
-    format!(in alloc; "POST {PATH} HTTP/1.1\r\nX-Swarming-Caller: ana\r\nContent-Length: {size}\r\n\r\n{body}")
+    format!(in alloc;
+        "POST {PATH} HTTP/1.1\r\nX-Swarming-Caller: ana\r\nContent-Length: {size}\r\n\r\n{body}"
+    )
 }
 
 /// How a run ended, and what it wrote.
@@ -93,10 +100,10 @@ fn requests_one_after_another(rt: HostRuntime) -> Result<(), Fail> {
     }
     let mut expected = pending(alloc, 1, "10")?;
     expected.push_str(pending(alloc, 2, "20")?.as_str())?;
-    expected.push_str(NOT_BUILT_TASK)?;
-    expected.push_str(NOT_BUILT_TASK)?;
-    expected.push_str(NOT_BUILT_TASK)?;
+    expected.push_str(OUT_OF_RANGE)?;
+    expected.push_str(OUT_OF_RANGE)?;
     expected.push_str(pending(alloc, 3, "30")?.as_str())?;
+    expected.push_str(pending(alloc, 4, "40")?.as_str())?;
     let ran = run_over(alloc, input.as_slice(), 1000, &[])?;
     assert_eq!(rt; ran.status, 0);
     assert_eq!(rt; ran.link.output(), expected.as_bytes());
@@ -109,13 +116,37 @@ fn heads_that_are_refused(rt: HostRuntime) -> Result<(), Fail> {
     let rows = [
         // No head of a request.
         ("GET /\r\n", "", BAD_HEAD),
-        ("POST /prpc/swarming.v2.Tasks/NewTask HTTP/1.1\r\n", "X-Swarming Caller: ana\r\n", BAD_HEAD),
+        (
+            "POST /prpc/swarming.v2.Tasks/NewTask HTTP/1.1\r\n",
+            "X-Swarming Caller: ana\r\n",
+            BAD_HEAD,
+        ),
         // Heads that aren't served yet.
-        ("POST /prpc/swarming.v2.Tasks/NewTask HTTP/1.0\r\n", good, NOT_BUILT_HEAD),
-        ("GET /prpc/swarming.v2.Tasks/NewTask HTTP/1.1\r\n", good, NOT_BUILT_HEAD),
-        ("POST /prpc/swarming.v2.Tasks/CountTasks HTTP/1.1\r\n", good, NOT_BUILT_HEAD),
-        ("POST /prpc/swarming.v2.Tasks/NewTask HTTP/1.1\r\n", "Content-Length: 2\r\n", NOT_BUILT_HEAD),
-        ("POST /prpc/swarming.v2.Tasks/NewTask HTTP/1.1\r\n", "X-Swarming-Caller: ana\r\n", NOT_BUILT_HEAD),
+        (
+            "POST /prpc/swarming.v2.Tasks/NewTask HTTP/1.0\r\n",
+            good,
+            NOT_BUILT_HEAD,
+        ),
+        (
+            "GET /prpc/swarming.v2.Tasks/NewTask HTTP/1.1\r\n",
+            good,
+            NOT_BUILT_HEAD,
+        ),
+        (
+            "POST /prpc/swarming.v2.Tasks/CountTasks HTTP/1.1\r\n",
+            good,
+            NOT_BUILT_HEAD,
+        ),
+        (
+            "POST /prpc/swarming.v2.Tasks/NewTask HTTP/1.1\r\n",
+            "Content-Length: 2\r\n",
+            NOT_BUILT_HEAD,
+        ),
+        (
+            "POST /prpc/swarming.v2.Tasks/NewTask HTTP/1.1\r\n",
+            "X-Swarming-Caller: ana\r\n",
+            NOT_BUILT_HEAD,
+        ),
         (
             "POST /prpc/swarming.v2.Tasks/NewTask HTTP/1.1\r\n",
             "X-Swarming-Caller: ana\r\nX-Swarming-Caller: bob\r\nContent-Length: 2\r\n",
