@@ -3,7 +3,7 @@ use Rattle.std.proofs.Common.{◌≡◌, ℕ, List, [], Option, refl}
 use Rattle.sw_base.specs.Link.{LinkState}
 use Rattle.swarm_policy.specs.Open.{open_settings}
 use Rattle.swarm_http.specs.declared.ended.Ended.TheVariants.{Memory}
-use Rattle.swarm_http.proofs.Serving.{nothing_served}
+use Rattle.swarm_http.proofs.Serving.{no_memory}
 use Rattle.swarm_cli.specs.Run.{RunsSession, status_of}
 
 pub nothing_began : (s : LinkState) (a : ℕ → Option (List ℕ)) (status : ℕ) → status ≡ status_of Memory → RunsSession s s a a status
@@ -15,13 +15,6 @@ nothing_began s a status is =
       new = λ p. [];
       numbered = λ p. refl;
       empty = λ p. refl;
-      answered = record {
-        xs = [];
-        rest = [];
-        sent = [];
-        serves = nothing_served open_settings (λ p. 0) s a (λ p. []);
-        ends = (refl, refl, refl);
-        clean = λ other clean. clean;
-      };
+      answered = no_memory;
       status_is = is;
     }

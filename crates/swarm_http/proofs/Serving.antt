@@ -1,5 +1,5 @@
 -- Exchanges, one after another.
-use Rattle.std.proofs.Common.{◌≡◌, ℕ, ◌+◌, ◌≤◌, List, [], ◌∷◌, ◌++◌, length, arith, refl, sym, ap, ◌∙◌, append_assoc, append-nil, length-append, Option, None, Result, subst}
+use Rattle.std.proofs.Common.{◌≡◌, ℕ, ◌+◌, ◌<◌, ◌≤◌, List, [], ◌∷◌, ◌++◌, length, arith, refl, sym, ap, ◌∙◌, append_assoc, append-nil, length-append, Option, None, Result, subst}
 use Rattle.std.specs.Prelude.{◌≢◌}
 use Rattle.std.specs.List.{flat_map}
 use Rattle.std.specs.Io.KnownBytes.{Consumes}
@@ -39,7 +39,7 @@ Chain-append : (settings : Settings) (numbers : ℕ → ℕ) (old mid new : Logs
 Chain-append settings numbers old mid new [] ys same rest = subst (λ l. Chain settings numbers l ys new) same rest
 Chain-append settings numbers old mid new (x ∷ xs) ys first rest = (first.0, first.1, Chain-append settings numbers first.0 mid new xs ys first.2 rest)
 
-pub nothing_served : (settings : Settings) (numbers : ℕ → ℕ) (s : LinkState) (a : ℕ → Option (List ℕ)) (old : Logs) → Serves settings numbers [] [] [] [] s s a a old old
+nothing_served : (settings : Settings) (numbers : ℕ → ℕ) (s : LinkState) (a : ℕ → Option (List ℕ)) (old : Logs) → Serves settings numbers [] [] [] [] s s a a old old
 nothing_served settings numbers s a old = record { taken = []; moves = Moves-refl s; input_is = refl; moments = HandsIn-nil a; chain = refl }
 
 Serves-trans : {settings : Settings} {numbers : ℕ → ℕ} {xs ys : List Exchange} {pending mid rest p q : List ℕ} {s t u : LinkState} {a b c : ℕ → Option (List ℕ)} {d e f : Logs}
@@ -129,6 +129,7 @@ reply_cut {rest = rest} {s = s} {u = u} x answers w rose =
       sent = w.written.sent;
       serves = one_served (subst (λ l. Moves s u l w.written.sent) (append-nil x.taken) moves) q.input_is q.says y.acts y.moments;
       ends = (omega (arith, x.moves.writes, rose), last_reply [] one w.written.sent w.back refl refl (sym y.shown ∙ w.written.whole));
+      few = omega arith;
       clean = λ n c. absurd (n refl);
       not_retired = λ h. cc;
       not_memory = λ h. cc;
@@ -145,6 +146,7 @@ head_refused {rest = rest} {why = why} {s = s} {u = u} x w all flushed =
       sent = w.written.sent;
       serves = none_served (subst (λ l. Moves s u l w.written.sent) (append-nil x.taken) moves) x.outcome.1;
       ends = (rule_of why, x.outcome.0, sym (append-nil w.written.sent) ∙ ap (λ l. w.written.sent ++ l) (sym all) ∙ sym w.written.whole);
+      few = omega arith;
       clean = λ n c. flushed;
       not_retired = λ h. cc;
       not_memory = λ h. cc;
@@ -161,6 +163,7 @@ refusal_cut {rest = rest} {why = why} {s = s} {u = u} x w rose =
       sent = w.written.sent;
       serves = none_served (subst (λ l. Moves s u l w.written.sent) (append-nil x.taken) moves) x.outcome.1;
       ends = (omega (arith, x.moves.writes, rose), head_refusal (rule_of why) w.written.sent w.back x.outcome.0 refl w.written.whole);
+      few = omega arith;
       clean = λ n c. absurd (n refl);
       not_retired = λ h. cc;
       not_memory = λ h. cc;
@@ -186,6 +189,7 @@ taking_ended {pending = pending} {s = s} {t = t} ended x =
       sent = [];
       serves = none_served x.moves refl;
       ends = e.0;
+      few = omega arith;
       clean = λ n c. x.moves.clean refl c;
       not_retired = e.1;
       not_memory = e.2;
@@ -237,8 +241,8 @@ one_on {settings = settings} {numbers = numbers} {pending = pending} {more = mor
     }
 
 pub ended_so : {settings : Settings} {numbers : ℕ → ℕ} {count : ℕ} {pending : List ℕ} {s t u : LinkState} {a b c : ℕ → Option (List ℕ)} {d e : DoorState} {new : Logs} {ended : Ended}
-    → SoFar settings numbers count pending s t a b d e → Stops settings e.numbers pending t u b c e.seen new ended → IsAnswered settings numbers s u a c d.seen new ended
-ended_so {settings = settings} {pending = pending} {s = s} {t = t} {u = u} {b = b} {c = c} {e = e} {new = new} {ended = ended} x y =
+    → SoFar settings numbers count pending s t a b d e → count < 65536 → Stops settings e.numbers pending t u b c e.seen new ended → IsAnswered settings numbers s u a c d.seen new ended
+ended_so {settings = settings} {pending = pending} {s = s} {t = t} {u = u} {b = b} {c = c} {e = e} {new = new} {ended = ended} x early y =
     let step = subst (λ n. Serves settings n y.xs pending y.rest y.sent t u b c e.seen new) x.numbers_are y.serves in
     record {
       xs = x.xs ++ y.xs;
@@ -246,12 +250,13 @@ ended_so {settings = settings} {pending = pending} {s = s} {t = t} {u = u} {b = 
       sent = replies x.xs ++ y.sent;
       serves = Serves-trans x.serves step;
       ends = ends_after ended x.xs y.xs y.rest y.sent s t u x.serves.moves.reads x.serves.moves.writes y.not_retired y.not_memory y.ends;
+      few = omega (arith, length-append x.xs y.xs, x.counted, y.few);
       clean = λ n c. y.clean n (x.clean c);
     }
 
 pub retired : {settings : Settings} {numbers : ℕ → ℕ} {pending : List ℕ} {s t : LinkState} {a b : ℕ → Option (List ℕ)} {d e : DoorState}
     → SoFar settings numbers 65536 pending s t a b d e → IsAnswered settings numbers s t a b d.seen e.seen Retired
-retired {pending = pending} x = record { xs = x.xs; rest = pending; sent = replies x.xs; serves = x.serves; ends = (x.counted, refl); clean = λ n c. x.clean c }
+retired {pending = pending} x = record { xs = x.xs; rest = pending; sent = replies x.xs; serves = x.serves; ends = (x.counted, refl); few = omega (arith, x.counted); clean = λ n c. x.clean c }
 
 pub no_memory : {settings : Settings} {numbers : ℕ → ℕ} {s : LinkState} {a : ℕ → Option (List ℕ)} {old : Logs} → IsAnswered settings numbers s s a a old old Memory
-no_memory {settings = settings} {numbers = numbers} {s = s} {a = a} {old = old} = record { xs = []; rest = []; sent = []; serves = nothing_served settings numbers s a old; ends = (refl, refl, refl); clean = λ n c. c }
+no_memory {settings = settings} {numbers = numbers} {s = s} {a = a} {old = old} = record { xs = []; rest = []; sent = []; serves = nothing_served settings numbers s a old; ends = (refl, refl, refl); few = omega arith; clean = λ n c. c }

@@ -69,6 +69,7 @@ pub record IsAnswered (settings : Settings) (numbers : ℕ → ℕ) (s t : LinkS
   pub sent : List ℕ
   pub serves : Serves settings numbers xs [] rest sent s t a b old new
   pub ends : EndsAs ended xs rest sent s t
+  pub few : length xs ≤ 65536
   pub clean : ended ≢ WriteFault → IsClean s → IsClean t
 
 -- what a connection keeps of its door, on which it made so many calls at most

@@ -1,5 +1,5 @@
 -- One request of a connection.
-use Rattle.std.specs.Prelude.{◌≡◌, ◌≢◌, ℕ, List, [], ◌∷◌, Option}
+use Rattle.std.specs.Prelude.{◌≡◌, ◌≢◌, ℕ, ◌≤◌, List, [], ◌∷◌, length, Option}
 use Rattle.sw_base.specs.Clock.{HandsIn}
 use Rattle.sw_base.specs.Link.{LinkState, IsClean}
 use Rattle.swarm_model.specs.declared.pool_settings.Settings.{Settings}
@@ -34,6 +34,7 @@ pub record Stops (settings : Settings) (numbers : ℕ → ℕ) (pending : List �
   pub sent : List ℕ
   pub serves : Serves settings numbers xs pending rest sent s t a b old new
   pub ends : EndsAs ended xs rest sent s t
+  pub few : length xs ≤ 1
   pub clean : ended ≢ WriteFault → IsClean s → IsClean t
   pub not_retired : ended ≢ Retired
   pub not_memory : ended ≢ Memory

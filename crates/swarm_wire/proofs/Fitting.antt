@@ -1,5 +1,5 @@
 -- A sound task that is served fits an open pool.
-use Rattle.std.proofs.Common.{◌≡◌, ℕ, Bool, true, ◌&&◌, ◌∙◌}
+use Rattle.std.proofs.Common.{◌≡◌, true, ◌&&◌, ◌∙◌}
 use Rattle.std.specs.Prelude.{IsTrue, IsSomeAnd, codes, slice_get}
 use Rattle.std.proofs.lemmas.Bool.{and_parts, and_from}
 use Rattle.serde_json.specs.Data.{Data}

@@ -1,6 +1,5 @@
 -- Readings: a value, or the first rule that is broken.
 use Rattle.std.specs.Prelude.{◌≡◌, ◌≢◌, ℕ, ◌+◌, List, [], ◌∷◌, ◌++◌, Result, Ok, Err, codes}
-use Rattle.std.specs.Fmt.{decimal}
 use Rattle.task_props.specs.declared.prop_rule.PropRule.{PropRule}
 use Rattle.task_props.specs.declared.prop_fault.PropFault.{PropFault}
 use Rattle.task_props.specs.declared.prop_fault.PropFault.TheVariants as fault

@@ -1,4 +1,4 @@
-use Rattle.std.proofs.Common.{subst, sym}
+use Rattle.std.proofs.Common.{arith, subst, sym}
 use Rattle.swarm_http.proofs.Serving.{SoFar, begun, one_on, ended_so}
 use Rattle.swarm_http.proofs.connection.session.Goals as goal
 
@@ -13,4 +13,4 @@ pub requests-preserved : goal.requests-preserved
 requests-preserved g c = one_on c.requests.invariant c.in-Next.ensures.step c.serve_one.ensures.door
 
 pub returns-in-End-clause-answered : goal.returns-in-End-clause-answered
-returns-in-End-clause-answered g c = ended_so c.requests.invariant c.in-End.ensures.step
+returns-in-End-clause-answered g c = ended_so c.requests.invariant (omega arith) c.in-End.ensures.step
