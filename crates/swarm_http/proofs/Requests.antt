@@ -1,5 +1,5 @@
 -- The head at the front of what is pending, and what stands behind it.
-use Rattle.std.proofs.Common.{◌≡◌, ℕ, ◌+◌, ◌-◌, ◌≤◌, List, [], ◌++◌, length, take, arith, sym, ap, ◌∙◌, subst, append_assoc, append-nil, Some}
+use Rattle.std.proofs.Common.{◌≡◌, ℕ, ◌+◌, ◌-◌, ◌<◌, ◌≤◌, None, List, [], ◌++◌, length, take, arith, sym, ap, ◌∙◌, subst, append_assoc, append-nil, Some}
 use Rattle.std.proofs.lemmas.List.{get_or-take, length-take-le}
 use Rattle.httparse.specs.Grammar.{RequestHead}
 use Rattle.memchr.specs.Find.{OccursAt}
@@ -8,9 +8,10 @@ use Rattle.sw_base.proofs.Moving.{Moves-refl, Moves-trans}
 use Rattle.link_reader.specs.Heads.{blank_line, IsHeadEnd, Grows}
 use Rattle.link_reader.specs.Bodies.{IsWhole, IsCut}
 use Rattle.link_reader.specs.declared.pending.TheConstants.{HEAD_LIMIT}
-use Rattle.request_head.specs.Plain.{IsHead, plain}
+use Rattle.request_head.specs.Heads.{IsHead}
+use Rattle.request_head.specs.Says.{HeadRefusal, too_large, head_refusal, size_of, limit_at}
 use Rattle.swarm_http.specs.declared.ended.Ended.{Ended}
-use Rattle.swarm_http.specs.declared.ended.Ended.TheVariants.{Closed, CutShort, BadHead, Retired, ReadFault, WriteFault, Memory}
+use Rattle.swarm_http.specs.declared.ended.Ended.TheVariants.{Closed, LastAsked, CutShort, BadHead, Retired, ReadFault, WriteFault, Memory}
 use Rattle.swarm_http.specs.declared.reply.Refusal.{Refusal}
 use Rattle.swarm_http.specs.declared.request.Received.{Received}
 use Rattle.swarm_http.specs.declared.request.Taken.{Taken}
@@ -47,32 +48,33 @@ head_alone bytes n end =
       first = λ k low high at. end.first k low high (occurs_in_all bytes n k end.within at);
     })
 
--- what a head says that is served
-pub says_plain : {bytes who : List ℕ} {n size : ℕ} → length bytes ≤ HEAD_LIMIT → IsHeadEnd bytes n → (h : RequestHead) → IsHead (take n bytes) h → plain h ≡ Some (size, who)
-    → HeadSays (take n bytes) size who
-says_plain {bytes = bytes} {n = n} short end h is_head told = record {
+-- the head at the front of what is pending
+pub says_head : {bytes : List ℕ} {n : ℕ} → length bytes ≤ HEAD_LIMIT → IsHeadEnd bytes n → (h : RequestHead) → IsHead (take n bytes) h → head_refusal h ≡ None
+    → HeadSays (take n bytes) h
+says_head {bytes = bytes} {n = n} short end h is_head accepted = record {
   short = let l : length (take n bytes) ≡ n = length-take-le n bytes end.within in let w : n ≤ length bytes = end.within in omega arith;
   ends = head_alone bytes n end;
-  head = h;
   is_head = is_head;
-  plain_is = told;
+  accepted = accepted;
 }
 
 -- a body was read to its end
-pub received_whole : {received : Received} {input text rest body who : List ℕ} {size : ℕ}
-    → HeadSays text size who → IsWhole input text rest size body → IsHeld received body who → IsReceived received input rest
-received_whole {text = text} {rest = rest} {body = body} {who = who} says whole held = record {
+pub received_whole : {received : Received} {input text rest body : List ℕ} {size : ℕ} {head : RequestHead}
+    → HeadSays text head → size ≡ size_of head → IsWhole input text rest size body → IsHeld received body head → IsReceived received input rest
+received_whole {text = text} {rest = rest} {body = body} {head = head} says told whole held = record {
   text = text;
   body = body;
-  who = who;
-  says = subst (λ k. HeadSays text k who) (sym whole.length_is) says;
+  head = head;
+  says = says;
+  size = sym told ∙ sym whole.length_is;
   input_is = whole.input_is ∙ sym (append_assoc text body rest);
   held = held;
 }
 
 -- a body was cut short
-pub part_cut : {input text who : List ℕ} {size : ℕ} → HeadSays text size who → IsCut input text size → IsPart input
-part_cut {text = text} {who = who} {size = size} says cut = in_body text cut.front who size says cut.input_is cut.short
+pub part_cut : {input text : List ℕ} {size : ℕ} {head : RequestHead} → HeadSays text head → size ≡ size_of head → IsCut input text size → IsPart input
+part_cut {text = text} {size = size} {head = head} says told cut =
+    in_body text cut.front head says cut.input_is (let short : length cut.front < size = cut.short in omega (arith, told))
 
 -- the head that is pending is refused, with nothing read
 pub refused_here : {s : LinkState} {pending : List ℕ} {why : Refusal} → IsRefused pending (rule_of why) → Takes s s pending pending (taken.Refuses why)
@@ -82,6 +84,7 @@ stops_after : (ended : Ended) (rest : List ℕ) (s t u : LinkState) → s.read_f
 stops_after Closed rest s t u le x = x
 stops_after CutShort rest s t u le x = x
 stops_after ReadFault rest s t u le x = (omega (arith, x.0), x.1)
+stops_after LastAsked rest s t u le x = x
 stops_after BadHead rest s t u le x = x
 stops_after Retired rest s t u le x = x
 stops_after WriteFault rest s t u le x = x
