@@ -96,12 +96,7 @@ fn head_with_front(
 }
 
 #[tactic(auto, unfolding(crate::specs::Shown::head_with))]
-fn head_alone(
-    alloc: Global,
-    status: u16,
-    phrase: &str,
-    size: usize,
-) -> Result<String, AllocError>
+fn head_alone(alloc: Global, status: u16, phrase: &str, size: usize) -> Result<String, AllocError>
     ensures { IfOk result (λ s. string_bytes s ≡ head_with status phrase.now size None) }
 {
     format!(in alloc;
