@@ -1,20 +1,34 @@
-ghost use Rattle.std.specs.Prelude.{◌≡◌, length, MatchOption};
-ghost use Rattle.request_head.specs.Plain.{IsNoHead};
-ghost use Rattle.request_head.specs.Judging.{IsJudged, IsWholeHead};
+ghost use Rattle.std.specs.Prelude.{◌≡◌, All, IsUtf8, length, map, MatchOption, option_map};
+ghost use Rattle.httparse.specs.Grammar.{RequestHead};
+ghost use Rattle.httparse.specs.Spans.{IsWithin, IsHeaderWithin, span_bytes, header_bytes};
+ghost use Rattle.request_head.specs.Heads.{IsNoHead};
+ghost use Rattle.request_head.specs.Says.{limit_at as spec_limit_at, caller_told as spec_caller_told, wants_length as spec_wants_length};
+ghost use Rattle.request_head.specs.Judging.{IsJudged, IsDue, Covers, IsWholeHead};
 
-use crate::PlainHead;
-use crate::plain_head::plain_head;
+use crate::caller::caller_of;
+use crate::connection::closes;
+use crate::fields::{lacks, only, only_number};
+use crate::number::Number;
+use crate::{After, Head, Method};
 use httparse::Status;
 use httparse::spans::{EMPTY_HEADER_SPAN, HeaderSpan, RequestSpans, parse_request};
 
-/// Whether bytes are the head of a request that is served.
+// The most bytes of a body, and of one that is put under `/blobs/`.
+const BODY_LIMIT: u32 = 65536;
+
+const BLOB_LIMIT: u32 = 16777216;
+
+/// What is judged of the bytes of a head.
 #[derive(Clone, Copy, Debug, PartialEq, Eq)]
 pub enum Judged<'a> {
-    /// They are no request head, or one with more than 64 fields.
+    /// They are no request head, or one with more than 64 fields, or one whose Content-Length is
+    /// not one field of 1 to 10 digits.
     Bad,
-    /// They are a head of a form that is not served.
-    NotBuilt,
-    Plain(PlainHead<'a>),
+    /// The head has a Transfer-Encoding, or its method is POST or PUT and it has no Content-Length.
+    LengthRequired,
+    /// The Content-Length is above the limit of the target.
+    TooLarge { limit: u32 },
+    Good(Head<'a>),
 }
 
 // Where the parts of the one head stand that the text is.
@@ -28,6 +42,69 @@ fn whole_head(text: &[u8], headers: &mut [HeaderSpan]) -> Option<RequestSpans>
     }
 }
 
+fn limit_at(target: &[u8]) -> u32
+    ensures { result ≡ spec_limit_at target.now }
+{
+    if target.starts_with(b"/blobs/") {
+        BLOB_LIMIT
+    } else {
+        BODY_LIMIT
+    }
+}
+
+fn wants_length(method: Method, length: Number, encoded: bool) -> bool
+    ensures { result ≡ spec_wants_length method length encoded }
+{
+    encoded || (method.has_body() && length.is_absent())
+}
+
+fn target_text(target: &[u8]) -> &str
+    requires { IsUtf8 target.now }
+    ensures { result.now ≡ target.now }
+{
+    str::from_utf8(target).unwrap()
+}
+
+fn caller_told<'a>(text: &'a [u8], headers: &[HeaderSpan]) -> Option<&'a str>
+    requires { All (IsHeaderWithin (length text.now)) headers.now }
+    ensures { option_map (λ who. who.now) result ≡ spec_caller_told (map (header_bytes text.now) headers.now) }
+{
+    let caller = only(text, headers, b"x-swarming-caller")?;
+    caller_of(caller.of(text))
+}
+
+// The answer that is due to the head that these spans cover.
+fn judge_head<'a>(text: &'a [u8], head: &RequestSpans, headers: &[HeaderSpan]) -> Judged<'a>
+    requires method { IsWithin (length text.now) head.now.method }
+    requires path { IsWithin (length text.now) head.now.path }
+    requires path_text { IsUtf8 (span_bytes text.now head.now.path) }
+    requires fields { All (IsHeaderWithin (length text.now)) headers.now }
+    ensures { (h : RequestHead) → Covers text.now head.now headers.now h → IsDue h result }
+{
+    let method = Method::named(head.method.of(text));
+    let length = only_number(text, headers, b"content-length", 10);
+    if length.is_broken() {
+        return Judged::Bad;
+    }
+    let plain = lacks(text, headers, b"transfer-encoding");
+    if wants_length(method, length, !plain) {
+        return Judged::LengthRequired;
+    }
+    let limit = limit_at(head.path.of(text));
+    let size = length.value_or_zero();
+    if size > u64::from(limit) {
+        return Judged::TooLarge { limit };
+    }
+    Judged::Good(Head {
+        method,
+        target: target_text(head.path.of(text)),
+        size: size as u32,
+        closes: closes(text, head.version, headers),
+        caller: caller_told(text, headers),
+        after: After::from_number(only_number(text, headers, b"x-swarming-after", 19)),
+    })
+}
+
 /// Judges the bytes through the end of a head. It takes no memory.
 pub fn judge(text: &[u8]) -> Judged<'_>
     ensures { IsJudged text.now result }
@@ -36,8 +113,5 @@ pub fn judge(text: &[u8]) -> Judged<'_>
     let Some(head) = whole_head(text, &mut headers) else {
         return Judged::Bad;
     };
-    match plain_head(text, &head, &headers[..head.headers]) {
-        Some(plain) => Judged::Plain(plain),
-        None => Judged::NotBuilt,
-    }
+    judge_head(text, &head, &headers[..head.headers])
 }

@@ -74,4 +74,4 @@ abbrev pub meaning : Settings → RequestHead → List ℕ → Result Meant Rule
 meaning settings head body =
     then (routed (route_of head.target) (method_of head)) (λ route.
     then (called_by (caller_of head)) (λ who.
-    then (with_front (after_of head) (asked_of settings.pools route body)) (meant_by who)))
+    then (with_front (after_of head) (asked_of settings route body)) (meant_by who)))

@@ -114,8 +114,8 @@ fn read_asked(
     body: &[u8],
 ) -> Result<Asked, Shown>
     requires { AreOpen settings.now }
-    ensures asks { IfOk result (λ asked. with_front after (asked_of settings.now.pools route body.now) ≡ Ok asked) }
-    ensures refused { IfErr result (λ shown. IsEarly shown (with_front after (asked_of settings.now.pools route body.now))) }
+    ensures asks { IfOk result (λ asked. with_front after (asked_of settings.now route body.now) ≡ Ok asked) }
+    ensures refused { IfErr result (λ shown. IsEarly shown (with_front after (asked_of settings.now route body.now))) }
     ensures fits { IfOk result (λ asked. IsSomeAnd (slice_get settings.now.pools asked.place) (λ pool. IsTrue (fits pool asked.request))) }
     ensures place { IfOk result (λ asked. asked.place < 4) }
 {
