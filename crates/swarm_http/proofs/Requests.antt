@@ -1,5 +1,7 @@
 -- The head at the front of what is pending, and what stands behind it.
-use Rattle.std.proofs.Common.{◌≡◌, ℕ, ◌+◌, ◌-◌, ◌<◌, ◌≤◌, None, List, [], ◌++◌, length, take, arith, sym, ap, ◌∙◌, subst, append_assoc, append-nil, Some}
+use Rattle.std.specs.Prelude.{◌⊎◌, if◌then◌else◌, not, nat_le, nat_eq, codes}
+use Rattle.std.specs.List.{starts_with}
+use Rattle.std.proofs.Common.{inl, inr, refl, Bool, true, false, ◌≡◌, ℕ, ◌+◌, ◌-◌, ◌<◌, ◌≤◌, None, List, [], ◌++◌, length, take, arith, sym, ap, ◌∙◌, subst, append_assoc, append-nil, Some}
 use Rattle.std.proofs.lemmas.List.{get_or-take, length-take-le}
 use Rattle.httparse.specs.Grammar.{RequestHead}
 use Rattle.memchr.specs.Find.{OccursAt}
@@ -8,8 +10,13 @@ use Rattle.sw_base.proofs.Moving.{Moves-refl, Moves-trans}
 use Rattle.link_reader.specs.Heads.{blank_line, IsHeadEnd, Grows}
 use Rattle.link_reader.specs.Bodies.{IsWhole, IsCut}
 use Rattle.link_reader.specs.declared.pending.TheConstants.{HEAD_LIMIT}
-use Rattle.request_head.specs.Heads.{IsHead}
-use Rattle.request_head.specs.Says.{HeadRefusal, too_large, head_refusal, size_of, limit_at}
+use Rattle.request_head.specs.Heads.{IsHead, IsNoHead}
+use Rattle.request_head.specs.Fields.{lacks}
+use Rattle.request_head.specs.Numbers.{is_broken, value_or_zero}
+use Rattle.request_head.specs.Says.{bad, length_required, too_large, head_refusal, size_of, limit_at, fields_of, length_told, wants_length, method_named}
+use Rattle.request_head.specs.Judging.{IsJudgedHead}
+use Rattle.request_head.specs.declared.judged.Judged.TheVariants as judged
+use Rattle.swarm_model.specs.declared.rule.Rule.TheVariants as rule
 use Rattle.swarm_http.specs.declared.ended.Ended.{Ended}
 use Rattle.swarm_http.specs.declared.ended.Ended.TheVariants.{Closed, LastAsked, CutShort, BadHead, Retired, ReadFault, WriteFault, Memory}
 use Rattle.swarm_http.specs.declared.reply.Refusal.{Refusal}
@@ -17,9 +24,9 @@ use Rattle.swarm_http.specs.declared.request.Received.{Received}
 use Rattle.swarm_http.specs.declared.request.Taken.{Taken}
 use Rattle.swarm_http.specs.declared.request.Taken.TheVariants as taken
 use Rattle.swarm_http.specs.Exchange.{HeadSays}
-use Rattle.swarm_http.specs.Answered.{IsPart, in_body, IsRefused}
+use Rattle.swarm_http.specs.Answered.{IsPart, in_body, IsRefused, no_head, refused}
 use Rattle.swarm_http.specs.Sends.{rule_of}
-use Rattle.swarm_http.specs.Takes.{IsHeld, IsReceived, StopsAs, IsTaken, Takes}
+use Rattle.swarm_http.specs.Takes.{IsLimit, IsHeld, IsReceived, StopsAs, IsTaken, Takes}
 
 occurs_in_front : (bytes : List ℕ) (n k : ℕ) → n ≤ length bytes → k + 4 ≤ n → OccursAt bytes blank_line k → OccursAt (take n bytes) blank_line k
 occurs_in_front bytes n k le fits at = record {
@@ -75,6 +82,37 @@ received_whole {text = text} {rest = rest} {body = body} {head = head} says told
 pub part_cut : {input text : List ℕ} {size : ℕ} {head : RequestHead} → HeadSays text head → size ≡ size_of head → IsCut input text size → IsPart input
 part_cut {text = text} {size = size} {head = head} says told cut =
     in_body text cut.front head says cut.input_is (let short : length cut.front < size = cut.short in omega (arith, told))
+
+-- the bytes through the first blank line are no head, or one that says so
+pub bad_refused : (pending : List ℕ) (n : ℕ) → IsHeadEnd pending n → IsNoHead (take n pending) ⊎ IsJudgedHead (take n pending) judged.Bad → IsRefused pending rule.BadHead
+bad_refused pending n end (inl none) = no_head n refl end none
+bad_refused pending n end (inr h) = refused n h.head bad refl end h.is_head h.due
+
+pub length_refused : (pending : List ℕ) (n : ℕ) → IsHeadEnd pending n → IsJudgedHead (take n pending) judged.LengthRequired → IsRefused pending rule.LengthRequired
+length_refused pending n end h = refused n h.head length_required refl end h.is_head h.due
+
+pub size_refused : (pending : List ℕ) (n limit : ℕ) → IsHeadEnd pending n → IsJudgedHead (take n pending) (judged.TooLarge limit) → IsRefused pending (rule.TooLarge limit)
+size_refused pending n limit end h = refused n h.head (too_large limit) refl end h.is_head h.due
+
+refusal_limit : (broken wants fits : Bool) (at limit : ℕ)
+    → (if broken then Some bad else (if wants then Some length_required else (if fits then None else Some (too_large at)))) ≡ Some (too_large limit) → at ≡ limit
+refusal_limit true wants fits at limit e = absurd (cc)
+refusal_limit false true fits at limit e = absurd (cc)
+refusal_limit false false true at limit e = absurd (cc)
+refusal_limit false false false at limit e = cc
+
+one_of_limits : (blob : Bool) → IsLimit (if blob then 16777216 else 65536)
+one_of_limits true = inr refl
+one_of_limits false = inl refl
+
+-- there are two limits
+pub limit_is : (h : RequestHead) (limit : ℕ) → head_refusal h ≡ Some (too_large limit) → IsLimit limit
+unfolding head_refusal
+limit_is h limit e =
+    subst IsLimit
+    (refusal_limit (is_broken (length_told (fields_of h))) (wants_length (method_named h.method) (length_told (fields_of h)) (not (lacks (codes "transfer-encoding") (fields_of h))))
+    (nat_le (value_or_zero (length_told (fields_of h))) (limit_at h.target)) (limit_at h.target) limit e)
+    (one_of_limits (starts_with nat_eq h.target (codes "/blobs/")))
 
 -- the head that is pending is refused, with nothing read
 pub refused_here : {s : LinkState} {pending : List ℕ} {why : Refusal} → IsRefused pending (rule_of why) → Takes s s pending pending (taken.Refuses why)

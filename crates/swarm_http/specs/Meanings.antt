@@ -1,5 +1,5 @@
 -- What a request asks, or why it is refused before any pool is asked.
-use Rattle.std.specs.Prelude.{ℕ, List, Option, Some, None, Result, Ok, Err, codes}
+use Rattle.std.specs.Prelude.{ℕ, Bool, true, false, List, Option, Some, None, Result, Ok, Err, codes}
 use Rattle.httparse.specs.Grammar.{RequestHead}
 use Rattle.request_head.specs.declared.method.Method.{Method}
 use Rattle.request_head.specs.declared.method.Method.TheVariants.{Get, Post, Put, Other}
@@ -23,7 +23,14 @@ abbrev pub then : {A B : Type 0} → Result A Rule → (A → Result B Rule) →
 then (Ok value) next = next value
 then (Err why) next = Err why
 
--- the route of the target, by its method; every route is one of POST
+-- every route is one of POST
+abbrev pub is_post : Method → Bool
+is_post Post = true
+is_post Get = false
+is_post Put = false
+is_post Other = false
+
+-- the route of the target, by its method
 abbrev pub routed : Option Route → Method → Result Route Rule
 routed None method = Err rule.NoRoute
 routed (Some route) Post = Ok route

@@ -5,7 +5,7 @@ ghost use Rattle.request_head.specs.Says.{after_of};
 ghost use Rattle.swarm_model.specs.Fits.{fits};
 ghost use Rattle.swarm_model.specs.Settings.{AreOpen};
 ghost use Rattle.swarm_wire.specs.Asking.{asked_of};
-ghost use Rattle.swarm_http.specs.Meanings.{front_of, unless_broken, with_front, meant_by, meaning};
+ghost use Rattle.swarm_http.specs.Meanings.{front_of, unless_broken, with_front, meant_by, meaning, is_post};
 ghost use Rattle.swarm_http.specs.Outcomes.{stop_rule};
 ghost use Rattle.swarm_http.specs.Sends.{rule_of};
 ghost use Rattle.swarm_http.specs.Takes.{IsHeld};
@@ -28,6 +28,15 @@ fn stop_refusal(why: CallFault) -> Refusal
     match why {
         CallFault::Memory => Refusal::WantOfMemory,
         CallFault::LogFull => Refusal::LogFull,
+    }
+}
+
+fn is_post(method: Method) -> bool
+    ensures { result ≡ is_post method }
+{
+    match method {
+        Method::Post => true,
+        Method::Get | Method::Put | Method::Other => false,
     }
 }
 
@@ -147,9 +156,8 @@ pub fn answer_request<D: Door, C: Clock>(
     let Some(route) = received.said.route else {
         return Shown::Refused(Refusal::NoRoute);
     };
-    match received.said.method {
-        Method::Post => {}
-        Method::Get | Method::Put | Method::Other => return Shown::Refused(Refusal::BadMethod),
+    if !is_post(received.said.method) {
+        return Shown::Refused(Refusal::BadMethod);
     }
     let who = match received.said.who {
         Who::Named(who) => who,
