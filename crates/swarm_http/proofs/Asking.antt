@@ -11,10 +11,14 @@ use Rattle.swarm_wire.specs.declared.route.Route.{Route}
 use Rattle.swarm_wire.specs.declared.asked.Asked.{Asked}
 use Rattle.swarm_wire.specs.Routes.{route_of}
 use Rattle.swarm_wire.specs.Asking.{asked_of}
-use Rattle.swarm_history.specs.Doors.{Logs}
+use Rattle.swarm_history.specs.declared.door.Answered.{Answered}
+use Rattle.swarm_history.specs.declared.door.CallFault.{CallFault}
+use Rattle.swarm_history.specs.Doors.{Logs, Elsewhere, IsPoolCall}
+use Rattle.request_head.specs.declared.after.After.{After}
+use Rattle.std.specs.Prelude.{IsSomeAnd, slice_get}
 use Rattle.swarm_http.specs.declared.reply.Shown.{Shown}
-use Rattle.swarm_http.specs.Meanings.{Meant, then, routed, called_by, with_front, meant_by, meaning, is_post}
-use Rattle.swarm_http.specs.Outcomes.{early, unheld}
+use Rattle.swarm_http.specs.Meanings.{Meant, then, routed, called_by, with_front, meant_by, meaning, is_post, front_of}
+use Rattle.swarm_http.specs.Outcomes.{early, unheld, IsCalled}
 use Rattle.swarm_http.specs.Shown.{refusal}
 use Rattle.swarm_http.specs.Sends.{text_of}
 use Rattle.swarm_http.specs.Steps.{Answers, IsEarly, told, untold}
@@ -48,6 +52,12 @@ pub body_left : (settings : Settings) (head : RequestHead) (body : List ℕ) (ro
     → caller_of head ≡ Some who → meaning settings head body ≡ then (with_front (after_of head) (asked_of settings route body)) (meant_by who)
 body_left settings head body route who e m c = rw (e, posted route (method_of head) m, c) refl
 
+-- a body that asks something
+pub body_asks : (settings : Settings) (head : RequestHead) (body items : List ℕ) (route : Route) (who : List ℕ) (after : After) (asked : Asked) → route_of head.target ≡ Some route → is_post (method_of head) ≡ true
+    → caller_of head ≡ Some who → after ≡ after_of head → items ≡ body → with_front after (asked_of settings route items) ≡ Ok asked → meaning settings head body ≡ meant_by who asked
+body_asks settings head body items route who after asked e m c same is asks =
+    body_left settings head body route who e m c ∙ ap (λ (r : Result Asked Rule). then r (meant_by who)) (rw (same, is) at asks)
+
 -- a request that was refused before any call
 pub refused_early : (settings : Settings) (numbers : ℕ → ℕ) (head : RequestHead) (body : List ℕ) (a : ℕ → Option (List ℕ)) (old : Logs) (shown : Shown) (why : Rule)
     → meaning settings head body ≡ Err why → text_of shown ≡ refusal None why → Answers settings numbers head body a a old old shown
@@ -65,3 +75,15 @@ pub body_refused : (settings : Settings) (numbers : ℕ → ℕ) (head : Request
 body_refused settings numbers head body who a old shown asked means (told why e text) =
     refused_early settings numbers head body a old shown why (means ∙ ap (λ (r : Result Asked Rule). then r (meant_by who)) e) text
 body_refused settings numbers head body who a old shown asked means (untold text) = not_held settings numbers head body a old shown text
+
+-- the pool of a request was called for it
+pub is_called : (settings : Settings) (numbers : ℕ → ℕ) (head : RequestHead) (body who : List ℕ) (asked : Asked) (moment : ℕ) (after : After) (front : Option ℕ) (result : Result Answered CallFault) (old new : Logs)
+    → after ≡ after_of head → front ≡ front_of after → meaning settings head body ≡ meant_by who asked
+    → IsSomeAnd (slice_get settings.pools asked.place) (λ pool. IsPoolCall pool (numbers asked.place) (old asked.place) (new asked.place) who moment front asked.request result)
+    → Elsewhere asked.place old new → IsCalled settings numbers head body (record { who = who; asked = asked }) moment result old new
+is_called settings numbers head body who asked moment after front result old new same seen means call elsewhere = record {
+  means = means;
+  call = subst (λ (f : Option ℕ). IsSomeAnd (slice_get settings.pools asked.place) (λ pool. IsPoolCall pool (numbers asked.place) (old asked.place) (new asked.place) who moment f asked.request result))
+      (seen ∙ ap front_of same) call;
+  elsewhere = elsewhere;
+}

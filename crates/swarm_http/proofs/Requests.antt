@@ -24,7 +24,7 @@ use Rattle.swarm_http.specs.declared.request.Received.{Received}
 use Rattle.swarm_http.specs.declared.request.Taken.{Taken}
 use Rattle.swarm_http.specs.declared.request.Taken.TheVariants as taken
 use Rattle.swarm_http.specs.Exchange.{HeadSays}
-use Rattle.swarm_http.specs.Answered.{IsPart, in_body, IsRefused, no_head, refused}
+use Rattle.swarm_http.specs.Answered.{IsPart, in_body, IsRefused, no_head, by_head}
 use Rattle.swarm_http.specs.Sends.{rule_of}
 use Rattle.swarm_http.specs.Takes.{IsLimit, IsHeld, IsReceived, StopsAs, IsTaken, Takes}
 
@@ -86,13 +86,13 @@ part_cut {text = text} {size = size} {head = head} says told cut =
 -- the bytes through the first blank line are no head, or one that says so
 pub bad_refused : (pending : List ℕ) (n : ℕ) → IsHeadEnd pending n → IsNoHead (take n pending) ⊎ IsJudgedHead (take n pending) judged.Bad → IsRefused pending rule.BadHead
 bad_refused pending n end (inl none) = no_head n refl end none
-bad_refused pending n end (inr h) = refused n h.head bad refl end h.is_head h.due
+bad_refused pending n end (inr h) = by_head n h.head bad refl end h.is_head h.due
 
 pub length_refused : (pending : List ℕ) (n : ℕ) → IsHeadEnd pending n → IsJudgedHead (take n pending) judged.LengthRequired → IsRefused pending rule.LengthRequired
-length_refused pending n end h = refused n h.head length_required refl end h.is_head h.due
+length_refused pending n end h = by_head n h.head length_required refl end h.is_head h.due
 
 pub size_refused : (pending : List ℕ) (n limit : ℕ) → IsHeadEnd pending n → IsJudgedHead (take n pending) (judged.TooLarge limit) → IsRefused pending (rule.TooLarge limit)
-size_refused pending n limit end h = refused n h.head (too_large limit) refl end h.is_head h.due
+size_refused pending n limit end h = by_head n h.head (too_large limit) refl end h.is_head h.due
 
 refusal_limit : (broken wants fits : Bool) (at limit : ℕ)
     → (if broken then Some bad else (if wants then Some length_required else (if fits then None else Some (too_large at)))) ≡ Some (too_large limit) → at ≡ limit

@@ -46,7 +46,7 @@ head_rule (too_large limit) = rule.TooLarge limit
 pub data IsRefused (rest : List ℕ) (why : Rule) : Type 0 where
   too_long : why ≡ rule.BadHead → IsTooLong rest → IsRefused rest why
   no_head : (n : ℕ) → why ≡ rule.BadHead → IsHeadEnd rest n → IsNoHead (take n rest) → IsRefused rest why
-  refused : (n : ℕ) (head : RequestHead) (cause : HeadRefusal) → why ≡ head_rule cause → IsHeadEnd rest n → IsHead (take n rest) head → head_refusal head ≡ Some cause
+  by_head : (n : ℕ) (head : RequestHead) (cause : HeadRefusal) → why ≡ head_rule cause → IsHeadEnd rest n → IsHead (take n rest) head → head_refusal head ≡ Some cause
       → IsRefused rest why
 
 -- no request asks to close the connection

@@ -1,9 +1,11 @@
 //! Answering a request.
-ghost use Rattle.std.specs.Prelude.{◌≡◌, ◌<◌, ◌^◌, ℕ, List, Ok, Err, IsTrue, IsSomeAnd, IfOk, IfErr, length, slice_get};
+ghost use Rattle.std.specs.Prelude.{◌≡◌, ◌≢◌, ◌<◌, ◌^◌, ℕ, List, Result, Ok, Err, IsTrue, IsSomeAnd, IfOk, IfErr, length, slice_get};
 ghost use Rattle.httparse.specs.Grammar.{RequestHead};
 ghost use Rattle.request_head.specs.Says.{after_of};
 ghost use Rattle.swarm_model.specs.Fits.{fits};
 ghost use Rattle.swarm_model.specs.Settings.{AreOpen};
+ghost use Rattle.swarm_wire.specs.declared.asked.Asked.{Asked};
+ghost use Rattle.swarm_wire.specs.declared.asked.WireFault.{WireFault};
 ghost use Rattle.swarm_wire.specs.Asking.{asked_of};
 ghost use Rattle.swarm_http.specs.Meanings.{front_of, unless_broken, with_front, meant_by, meaning, is_post};
 ghost use Rattle.swarm_http.specs.Outcomes.{stop_rule};
@@ -13,7 +15,7 @@ ghost use Rattle.swarm_http.specs.Answered.{KeepsDoor};
 ghost use Rattle.swarm_http.specs.Steps.{Answers, IsEarly};
 
 use crate::reply::{Refusal, Shown, field_refusal, whole_reply};
-use crate::request::{Received, Who};
+use crate::request::{Received, Said, Who};
 use dimensions::Text;
 use request_head::{After, Method};
 use std::alloc::Global;
@@ -99,7 +101,7 @@ fn unless_broken(after: After, why: Refusal) -> Refusal
 }
 
 fn shown_fault(alloc: Global, after: After, fault: WireFault) -> Shown
-    ensures { IsEarly result (with_front after (Err fault)) }
+    ensures { (asked : Result Asked WireFault) → (fault ≢ WireFault.Memory → asked ≡ Err fault) → IsEarly result (with_front after asked) }
 {
     match fault {
         WireFault::Memory => Shown::Refused(Refusal::WantOfMemory),
@@ -133,7 +135,6 @@ fn read_asked(
             After::Broken => Err(Shown::Refused(Refusal::FrontBroken)),
             After::Absent | After::Front(_) => Ok(asked),
         },
-        Err(WireFault::Memory) => Err(Shown::Refused(Refusal::WantOfMemory)),
         Err(fault) => Err(shown_fault(alloc, after, fault)),
     }
 }
@@ -153,22 +154,30 @@ pub fn answer_request<D: Door, C: Clock>(
         Answers settings.now (D.state door.old).numbers head body (C.ahead clock.old) (C.ahead clock.new) (D.state door.old).seen (D.state door.new).seen result }
     ensures door { KeepsDoor 1 (D.state door.old) (D.state door.new) }
 {
-    let Some(route) = received.said.route else {
+    let Received { said, body } = received;
+    let Said {
+        route,
+        method,
+        who,
+        after,
+        closes: _,
+    } = said;
+    let Some(route) = route else {
         return Shown::Refused(Refusal::NoRoute);
     };
-    if !is_post(received.said.method) {
+    if !is_post(method) {
         return Shown::Refused(Refusal::BadMethod);
     }
-    let who = match received.said.who {
+    let who = match who {
         Who::Named(who) => who,
         Who::Unnamed => return Shown::Refused(Refusal::NoCaller),
         Who::Unheld => return Shown::Refused(Refusal::WantOfMemory),
     };
-    let Some(body) = received.body else {
+    let Some(body) = body else {
         return Shown::Refused(Refusal::WantOfMemory);
     };
-    match read_asked(alloc, settings, route, received.said.after, &body) {
-        Ok(asked) => call_door(alloc, &who, received.said.after, &asked, door, clock),
+    match read_asked(alloc, settings, route, after, &body) {
+        Ok(asked) => call_door(alloc, &who, after, &asked, door, clock),
         Err(shown) => shown,
     }
 }

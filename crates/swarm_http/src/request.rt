@@ -56,7 +56,7 @@ pub enum Taken {
 }
 
 fn held_caller(alloc: Global, caller: Option<&str>) -> Who
-    ensures { IsWho result (option_map (λ c. c.now) caller) }
+    ensures { IsWho result (option_map (λ c. c.now) caller.entry) }
 {
     match caller {
         None => Who::Unnamed,
