@@ -1,5 +1,5 @@
 -- What the code's loops and spans say of a head.
-use Rattle.std.proofs.Common.{◌≡◌, ℕ, ◌+◌, ◌-◌, ◌*◌, ◌^◌, ◌<◌, ◌≤◌, true, false, Bool, ◌&&◌, ◌||◌, not, nat_le, codes, option_map, Option, Some, None, refl, sym, inr, arith, List, [], ◌∷◌, ◌++◌, length, take, map, get_or, ap, ◌∙◌, append-nil, lit<}
+use Rattle.std.proofs.Common.{◌≡◌, ℕ, ◌+◌, ◌-◌, ◌*◌, ◌^◌, ◌<◌, ◌≤◌, true, false, Bool, ◌&&◌, ◌||◌, not, codes, option_map, Option, refl, sym, inr, arith, List, [], ◌∷◌, ◌++◌, length, take, map, get_or, ap, ◌∙◌, append-nil, lit<}
 use Rattle.std.specs.List.{list_all, list_any}
 use Rattle.std.specs.Int.{IsInRange}
 use Rattle.std.proofs.lemmas.Bool.{false≢true}
@@ -25,9 +25,9 @@ use Rattle.httparse.specs.declared.spans.RequestSpans.{RequestSpans}
 use Rattle.request_head.specs.declared.method.Method.{Method}
 use Rattle.request_head.specs.declared.number.Number.{Number}
 use Rattle.request_head.specs.Fields.{named, if_named, lacks}
-use Rattle.request_head.specs.Numbers.{is_broken, value_or_zero}
-use Rattle.request_head.specs.Says.{is_visible, is_caller, is_closing, method_named, length_told, limit_at, wants_length, closes, caller_told, after_told, fields_of, method_of, size_of, closes_of, caller_of, after_of, HeadRefusal, bad, length_required, too_large, refusal, head_refusal}
-use Rattle.request_head.specs.Judging.{Covers, Says, IsWholeHead, IsJudged, IsJudgedHead}
+use Rattle.request_head.specs.Numbers.{value_or_zero}
+use Rattle.request_head.specs.Says.{is_visible, is_caller, is_closing, method_named, length_told, limit_at, closes, caller_told, after_told, fields_of, method_of, size_of, closes_of, caller_of, after_of, HeadRefusal, refusal, head_refusal}
+use Rattle.request_head.specs.Judging.{Covers, Says, IsWholeHead, IsJudged, IsJudgedHead, IsDue, Refuses}
 use Rattle.request_head.specs.declared.judged.Judged.{Judged}
 use Rattle.request_head.specs.declared.judged.Judged.TheVariants.{Bad, LengthRequired, TooLarge, Good}
 use Rattle.request_head.specs.declared.head.Head.{Head}
@@ -117,26 +117,6 @@ refusal_read {text = text} {r = r} {headers = headers} {h = h} covers method tol
     ∙ ap (λ x. refusal method told (not x) (limit_at h.target)) e
     ∙ ap (λ x. refusal method told (not none) x) t
 
--- each refusal, and none, where it is due
-pub refused_bad : (method : Method) (told : Number) (encoded : Bool) (limit : ℕ) → is_broken told ≡ true → refusal method told encoded limit ≡ Some bad
-refused_bad method told encoded limit broken = rw broken refl
-
-pub refused_length : (method : Method) (told : Number) (encoded : Bool) (limit : ℕ) → is_broken told ≡ false
-    → wants_length method told encoded ≡ true → refusal method told encoded limit ≡ Some length_required
-refused_length method told encoded limit sound wanted = rw (sound, wanted) refl
-
-pub refused_large : (method : Method) (told : Number) (encoded : Bool) (limit : ℕ) → is_broken told ≡ false
-    → wants_length method told encoded ≡ false → limit < value_or_zero told → refusal method told encoded limit ≡ Some (too_large limit)
-refused_large method told encoded limit sound sized above =
-    let large : nat_le (value_or_zero told) limit ≡ false = grind (arith, nat_tests) in
-    rw (sound, sized, large) refl
-
-pub not_refused : (method : Method) (told : Number) (encoded : Bool) (limit : ℕ) → is_broken told ≡ false
-    → wants_length method told encoded ≡ false → value_or_zero told ≤ limit → refusal method told encoded limit ≡ None
-not_refused method told encoded limit sound sized within =
-    let small : nat_le (value_or_zero told) limit ≡ true = grind (arith, nat_tests) in
-    rw (sound, sized, small) refl
-
 -- what the head says, by what was read of the spans that cover it
 pub says_read : {text : List ℕ} {r : RequestSpans} {headers : List HeaderSpan} {h : RequestHead} → Covers text r headers h → (head : Head)
     → head.method ≡ method_named (span_bytes text r.method) → head.target.now ≡ span_bytes text r.path
@@ -163,3 +143,10 @@ judged_head text Bad judged = inr judged
 judged_head text LengthRequired judged = judged
 judged_head text (TooLarge limit) judged = judged
 judged_head text (Good head) judged = judged
+
+-- a refusal is due where it is the head's
+pub due_refused : (h : RequestHead) (why : Option HeadRefusal) (answer : Judged) → head_refusal h ≡ why → Refuses why answer → IsDue h answer
+due_refused h why Bad same refuses = same ∙ refuses
+due_refused h why LengthRequired same refuses = same ∙ refuses
+due_refused h why (TooLarge limit) same refuses = same ∙ refuses
+due_refused h why (Good head) same refuses = absurd refuses

@@ -1,5 +1,5 @@
 -- What is judged of a text.
-use Rattle.std.specs.Prelude.{◌≡◌, ◌⊎◌, ℕ, ◌≤◌, List, [], ◌∷◌, length, map, Some, None, option_map}
+use Rattle.std.specs.Prelude.{◌≡◌, ◌⊎◌, ℕ, ◌≤◌, List, [], ◌∷◌, length, map, Option, Some, None, option_map}
 use Rattle.httparse.specs.Grammar.{RequestHead}
 use Rattle.httparse.specs.Spans.{span_bytes, IsWithin, IsRequestAt, IsRequestWithin, header_bytes}
 use Rattle.httparse.specs.declared.spans.HeaderSpan.{HeaderSpan}
@@ -27,11 +27,18 @@ pub record Says (h : RequestHead) (head : Head) : Type 0 where
   pub caller : option_map (λ c. c.now) head.caller ≡ caller_of h
   pub after : head.after ≡ after_of h
 
+-- the answer is a refusal, and this one
+abbrev pub Refuses : Option HeadRefusal → Judged → Type 0
+Refuses why Bad = why ≡ Some bad
+Refuses why LengthRequired = why ≡ Some length_required
+Refuses why (TooLarge limit) = why ≡ Some (too_large limit)
+Refuses why (Good head) = ⊥
+
 -- the answer that is due to a head
 abbrev pub IsDue : RequestHead → Judged → Type 0
-IsDue h Bad = head_refusal h ≡ Some bad
-IsDue h LengthRequired = head_refusal h ≡ Some length_required
-IsDue h (TooLarge limit) = head_refusal h ≡ Some (too_large limit)
+IsDue h Bad = Refuses (head_refusal h) Bad
+IsDue h LengthRequired = Refuses (head_refusal h) LengthRequired
+IsDue h (TooLarge limit) = Refuses (head_refusal h) (TooLarge limit)
 IsDue h (Good head) = (head_refusal h ≡ None) × Says h head
 
 -- the text is a head, and the answer is due to it; the head is one alone, by the grammar's law `request_unique`

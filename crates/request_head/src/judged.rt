@@ -1,9 +1,10 @@
-ghost use Rattle.std.specs.Prelude.{◌≡◌, All, IsUtf8, length, map, MatchOption, option_map};
+ghost use Rattle.std.specs.Prelude.{◌≡◌, All, IsUtf8, length, map, MatchOption, MatchResult, option_map};
 ghost use Rattle.httparse.specs.Grammar.{RequestHead};
 ghost use Rattle.httparse.specs.Spans.{IsWithin, IsHeaderWithin, span_bytes, header_bytes};
 ghost use Rattle.request_head.specs.Heads.{IsNoHead};
-ghost use Rattle.request_head.specs.Says.{limit_at as spec_limit_at, caller_told as spec_caller_told, wants_length as spec_wants_length};
-ghost use Rattle.request_head.specs.Judging.{IsJudged, IsDue, Covers, IsWholeHead};
+ghost use Rattle.request_head.specs.Says.{limit_at as spec_limit_at, caller_told as spec_caller_told, refusal};
+ghost use Rattle.request_head.specs.Numbers.{value_or_zero};
+ghost use Rattle.request_head.specs.Judging.{IsJudged, IsDue, Refuses, Covers, IsWholeHead};
 
 use crate::caller::caller_of;
 use crate::connection::closes;
@@ -52,12 +53,6 @@ fn limit_at(target: &[u8]) -> u32
     }
 }
 
-fn wants_length(method: Method, length: Number, encoded: bool) -> bool
-    ensures { result ≡ spec_wants_length method length encoded }
-{
-    encoded || (method.has_body() && length.is_absent())
-}
-
 fn target_text(target: &[u8]) -> &str
     requires { IsUtf8 target.now }
     ensures { result.now ≡ target.now }
@@ -73,6 +68,30 @@ fn caller_told<'a>(text: &'a [u8], headers: &[HeaderSpan]) -> Option<&'a str>
     caller_of(caller.of(text))
 }
 
+// The bytes of the body, or the refusal that is due.
+fn body_size<'a>(
+    method: Method,
+    length: Number,
+    encoded: bool,
+    limit: u32,
+) -> Result<u32, Judged<'a>>
+    ensures { MatchResult result
+        (λ size. (refusal method length encoded limit ≡ None) × (size ≡ value_or_zero length))
+        (λ answer. Refuses (refusal method length encoded limit) answer) }
+{
+    if length.is_broken() {
+        return Err(Judged::Bad);
+    }
+    if encoded || (method.has_body() && length.is_absent()) {
+        return Err(Judged::LengthRequired);
+    }
+    let size = length.value_or_zero();
+    if size > u64::from(limit) {
+        return Err(Judged::TooLarge { limit });
+    }
+    Ok(size as u32)
+}
+
 // The answer that is due to the head that these spans cover.
 fn judge_head<'a>(text: &'a [u8], head: &RequestSpans, headers: &[HeaderSpan]) -> Judged<'a>
     requires method { IsWithin (length text.now) head.now.method }
@@ -82,27 +101,21 @@ fn judge_head<'a>(text: &'a [u8], head: &RequestSpans, headers: &[HeaderSpan]) -
     ensures { (h : RequestHead) → Covers text.now head.now headers.now h → IsDue h result }
 {
     let method = Method::named(head.method.of(text));
+    let target = target_text(head.path.of(text));
     let length = only_number(text, headers, b"content-length", 10);
-    if length.is_broken() {
-        return Judged::Bad;
-    }
     let plain = lacks(text, headers, b"transfer-encoding");
-    if wants_length(method, length, !plain) {
-        return Judged::LengthRequired;
+    let limit = limit_at(target.as_bytes());
+    match body_size(method, length, !plain, limit) {
+        Ok(size) => Judged::Good(Head {
+            method,
+            target,
+            size,
+            closes: closes(text, head.version, headers),
+            caller: caller_told(text, headers),
+            after: After::from_number(only_number(text, headers, b"x-swarming-after", 19)),
+        }),
+        Err(refused) => refused,
     }
-    let limit = limit_at(head.path.of(text));
-    let size = length.value_or_zero();
-    if size > u64::from(limit) {
-        return Judged::TooLarge { limit };
-    }
-    Judged::Good(Head {
-        method,
-        target: target_text(head.path.of(text)),
-        size: size as u32,
-        closes: closes(text, head.version, headers),
-        caller: caller_told(text, headers),
-        after: After::from_number(only_number(text, headers, b"x-swarming-after", 19)),
-    })
 }
 
 /// Judges the bytes through the end of a head. It takes no memory.
@@ -110,8 +123,8 @@ pub fn judge(text: &[u8]) -> Judged<'_>
     ensures { IsJudged text.now result }
 {
     let mut headers = [EMPTY_HEADER_SPAN; 64];
-    let Some(head) = whole_head(text, &mut headers) else {
-        return Judged::Bad;
-    };
-    judge_head(text, &head, &headers[..head.headers])
+    match whole_head(text, &mut headers) {
+        Some(head) => judge_head(text, &head, &headers[..head.headers]),
+        None => Judged::Bad,
+    }
 }

@@ -1,8 +1,8 @@
 use Rattle.request_head.proofs.HeadLemmas.{covers_whole, judged_head}
 use Rattle.request_head.proofs.judged.judge.Goals as goal
 
-pub returns : goal.returns
-returns c =
+pub returns-in-Some : goal.returns-in-Some
+returns-in-Some c =
     let w = c.in-Some.ensures in
     judged_head c.args.text.now c.judge_head.result (record {
       head = w.head;
