@@ -4,6 +4,8 @@ use std::alloc::{AllocError, Global};
 use std::test::Fail;
 use swarm_http::{MemoryLink, StepClock};
 
+mod bodies;
+mod limits;
 mod turns;
 
 const PATH: &str = "/prpc/swarming.v2.Tasks/NewTask";
@@ -19,6 +21,9 @@ const NOT_BUILT_TASK: &str =
 
 const NOT_BUILT_HEAD: &str =
     "HTTP/1.1 501 Not Implemented\r\nContent-Length: 34\r\nContent-Type: application/json\r\n\r\n{\"code\":\"not_built\",\"what\":\"head\"}";
+
+const OUT_OF_RANGE: &str =
+    "HTTP/1.1 400 Bad Request\r\nContent-Length: 75\r\nContent-Type: application/json\r\n\r\n{\"code\":\"bad_field\",\"field\":\"task_slices.0.expiration_secs\",\"rule\":\"range\"}";
 
 const BAD_HEAD: &str =
     "HTTP/1.1 400 Bad Request\r\nContent-Length: 19\r\nContent-Type: application/json\r\n\r\n{\"code\":\"bad_head\"}";
@@ -95,10 +100,10 @@ fn requests_one_after_another(rt: HostRuntime) -> Result<(), Fail> {
     }
     let mut expected = pending(alloc, 1, "10")?;
     expected.push_str(pending(alloc, 2, "20")?.as_str())?;
-    expected.push_str(NOT_BUILT_TASK)?;
-    expected.push_str(NOT_BUILT_TASK)?;
-    expected.push_str(NOT_BUILT_TASK)?;
+    expected.push_str(OUT_OF_RANGE)?;
+    expected.push_str(OUT_OF_RANGE)?;
     expected.push_str(pending(alloc, 3, "30")?.as_str())?;
+    expected.push_str(pending(alloc, 4, "40")?.as_str())?;
     let ran = run_over(alloc, input.as_slice(), 1000, &[])?;
     assert_eq!(rt; ran.status, 0);
     assert_eq!(rt; ran.link.output(), expected.as_bytes());
