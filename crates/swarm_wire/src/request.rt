@@ -76,7 +76,7 @@ fn ask_value(
 }
 
 /// What the body of a call asks for: a request to one of the pools of the settings.
-#[tactic(auto, using(crate::proofs::Fitting::open_few, crate::proofs::Fitting::place_low), unfolding(crate::specs::Asking::asked_of))]
+#[tactic(auto, using(crate::proofs::Fitting::open_few), unfolding(crate::specs::Asking::asked_of))]
 pub fn read_request(
     alloc: Global,
     settings: &Settings,
