@@ -1,17 +1,33 @@
 -- An id is a numeral in hexadecimal.
-use Rattle.std.proofs.Common.{◌≡◌, ◌≢◌, ℕ, ◌<◌, ◌≤◌, ◌^◌, List, [], ◌∷◌, length, get_or, Bool, true, ◌&&◌, Result, Ok, Err, rules, arith, subst, lit<}
+use Rattle.std.proofs.Common.{◌≡◌, ◌≢◌, ℕ, ◌-◌, ◌<◌, ◌≤◌, ◌^◌, List, [], ◌∷◌, length, get_or, refl, Bool, true, false, ◌||◌, Result, Ok, Err, rules, arith, subst, lit<}
 use Rattle.std.specs.List.{list_all}
-use Rattle.std.specs.Char.{digit_value}
+use Rattle.std.specs.Int.{IsInRange}
+use Rattle.std.specs.Char.{digit_value, is_ascii_digit}
 use Rattle.std.specs.Str.Parse.{AllDigits, IsNumeral, digits_value, without_leading_plus, ParsesUnsigned}
 use Rattle.std.proofs.lemmas.Bool.{and_parts}
 use Rattle.std.proofs.lemmas.Result.{Ok-from_Ok_iff}
 use Rattle.std.proofs.lemmas.Int.Digits.{digits_value-lt}
 use Rattle.std.proofs.Math.Nat.{pow-le-pow_right}
 use Rattle.std.proofs.lemmas.Str.Parse.{without_leading_plus_none}
+use Rattle.std.proofs.lemmas.Str.{digit_value_digit}
+use Rattle.swarm_model.specs.Words.{is_between}
 use Rattle.swarm_wire.specs.Ids.{is_id_digit, has_id_form}
 
+digit_range : (c : ℕ) → is_ascii_digit c ≡ true → IsInRange 48 57 c
+digit_range c h = (grind (arith, h), grind (arith, h))
+
+letter_range : (c : ℕ) → is_between 97 102 c ≡ true → IsInRange 97 102 c
+letter_range c h = (grind (arith, h), grind (arith, h))
+
+letter_value : (c : ℕ) → 97 ≤ c → c ≤ 102 → digit_value c ≡ c - 87
+letter_value c low high = grind (arith, low, high)
+
+of_kind : (c : ℕ) (t : Bool) → is_ascii_digit c ≡ t → (t || is_between 97 102 c) ≡ true → digit_value c < 16
+of_kind c true d h = let k = digit_range c d in omega (arith, digit_value_digit c k, k.1)
+of_kind c false d h = let k = letter_range c h in omega (arith, letter_value c k.0 k.1, k.1)
+
 id_digit_value : (c : ℕ) → is_id_digit c ≡ true → digit_value c < 16
-id_digit_value c h = grind (arith, h)
+id_digit_value c h = of_kind c (is_ascii_digit c) refl h
 
 all_digits : (s : List ℕ) → list_all is_id_digit s ≡ true → AllDigits 16 s
 all_digits [] h = tt

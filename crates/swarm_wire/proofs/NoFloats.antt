@@ -1,5 +1,5 @@
 -- No float is shown.
-use Rattle.std.proofs.Common.{◌≡◌, ℕ, ◌×◌, List, [], ◌∷◌, false, refl}
+use Rattle.std.proofs.Common.{◌≡◌, ℕ, List, [], ◌∷◌, false, refl}
 use Rattle.std.specs.Prelude.{ℤ, pos, negsuc, map, Option, Some, None}
 use Rattle.serde_json.specs.Data.{Data, string}
 use Rattle.serde_json.specs.View.{items_of}
