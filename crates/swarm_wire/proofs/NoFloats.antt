@@ -55,9 +55,13 @@ task_is_plain : (place : ℕ) (task : TaskView) → has_float (task_data place t
 unfolding task_data
 task_is_plain place task =
     rw (
-      or_null_is_plain string (λ _. refl) task.bot_id, or_null_is_plain whole (λ _. refl) task.completed_ts,
-      or_null_is_plain (run_data place) (λ _. refl) task.deduped_from, or_null_is_plain whole (λ _. refl) task.dropped,
-      or_null_is_plain whole (λ _. refl) task.duration_ms, or_null_is_plain signed signed_is_plain task.exit_code, last_are_plain place task
+      or_null_is_plain string (λ _. refl) task.bot_id,
+      or_null_is_plain whole (λ _. refl) task.completed_ts,
+      or_null_is_plain (run_data place) (λ _. refl) task.deduped_from,
+      or_null_is_plain whole (λ _. refl) task.dropped,
+      or_null_is_plain whole (λ _. refl) task.duration_ms,
+      or_null_is_plain signed signed_is_plain task.exit_code,
+      last_are_plain place task,
     ) refl
 
 pub reply_is_plain : (place : ℕ) (r : Reply) → has_float (reply_data place r) ≡ false

@@ -49,12 +49,7 @@ fn unbuilt_value(alloc: Global, code: &str, what: Unbuilt) -> Result<Value, Allo
     json!(in alloc; {"code": code, "what": name})
 }
 
-fn field_value(
-    alloc: Global,
-    code: &str,
-    field: &Text,
-    rule: PropRule,
-) -> Result<Value, AllocError>
+fn field_value(alloc: Global, code: &str, field: &Text, rule: PropRule) -> Result<Value, AllocError>
     ensures { IfOk result (λ value. view value ≡ spec_three_members (codes "code") (string code.now) (codes "field") (string field.now) (codes "rule") (string (rule_name rule))) }
 {
     let field = field.as_str();

@@ -40,12 +40,7 @@ fn told(alloc: Global, asked: Result<Asked, WireFault>) -> Result<String, Fail> 
     }
 }
 
-fn read(
-    alloc: Global,
-    settings: &Settings,
-    route: Route,
-    body: &str,
-) -> Result<Asked, WireFault> {
+fn read(alloc: Global, settings: &Settings, route: Route, body: &str) -> Result<Asked, WireFault> {
     read_request(alloc, settings, route, body.as_bytes())
 }
 
@@ -124,7 +119,10 @@ fn routes(rt: HostRuntime) -> Result<(), Fail> {
     for (target, wanted) in [
         ("/prpc/swarming.v2.Tasks/NewTask", Some(Route::NewTask)),
         ("/prpc/swarming.v2.Tasks/GetResult", Some(Route::GetResult)),
-        ("/prpc/swarming.v2.Tasks/CountTasks", Some(Route::CountTasks)),
+        (
+            "/prpc/swarming.v2.Tasks/CountTasks",
+            Some(Route::CountTasks),
+        ),
         ("/prpc/swarming.v2.Tasks/GetResult/", None),
         ("/prpc/swarming.v2.Tasks/getresult", None),
         ("/prpc/swarming.v2.Tasks/CountTasks?a=1", None),
@@ -166,11 +164,7 @@ fn ids_in_bodies(rt: HostRuntime) -> Result<(), Fail> {
         let asked = read(alloc, &settings, Route::GetResult, body.as_str());
         assert_eq!(rt; told(alloc, asked)?.as_str(), wanted);
     }
-    for (body, wanted) in [
-        ("", "bad_json"),
-        ("[]", " type"),
-        ("{}", "task_id missing"),
-    ] {
+    for (body, wanted) in [("", "bad_json"), ("[]", " type"), ("{}", "task_id missing")] {
         let asked = read(alloc, &settings, Route::GetResult, body);
         assert_eq!(rt; told(alloc, asked)?.as_str(), wanted);
     }
@@ -188,15 +182,30 @@ fn states_in_bodies(rt: HostRuntime) -> Result<(), Fail> {
         ("{\"pool\":null}", "pool missing"),
         ("{\"pool\":5}", "pool type"),
         ("{\"pool\":\"default\"}", "count of 0"),
-        ("{\"pool\":\"default\",\"state\":null,\"limit\":7}", "count of 0"),
+        (
+            "{\"pool\":\"default\",\"state\":null,\"limit\":7}",
+            "count of 0",
+        ),
         ("{\"pool\":\"default\",\"state\":\"ALL\"}", "count of 0"),
-        ("{\"pool\":\"default\",\"state\":\"PENDING\"}", "Pending of 0"),
-        ("{\"pool\":\"default\",\"state\":\"NO_RESOURCE\"}", "NoResource of 0"),
-        ("{\"pool\":\"default\",\"state\":\"pending\"}", "state grammar"),
+        (
+            "{\"pool\":\"default\",\"state\":\"PENDING\"}",
+            "Pending of 0",
+        ),
+        (
+            "{\"pool\":\"default\",\"state\":\"NO_RESOURCE\"}",
+            "NoResource of 0",
+        ),
+        (
+            "{\"pool\":\"default\",\"state\":\"pending\"}",
+            "state grammar",
+        ),
         ("{\"pool\":\"default\",\"state\":\"\"}", "state grammar"),
         ("{\"pool\":\"default\",\"state\":5}", "state type"),
         ("{\"pool\":\"other\",\"state\":5}", "state type"),
-        ("{\"pool\":\"other\",\"state\":\"pending\"}", "state grammar"),
+        (
+            "{\"pool\":\"other\",\"state\":\"pending\"}",
+            "state grammar",
+        ),
         ("{\"pool\":\"other\"}", "no_pool"),
         ("{\"pool\":\"\"}", "no_pool"),
         ("{\"state\":5}", "pool missing"),
@@ -262,8 +271,16 @@ fn ended(alloc: Global) -> Result<TaskView, Fail> {
 fn views(rt: HostRuntime) -> Result<(), Fail> {
     let alloc = rt.alloc();
     for (place, view, wanted) in [
-        (0, waiting(alloc)?, b"{\"bot_id\":null,\"completed_ts\":null,\"created_ts\":1000,\"current_task_slice\":0,\"deduped_from\":null,\"dropped\":null,\"duration_ms\":null,\"exit_code\":null,\"files\":[],\"name\":\"\",\"output_length\":0,\"priority\":0,\"run_id\":null,\"started_ts\":null,\"state\":\"PENDING\",\"task_id\":\"10\",\"user\":\"ana\"}".as_slice()),
-        (3, ended(alloc)?, b"{\"bot_id\":\"b1\",\"completed_ts\":1020,\"created_ts\":1000,\"current_task_slice\":1,\"deduped_from\":\"c00021\",\"dropped\":3,\"duration_ms\":1500,\"exit_code\":-9,\"files\":[{\"digest\":\"0f0f0f0f0f0f0f0f0f0f0f0f0f0f0f0f0f0f0f0f0f0f0f0f0f0f0f0f0f0f0f0f\",\"path\":\"out/a\",\"size\":12}],\"name\":\"a\\\"b\",\"output_length\":7,\"priority\":255,\"run_id\":\"1000001\",\"started_ts\":1010,\"state\":\"COMPLETED\",\"task_id\":\"1000000\",\"user\":\"ana\"}".as_slice()),
+        (
+            0,
+            waiting(alloc)?,
+            b"{\"bot_id\":null,\"completed_ts\":null,\"created_ts\":1000,\"current_task_slice\":0,\"deduped_from\":null,\"dropped\":null,\"duration_ms\":null,\"exit_code\":null,\"files\":[],\"name\":\"\",\"output_length\":0,\"priority\":0,\"run_id\":null,\"started_ts\":null,\"state\":\"PENDING\",\"task_id\":\"10\",\"user\":\"ana\"}".as_slice(),
+        ),
+        (
+            3,
+            ended(alloc)?,
+            b"{\"bot_id\":\"b1\",\"completed_ts\":1020,\"created_ts\":1000,\"current_task_slice\":1,\"deduped_from\":\"c00021\",\"dropped\":3,\"duration_ms\":1500,\"exit_code\":-9,\"files\":[{\"digest\":\"0f0f0f0f0f0f0f0f0f0f0f0f0f0f0f0f0f0f0f0f0f0f0f0f0f0f0f0f0f0f0f0f\",\"path\":\"out/a\",\"size\":12}],\"name\":\"a\\\"b\",\"output_length\":7,\"priority\":255,\"run_id\":\"1000001\",\"started_ts\":1010,\"state\":\"COMPLETED\",\"task_id\":\"1000000\",\"user\":\"ana\"}".as_slice(),
+        ),
     ] {
         let bytes = show_reply(alloc, place, &Reply::Result(view), &Seq::new(alloc))?;
         assert_eq!(rt; bytes.as_slice(), wanted);
