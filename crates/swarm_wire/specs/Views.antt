@@ -1,6 +1,6 @@
 -- What is shown of a task.
 use Rattle.std.specs.Prelude.{ℕ, ℤ, ◌/◌, ◌%◌, false, List, [], ◌∷◌, ◌++◌, map, Option, Some, None, codes}
-use Rattle.std.specs.Fmt.{digit_glyph}
+use Rattle.std.specs.Fmt.{digits}
 use Rattle.serde_json.specs.Data.{Data, null, number, unsigned, string, array, object, Members, member, no_members}
 use Rattle.serde_json.specs.Find.{of_integer}
 use Rattle.serde_json.specs.View.{items_of}
@@ -22,7 +22,7 @@ or_null show (Some x) = show x
 
 -- a byte in two digits
 abbrev pub hex_byte : ℕ → List ℕ
-hex_byte byte = digit_glyph false (byte / 16) ∷ digit_glyph false (byte % 16) ∷ []
+hex_byte byte = digits 16 false (byte / 16) ++ digits 16 false (byte % 16)
 
 -- bytes in lower-case hexadecimal
 abbrev pub hex_text : List ℕ → List ℕ

@@ -32,6 +32,7 @@ mod unserved;
 mod views;
 
 pub use asked::{Asked, WireFault};
+pub use ids::id_tells_its_parts;
 pub use reply::show_reply;
 pub use request::read_request;
 pub use route::{Route, route_of};

@@ -17,7 +17,7 @@ use std::alloc::Global;
 use swarm_model::{PoolSettings, Request, Settings};
 use task_props::PropRule;
 
-#[tactic(auto, using(crate::proofs::Fitting::new_fits), unfolding(crate::specs::Asking::new_of))]
+#[tactic(auto, unfolding(crate::specs::Asking::new_of))]
 fn ask_new(alloc: Global, pools: &[PoolSettings], body: &Value) -> Result<Asked, WireFault>
     requires few { length pools.now ≤ 4 }
     ensures asks { Asks result (new_of pools.now (view body.now)) }
@@ -27,14 +27,15 @@ fn ask_new(alloc: Global, pools: &[PoolSettings], body: &Value) -> Result<Asked,
     let Some(place) = place_of(pools, task.pool()) else {
         return Err(WireFault::NoPool);
     };
-    if !is_built(body, &task) {
-        return Err(WireFault::NotBuilt);
+    if is_built(body, &task) {
+        Ok(Asked {
+            place,
+            request: Request::New(task),
+            bytes: Seq::new(alloc),
+        })
+    } else {
+        Err(WireFault::NotBuilt)
     }
-    Ok(Asked {
-        place,
-        request: Request::New(task),
-        bytes: Seq::new(alloc),
-    })
 }
 
 fn ask_object(
@@ -76,7 +77,7 @@ fn ask_value(
 }
 
 /// What the body of a call asks for: a request to one of the pools of the settings.
-#[tactic(auto, using(crate::proofs::Fitting::open_few, crate::proofs::Fitting::place_low), unfolding(crate::specs::Asking::asked_of))]
+#[tactic(auto, using(crate::proofs::Fitting::open_few), unfolding(crate::specs::Asking::asked_of))]
 pub fn read_request(
     alloc: Global,
     settings: &Settings,

@@ -52,7 +52,9 @@ fn run_or_null(alloc: Global, place: u32, run: Option<(u32, u32)>) -> Result<Val
 fn byte_text(alloc: Global, byte: u8) -> Result<String, AllocError>
     ensures { IfOk result (λ text. string_bytes text ≡ spec_hex_byte byte) }
 {
-    format!(in alloc; "{byte:02x}")
+    let high = byte / 16;
+    let low = byte % 16;
+    format!(in alloc; "{high:x}{low:x}")
 }
 
 fn digest_text(alloc: Global, digest: &Digest) -> Result<String, AllocError>
