@@ -5,13 +5,14 @@ use Rattle.sw_base.specs.Link.{LinkState, IsClean}
 use Rattle.swarm_policy.specs.Open.{open_settings}
 use Rattle.swarm_history.specs.Doors.{Logs}
 use Rattle.swarm_http.specs.declared.ended.Ended.{Ended}
-use Rattle.swarm_http.specs.declared.ended.Ended.TheVariants.{Closed, CutShort, BadHead, Retired, ReadFault, WriteFault, Memory}
+use Rattle.swarm_http.specs.declared.ended.Ended.TheVariants.{Closed, LastAsked, CutShort, BadHead, Retired, ReadFault, WriteFault, Memory}
 use Rattle.swarm_http.specs.Sends.{Written}
 use Rattle.swarm_http.specs.Answered.{IsAnswered}
 
 -- the status of an ending
 abbrev pub status_of : Ended → ℕ
 status_of Closed = 0
+status_of LastAsked = 0
 status_of Retired = 0
 status_of ReadFault = 4
 status_of WriteFault = 4

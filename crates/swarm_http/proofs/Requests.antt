@@ -9,7 +9,6 @@ use Rattle.sw_base.specs.Link.{LinkState}
 use Rattle.sw_base.proofs.Moving.{Moves-refl, Moves-trans}
 use Rattle.link_reader.specs.Heads.{blank_line, IsHeadEnd, Grows}
 use Rattle.link_reader.specs.Bodies.{IsWhole, IsCut}
-use Rattle.link_reader.specs.declared.pending.TheConstants.{HEAD_LIMIT}
 use Rattle.request_head.specs.Heads.{IsHead, IsNoHead}
 use Rattle.request_head.specs.Fields.{lacks}
 use Rattle.request_head.specs.Numbers.{is_broken, value_or_zero}
@@ -56,7 +55,7 @@ head_alone bytes n end =
     })
 
 -- the head at the front of what is pending
-pub says_head : {bytes : List ℕ} {n : ℕ} → length bytes ≤ HEAD_LIMIT → IsHeadEnd bytes n → (h : RequestHead) → IsHead (take n bytes) h → head_refusal h ≡ None
+pub says_head : {bytes : List ℕ} {n : ℕ} → length bytes ≤ 16384 → IsHeadEnd bytes n → (h : RequestHead) → IsHead (take n bytes) h → head_refusal h ≡ None
     → HeadSays (take n bytes) h
 says_head {bytes = bytes} {n = n} short end h is_head accepted = record {
   short = let l : length (take n bytes) ≡ n = length-take-le n bytes end.within in let w : n ≤ length bytes = end.within in omega arith;

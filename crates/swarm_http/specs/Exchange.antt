@@ -2,7 +2,6 @@
 use Rattle.std.specs.Prelude.{◌≡◌, ℕ, Bool, ◌≤◌, List, [], ◌∷◌, ◌++◌, length, None}
 use Rattle.httparse.specs.Grammar.{RequestHead}
 use Rattle.link_reader.specs.Heads.{IsHeadEnd}
-use Rattle.link_reader.specs.declared.pending.TheConstants.{HEAD_LIMIT}
 use Rattle.request_head.specs.Heads.{IsHead}
 use Rattle.request_head.specs.Says.{head_refusal, size_of, closes_of}
 use Rattle.swarm_model.specs.declared.pool_settings.Settings.{Settings}
@@ -34,7 +33,7 @@ closes x = closes_of x.head
 
 -- the text is this head, up to the first blank line, and the head isn't refused
 pub record HeadSays (text : List ℕ) (head : RequestHead) : Type 0 where
-  pub short : length text ≤ HEAD_LIMIT
+  pub short : length text ≤ 16384
   pub ends : IsHeadEnd text (length text)
   pub is_head : IsHead text head
   pub accepted : head_refusal head ≡ None

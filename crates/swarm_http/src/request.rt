@@ -2,7 +2,6 @@
 ghost use Rattle.std.specs.Prelude.{◌≡◌, ◌≤◌, ℕ, List, length, take, IfSome, option_map};
 ghost use Rattle.httparse.specs.Grammar.{RequestHead};
 ghost use Rattle.link_reader.specs.Heads.{IsHeadEnd};
-ghost use Rattle.link_reader.specs.declared.pending.TheConstants.{HEAD_LIMIT};
 ghost use Rattle.request_head.specs.Says.{size_of};
 ghost use Rattle.request_head.specs.Judging.{Says};
 ghost use Rattle.swarm_model.specs.declared.rule.Rule.TheVariants as Rule;
@@ -117,7 +116,7 @@ fn too_large(limit: u32) -> Refusal
 // Takes the request whose head is the first n bytes that are pending.
 fn take_head<L: Link>(alloc: Global, n: usize, pending: &mut Pending, link: &mut L) -> Taken
     requires end { IsHeadEnd pending.old n }
-    requires short { length pending.old ≤ HEAD_LIMIT }
+    requires short { length pending.old ≤ 16384 }
     ensures { Takes (L.state link.old) (L.state link.new) pending.old pending.new result }
 {
     match judge(pending.front(n)) {
