@@ -1,3 +1,5 @@
+ghost use Rattle.swarm_model.specs.Settings.{AreOpen};
+
 use crate::{Asked, Route, WireFault, read_request, route_of, show_reply};
 use dimensions::{Seq, Text};
 use std::alloc::Global;
@@ -40,7 +42,9 @@ fn told(alloc: Global, asked: Result<Asked, WireFault>) -> Result<String, Fail> 
     }
 }
 
-fn read(alloc: Global, settings: &Settings, route: Route, body: &str) -> Result<Asked, WireFault> {
+fn read(alloc: Global, settings: &Settings, route: Route, body: &str) -> Result<Asked, WireFault>
+    requires { AreOpen settings.now }
+{
     read_request(alloc, settings, route, body.as_bytes())
 }
 

@@ -29,8 +29,8 @@ returns-in-Ok-clause-answers g c = λ body head held.
     let posted : is_post (method_of head) ≡ true = ap is_post (sym held.said.method) ∙ sym c.is_post.ensures ∙ c.if-not-is_post.false in
     let who : caller_of head ≡ Some c.in-Named.who = rw c.in-Named.is at held.said.who in
     rw c.requires.settings at (c.call_door.ensures.answers head body held.said.after
-        (rw c.requires.settings (body_asks c.args.settings.now head body c.deref.result.now c.in-Some.route c.in-Named.who c.args.received.said.after c.in-Ok.asked
-            (sym held.said.route ∙ c.in-Some.is) posted who held.said.after (c.deref.ensures.value ∙ rw c.in-Some-body.is at held.body_is) c.in-Ok.ensures.asks)))
+    (rw c.requires.settings (body_asks c.args.settings.now head body c.deref.result.now c.in-Some.route c.in-Named.who c.args.received.said.after c.in-Ok.asked
+    (sym held.said.route ∙ c.in-Some.is) posted who held.said.after (c.deref.ensures.value ∙ rw c.in-Some-body.is at held.body_is) c.in-Ok.ensures.asks)))
 
 pub returns-clause-answers : goal.returns-clause-answers
 returns-clause-answers g c = λ body head held.
