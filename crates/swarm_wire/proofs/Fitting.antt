@@ -1,12 +1,6 @@
-<<<<<<< HEAD
--- A sound task that is served fits an open pool.
-use Rattle.std.proofs.Common.{◌≡◌, true, ◌&&◌, ◌∙◌}
-use Rattle.std.specs.Prelude.{IsTrue, IsSomeAnd, codes, slice_get}
-=======
 -- Which requests fit their pools.
 use Rattle.std.proofs.Common.{◌≡◌, ℕ, ◌<◌, ◌≤◌, Bool, true, List, [], ◌∷◌, length, arith, refl, ◌∙◌, sym}
 use Rattle.std.specs.Prelude.{IsTrue, IsSomeAnd, Option, Some, None, slice_get, ◌%◌}
->>>>>>> 011fab05bb92b48493667c43d20ad437d4b25bb7
 use Rattle.std.proofs.lemmas.Bool.{and_parts, and_from}
 use Rattle.serde_json.specs.Data.{Data}
 use Rattle.dimensions.specs.Alike.{same, same_laws}
