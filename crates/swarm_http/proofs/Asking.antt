@@ -1,5 +1,5 @@
 -- What a request means, as far as it was looked at.
-use Rattle.std.proofs.Common.{◌≡◌, ℕ, Bool, true, false, List, refl, sym, ap, ◌∙◌, Option, Some, None, Result, Ok, Err, subst}
+use Rattle.std.proofs.Common.{◌≡◌, ℕ, true, false, List, refl, ap, ◌∙◌, Option, Some, None, Result, Ok, Err, subst}
 use Rattle.httparse.specs.Grammar.{RequestHead}
 use Rattle.request_head.specs.declared.method.Method.{Method}
 use Rattle.request_head.specs.declared.method.Method.TheVariants.{Get, Post, Put, Other}
@@ -17,7 +17,7 @@ use Rattle.swarm_history.specs.Doors.{Logs, Elsewhere, IsPoolCall}
 use Rattle.request_head.specs.declared.after.After.{After}
 use Rattle.std.specs.Prelude.{IsSomeAnd, slice_get}
 use Rattle.swarm_http.specs.declared.reply.Shown.{Shown}
-use Rattle.swarm_http.specs.Meanings.{Meant, then, routed, called_by, with_front, meant_by, meaning, is_post, front_of}
+use Rattle.swarm_http.specs.Meanings.{then, routed, with_front, meant_by, meaning, is_post, front_of}
 use Rattle.swarm_http.specs.Outcomes.{early, unheld, IsCalled}
 use Rattle.swarm_http.specs.Shown.{refusal}
 use Rattle.swarm_http.specs.Sends.{text_of}

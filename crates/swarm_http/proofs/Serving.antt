@@ -6,7 +6,7 @@ use Rattle.std.specs.Io.KnownBytes.{Consumes}
 use Rattle.std.proofs.KnownBytes.{Consumes-nil, Consumes-trans}
 use Rattle.std.proofs.lemmas.List.Concat.{flat_map-append}
 use Rattle.httparse.specs.Grammar.{RequestHead}
-use Rattle.request_head.specs.Says.{size_of, closes_of}
+use Rattle.request_head.specs.Says.{size_of}
 use Rattle.sw_base.specs.Clock.{HandsIn}
 use Rattle.sw_base.specs.Faults.{Rose}
 use Rattle.sw_base.specs.Link.{LinkState, IsClean, Moves}
@@ -21,8 +21,8 @@ use Rattle.swarm_http.specs.declared.request.Received.{Received}
 use Rattle.swarm_http.specs.declared.request.Taken.TheVariants as taken
 use Rattle.swarm_http.specs.Shown.{refusal}
 use Rattle.swarm_http.specs.Outcomes.{Outcome, Acts, shows, uses}
-use Rattle.swarm_http.specs.Exchange.{Exchange, HeadSays, spelled, reply_of, moments_of, closes, Chain}
-use Rattle.swarm_http.specs.Answered.{replies, Serves, NoneCloses, LastCloses, IsCutReply, last_reply, refused_head, EndsAs, IsAnswered, KeepsDoor}
+use Rattle.swarm_http.specs.Exchange.{Exchange, HeadSays, spelled, reply_of, moments_of, Chain}
+use Rattle.swarm_http.specs.Answered.{replies, Serves, NoneCloses, IsCutReply, last_reply, refused_head, EndsAs, IsAnswered, KeepsDoor}
 use Rattle.swarm_http.specs.Sends.{Sends, rule_of, text_of}
 use Rattle.swarm_http.specs.Takes.{IsHeld, StopsAs, Takes}
 use Rattle.swarm_http.specs.Steps.{Answers, GoesOn, Stops}

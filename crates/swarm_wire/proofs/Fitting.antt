@@ -1,11 +1,11 @@
 -- Which requests fit their pools.
-use Rattle.std.proofs.Common.{◌≡◌, ℕ, ◌<◌, ◌≤◌, Bool, true, List, [], ◌∷◌, length, arith, refl, ◌∙◌, sym}
-use Rattle.std.specs.Prelude.{IsTrue, IsSomeAnd, Option, Some, None, slice_get, ◌%◌}
+use Rattle.std.proofs.Common.{◌≡◌, ℕ, ◌≤◌, true, List, length, arith, ◌∙◌, sym}
+use Rattle.std.specs.Prelude.{IsTrue, IsSomeAnd, Option, Some, None, slice_get}
 use Rattle.std.proofs.lemmas.Bool.{and_parts, and_from}
 use Rattle.serde_json.specs.Data.{Data}
 use Rattle.dimensions.specs.Alike.{same, same_laws}
 use Rattle.task_props.specs.declared.new_task.NewTask.{NewTask}
-use Rattle.task_props.specs.Checked.{is_sound_task, is_served, pool_of_task}
+use Rattle.task_props.specs.Checked.{is_sound_task, pool_of_task}
 use Rattle.swarm_model.specs.declared.pool_settings.PoolSettings.{PoolSettings}
 use Rattle.swarm_model.specs.declared.pool_settings.Settings.{Settings}
 use Rattle.swarm_model.specs.declared.request.Request.TheVariants as ask

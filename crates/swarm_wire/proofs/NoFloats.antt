@@ -10,7 +10,7 @@ use Rattle.swarm_model.specs.declared.rule.Rule.{Rule}
 use Rattle.swarm_model.specs.declared.rule.Rule.TheVariants as rule
 use Rattle.swarm_model.specs.declared.reply.Reply.{Reply}
 use Rattle.swarm_model.specs.declared.reply.Reply.TheVariants as reply
-use Rattle.swarm_wire.specs.Views.{whole, signed, or_null, file_data, files_data, run_data, last_members, task_data}
+use Rattle.swarm_wire.specs.Views.{whole, signed, or_null, file_data, run_data, last_members, task_data}
 use Rattle.swarm_wire.specs.Bodies.{refusal_data, reply_data}
 
 refusal_is_plain : (why : Rule) → has_float (refusal_data why) ≡ false
