@@ -1,7 +1,7 @@
 -- What the program does.
 use Rattle.std.specs.Prelude.{◌≡◌, ◌⊎◌, ℕ, List, [], ◌∷◌, codes, Option}
 use Rattle.sw_base.specs.Faults.{Rose}
-use Rattle.sw_base.specs.Link.{LinkState, IsClean}
+use Rattle.sw_base.specs.Link.{LinkState}
 use Rattle.swarm_policy.specs.Open.{open_settings}
 use Rattle.swarm_history.specs.Doors.{Logs}
 use Rattle.swarm_http.specs.declared.ended.Ended.{Ended}
