@@ -284,35 +284,35 @@ fn callers(rt: HostRuntime) -> Result<(), Fail> {
 #[test]
 fn connections_that_close(rt: HostRuntime) -> Result<(), Fail> {
     let alloc = rt.alloc();
-    for (version, fields, goes_on) in [
-        ("1.1", "", true),
-        ("1.1", "Connection: keep-alive\r\n", true),
-        ("1.1", "Connection: closed\r\n", true),
-        ("1.1", "Connection: close x\r\n", true),
-        ("1.1", "Connection:\r\n", true),
-        ("1.1", "Proxy-Connection: close\r\n", true),
-        ("1.1", "Connection: close\r\n", false),
-        ("1.1", "Connection: Close\r\n", false),
-        ("1.1", "CONNECTION:CLOSE\r\n", false),
-        ("1.1", "Connection: keep-alive, close\r\n", false),
-        ("1.1", "Connection: close\t,keep-alive\r\n", false),
+    let all = and_pending(alloc, NO_ROUTE)?;
+    let all = all.as_str();
+    for (version, fields, expected) in [
+        ("1.1", "", all),
+        ("1.1", "Connection: keep-alive\r\n", all),
+        ("1.1", "Connection: closed\r\n", all),
+        ("1.1", "Connection: close x\r\n", all),
+        ("1.1", "Connection:\r\n", all),
+        ("1.1", "Proxy-Connection: close\r\n", all),
+        ("1.1", "Connection: close\r\n", NO_ROUTE),
+        ("1.1", "Connection: Close\r\n", NO_ROUTE),
+        ("1.1", "CONNECTION:CLOSE\r\n", NO_ROUTE),
+        ("1.1", "Connection: keep-alive, close\r\n", NO_ROUTE),
+        ("1.1", "Connection: close\t,keep-alive\r\n", NO_ROUTE),
         (
             "1.1",
             "Connection: keep-alive\r\nConnection: close\r\n",
-            false,
+            NO_ROUTE,
         ),
         (
             "1.1",
             "Connection: close\r\nConnection: keep-alive\r\n",
-            false,
+            NO_ROUTE,
         ),
-        ("1.0", "", false),
-        ("1.0", "Connection: keep-alive\r\n", false),
+        ("1.0", "", NO_ROUTE),
+        ("1.0", "Connection: keep-alive\r\n", NO_ROUTE),
     ] {
         let head = format!(in alloc; "GET / HTTP/{version}\r\n{fields}\r\n")?;
         let ran = followed(alloc, head.as_str())?;
-        let all = and_pending(alloc, NO_ROUTE)?;
-        let expected = if goes_on { all.as_str() } else { NO_ROUTE };
         assert_eq!(rt; ran.status, 0, "{version} {fields}");
         assert_eq!(rt;
             ran.link.output(),
