@@ -5,8 +5,9 @@ Usage: bench/session.py [PROGRAM]
 
 Each line is one run of the program over one connection of pipelined requests from a file: what is
 asked, how many requests, seconds, requests per second, microseconds a request, and the greatest
-memory of the process in MiB. The replies are counted; a run that answers otherwise is an error.
-The program is built by the first `./swarm session`.
+memory of the process in MiB, which is never less than the script's own, some 14. The replies are
+counted; a run that answers otherwise is an error. The program is built by the first
+`./swarm session`.
 """
 import os
 import subprocess
@@ -29,10 +30,24 @@ def request(call, body):
     )
 
 
-def run(program, text):
-    """Seconds, the greatest memory in MiB, and the output."""
+def count_good(told):
+    """How many replies of status 200 stand in the file."""
+    mark, good, rest = b"HTTP/1.1 200 OK\r\n", 0, b""
+    while piece := told.read(65536):
+        rest += piece
+        good += rest.count(mark)
+        # What may be the front of a mark stays; no whole one does.
+        rest = rest[rest.rfind(mark) + 1 :] if mark in rest else rest
+        rest = rest[-(len(mark) - 1) :]
+    return good
+
+
+def run(program, parts):
+    """Seconds, the greatest memory in MiB, and the replies of status 200."""
     with tempfile.TemporaryFile() as asked, tempfile.TemporaryFile() as told:
-        asked.write(text)
+        for text, times in parts:
+            for _ in range(times):
+                asked.write(text)
         asked.seek(0)
         begun = time.monotonic()
         child = subprocess.Popen([program, "session"], stdin=asked, stdout=told)
@@ -42,13 +57,12 @@ def run(program, text):
         if child.returncode != 0:
             sys.exit("%s ended with status %d" % (program, child.returncode))
         told.seek(0)
-        return seconds, usage.ru_maxrss / 1024, told.read()
+        return seconds, usage.ru_maxrss / 1024, count_good(told)
 
 
 def measure(program, name, rows, asked, count):
-    text = request(b"NewTask", NEW_TASK) * rows + asked * count
-    seconds, memory, output = run(program, text)
-    good = output.count(b"HTTP/1.1 200 OK\r\n")
+    parts = [(request(b"NewTask", NEW_TASK), rows), (asked, count)]
+    seconds, memory, good = run(program, parts)
     if good != rows + count:
         sys.exit("%s: %d of %d requests were answered well" % (name, good, rows + count))
     per_second = (rows + count) / seconds
