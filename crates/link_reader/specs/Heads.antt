@@ -4,7 +4,6 @@ use Rattle.std.specs.Io.KnownBytes.{IsAtEnd}
 use Rattle.memchr.specs.Find.{OccursAt, Nowhere}
 use Rattle.sw_base.specs.Faults.{Rose}
 use Rattle.sw_base.specs.Link.{LinkState, Moves}
-use Rattle.link_reader.specs.declared.pending.TheConstants.{HEAD_LIMIT}
 use Rattle.link_reader.specs.declared.head_end.HeadEnd.{HeadEnd}
 use Rattle.link_reader.specs.declared.head_end.HeadEnd.TheVariants.{At, TooLong, Ended}
 
@@ -36,12 +35,12 @@ pub record IsHeadEnd (bytes : List ℕ) (n : ℕ) : Type 0 where
 
 -- a head may still end behind these bytes
 pub record IsOpen (bytes : List ℕ) : Type 0 where
-  pub short : length bytes < HEAD_LIMIT
+  pub short : length bytes < 16384
   pub no_end : HasNoEnd bytes
 
 -- the bytes of a head that would be too long
 pub record IsTooLong (bytes : List ℕ) : Type 0 where
-  pub long : length bytes ≡ HEAD_LIMIT
+  pub long : length bytes ≡ 16384
   pub no_end : HasNoEnd bytes
 
 -- what is pending where the end of a head was read for
@@ -53,5 +52,5 @@ IsHeadRead after new Ended = IsAtEnd after.left × IsOpen new
 -- what is pending grew until a head ends in it, none can, the input ended, or a read failed
 pub record ReadsHead {E : Type 0} (before after : LinkState) (old new : List ℕ) (result : Result HeadEnd E) : Type 0 where
   pub grows : Grows before after old new
-  pub short : length new ≤ HEAD_LIMIT
+  pub short : length new ≤ 16384
   pub outcome : MatchResult result (λ end. IsHeadRead after new end) (λ _. Rose before.read_faults after.read_faults × IsOpen new)

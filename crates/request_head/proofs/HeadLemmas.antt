@@ -1,6 +1,6 @@
 -- What the code's loops and spans say of a head.
-use Rattle.std.proofs.Common.{◌≡◌, ℕ, ◌+◌, ◌-◌, ◌*◌, ◌^◌, ◌<◌, true, false, Bool, ◌&&◌, arith, List, [], ◌∷◌, ◌++◌, length, take, map, get_or, ap, ◌∙◌, append-nil}
-use Rattle.std.specs.List.{list_all}
+use Rattle.std.proofs.Common.{◌≡◌, ℕ, ◌+◌, ◌-◌, ◌*◌, ◌^◌, ◌<◌, ◌≤◌, true, false, Bool, ◌&&◌, ◌||◌, not, codes, option_map, Option, refl, sym, inr, arith, List, [], ◌∷◌, ◌++◌, length, take, map, get_or, ap, ◌∙◌, append-nil, lit<}
+use Rattle.std.specs.List.{list_all, list_any}
 use Rattle.std.specs.Int.{IsInRange}
 use Rattle.std.proofs.lemmas.Bool.{false≢true}
 use Rattle.std.specs.Char.{is_ascii_digit, digit_value}
@@ -9,19 +9,31 @@ use Rattle.std.proofs.lemmas.List.Sums.{AllPass-from_list_all}
 use Rattle.std.proofs.lemmas.Int.Digits.{digits_value_more}
 use Rattle.std.proofs.lemmas.Str.{digit_value_digit}
 use Rattle.std.proofs.lemmas.Grind.{pow_more}
+use Rattle.std.proofs.Math.Nat.{pow-le-pow_right}
 use Rattle.std.proofs.lemmas.Bool.Decides.{nat_tests}
 use Rattle.std.proofs.lemmas.List.{map_more}
 use Rattle.std.proofs.lemmas.List.Concat.{flat_map-append}
+use Rattle.std.proofs.lemmas.List.Folds.{list_any-append}
 use Rattle.httparse.specs.Spans.{header_bytes}
 use Rattle.httparse.specs.declared.spans.HeaderSpan.{HeaderSpan}
 use Rattle.httparse.specs.Spans.{span_bytes}
-use Rattle.httparse.specs.declared.spans.RequestSpans.{RequestSpans}
-use Rattle.request_head.specs.Fields.{named, if_named}
 use Rattle.std.specs.Str.{IsUtf8}
 use Rattle.std.proofs.lemmas.Str.{IsUtf8-from_ascii}
 use Rattle.std.proofs.lemmas.Str.Ascii.{IsAscii-from_all}
-use Rattle.request_head.specs.Plain.{plain_of, plain, is_length, is_visible, is_caller}
-use Rattle.request_head.specs.Judging.{IsWholeHead}
+use Rattle.httparse.specs.Grammar.{RequestHead}
+use Rattle.httparse.specs.declared.spans.RequestSpans.{RequestSpans}
+use Rattle.request_head.specs.declared.method.Method.{Method}
+use Rattle.request_head.specs.declared.number.Number.{Number}
+use Rattle.request_head.specs.Fields.{named, if_named, lacks}
+use Rattle.request_head.specs.Numbers.{value_or_zero}
+use Rattle.request_head.specs.Says.{is_visible, is_caller, is_closing, method_named, length_told, limit_at, closes, caller_told, after_told, fields_of, method_of, size_of, closes_of, caller_of, after_of, HeadRefusal, refusal, head_refusal}
+use Rattle.request_head.specs.Judging.{Covers, Says, IsWholeHead, IsJudged, IsJudgedHead, IsDue, Refuses}
+use Rattle.request_head.specs.declared.judged.Judged.{Judged}
+use Rattle.request_head.specs.declared.judged.Judged.TheVariants.{Bad, LengthRequired, TooLarge, Good}
+use Rattle.request_head.specs.declared.head.Head.{Head}
+
+abbrev pub no_header : HeaderSpan
+no_header = record { name = record { start = 0; end = 0 }; value = record { start = 0; end = 0 } }
 
 -- the fields of a name, one more header on
 pub named_more : (buf name : List ℕ) (headers : List HeaderSpan) (i : ℕ) (h : HeaderSpan) → i < length headers
@@ -31,16 +43,6 @@ named_more buf name headers i h le =
     ap (named name) (map_more (header_bytes buf) headers i h le)
     ∙ flat_map-append (if_named name) (map (header_bytes buf) (take i headers)) (header_bytes buf (get_or headers i h) ∷ [])
     ∙ ap (λ l. named name (map (header_bytes buf) (take i headers)) ++ l) (append-nil (if_named name (header_bytes buf (get_or headers i h))))
-
--- what the spans cover is what the head says
-pub whole_plain : (text : List ℕ) (headers : List HeaderSpan) (r : RequestSpans) (w : IsWholeHead text headers r)
-    → plain_of (span_bytes text r.method) (span_bytes text r.path) r.version (map (header_bytes text) (take r.headers headers)) ≡ plain w.head
-unfolding plain
-whole_plain text headers r w =
-    ap (λ m. plain_of m (span_bytes text r.path) r.version (map (header_bytes text) (take r.headers headers))) w.at.method
-    ∙ ap (λ m. plain_of w.head.method m r.version (map (header_bytes text) (take r.headers headers))) w.at.path
-    ∙ ap (λ m. plain_of w.head.method w.head.target m (map (header_bytes text) (take r.headers headers))) w.at.version
-    ∙ ap (plain_of w.head.method w.head.target w.head.minor) w.at.fields
 
 -- the second of two tests that both pass
 and_right : (x y : Bool) → (x && y) ≡ true → y ≡ true
@@ -52,16 +54,27 @@ in_range : (c : ℕ) → is_ascii_digit c ≡ true → IsInRange 48 57 c
 in_range c digit = (grind (arith, nat_tests), grind (arith, nat_tests))
 
 -- one more digit
-pub digit_more : (digits : List ℕ) (i number digit : ℕ) → is_length digits ≡ true → i < length digits
+pub digit_more : (digits : List ℕ) (i number digit : ℕ) → list_all is_ascii_digit digits ≡ true → i < length digits
     → digit ≡ get_or digits i 0 - 48 → number ≡ digits_value 10 (take i digits) → number < 10 ^ i
     → (number * 10 + digit ≡ digits_value 10 (take (i + 1) digits)) × (number * 10 + digit < 10 ^ (i + 1))
-digit_more digits i number digit size le is so_far low =
-    let all : list_all is_ascii_digit digits ≡ true = and_right _ _ size in
+digit_more digits i number digit all le is so_far low =
     let range : IsInRange 48 57 (get_or digits i 0) = in_range (get_or digits i 0) (AllPass-from_list_all is_ascii_digit digits all i 0 le) in
     let value : digit_value (get_or digits i 0) + 48 ≡ get_or digits i 0 = digit_value_digit (get_or digits i 0) range in
     let step : digits_value 10 (take (i + 1) digits) ≡ digits_value 10 (take i digits) * 10 + digit_value (get_or digits i 0) = digits_value_more 10 digits i le in
     let power : 10 ^ (i + 1) ≡ 10 ^ i * 10 = pow_more 10 i in
     (omega arith, omega (arith, range.1))
+
+-- a digit is 9 at most
+pub digit_low : (digits : List ℕ) (i digit : ℕ) → list_all is_ascii_digit digits ≡ true → i < length digits → digit ≡ get_or digits i 0 - 48 → digit ≤ 9
+digit_low digits i digit all le is =
+    let range : IsInRange 48 57 (get_or digits i 0) = in_range (get_or digits i 0) (AllPass-from_list_all is_ascii_digit digits all i 0 le) in
+    omega (arith, range.1)
+
+-- fewer than 19 digits leave room for one more
+pub digit_fits : (i number : ℕ) → i < 19 → number < 10 ^ i → number * 10 + 9 < 2 ^ 64
+digit_fits i number less low =
+    let high : 10 ^ i ≤ 10 ^ 18 = pow-le-pow_right {n = 10} (lit< tt) {i = i} {j = 18} (omega arith) in
+    omega arith
 
 -- a visible byte is ASCII
 visible_low : (b : ℕ) → is_visible b ≡ true → b < 128
@@ -72,3 +85,68 @@ pub caller_utf8 : (v : List ℕ) → is_caller v ≡ true → IsUtf8 v
 caller_utf8 v caller =
     let all : list_all is_visible v ≡ true = and_right _ _ caller in
     IsUtf8-from_ascii v (IsAscii-from_all v (λ i d le. visible_low _ (AllPass-from_list_all is_visible v all i d le)))
+
+or_false : (b : Bool) → (b || false) ≡ b
+or_false true = refl
+or_false false = refl
+
+-- whether a field closes, one more header on
+pub closing_more : (text : List ℕ) (headers : List HeaderSpan) (i : ℕ) (h : HeaderSpan) (before one : Bool) → i < length headers
+    → before ≡ list_any is_closing (map (header_bytes text) (take i headers)) → one ≡ is_closing (header_bytes text (get_or headers i h))
+    → (before || one) ≡ list_any is_closing (map (header_bytes text) (take (i + 1) headers))
+closing_more text headers i h before one le before_is one_is =
+    let more : list_any is_closing (map (header_bytes text) (take (i + 1) headers)) ≡ (list_any is_closing (map (header_bytes text) (take i headers)) || one) =
+    ap (list_any is_closing) (map_more (header_bytes text) headers i h le)
+    ∙ list_any-append is_closing (map (header_bytes text) (take i headers)) (header_bytes text (get_or headers i h) ∷ [])
+    ∙ ap (λ b. list_any is_closing (map (header_bytes text) (take i headers)) || b) (or_false (is_closing (header_bytes text (get_or headers i h))) ∙ sym one_is) in
+    ap (λ b. b || one) before_is ∙ sym more
+
+-- why the head is refused, by what was read of the spans that cover it
+pub refusal_read : {text : List ℕ} {r : RequestSpans} {headers : List HeaderSpan} {h : RequestHead} → Covers text r headers h
+    → (method : Method) (told : Number) (none : Bool) (limit : ℕ) → method ≡ method_named (span_bytes text r.method)
+    → told ≡ length_told (map (header_bytes text) headers) → none ≡ lacks (codes "transfer-encoding") (map (header_bytes text) headers)
+    → limit ≡ limit_at (span_bytes text r.path) → head_refusal h ≡ refusal method told (not none) limit
+unfolding head_refusal
+refusal_read {text = text} {r = r} {headers = headers} {h = h} covers method told none limit method_is told_is none_is limit_is =
+    let m : method_named h.method ≡ method = ap method_named (sym covers.method) ∙ sym method_is in
+    let l : length_told (fields_of h) ≡ told = ap length_told (sym covers.fields) ∙ sym told_is in
+    let e : lacks (codes "transfer-encoding") (fields_of h) ≡ none = ap (lacks (codes "transfer-encoding")) (sym covers.fields) ∙ sym none_is in
+    let t : limit_at h.target ≡ limit = ap limit_at (sym covers.target) ∙ sym limit_is in
+    ap (λ x. refusal x (length_told (fields_of h)) (not (lacks (codes "transfer-encoding") (fields_of h))) (limit_at h.target)) m
+    ∙ ap (λ x. refusal method x (not (lacks (codes "transfer-encoding") (fields_of h))) (limit_at h.target)) l
+    ∙ ap (λ x. refusal method told (not x) (limit_at h.target)) e
+    ∙ ap (λ x. refusal method told (not none) x) t
+
+-- what the head says, by what was read of the spans that cover it
+pub says_read : {text : List ℕ} {r : RequestSpans} {headers : List HeaderSpan} {h : RequestHead} → Covers text r headers h → (head : Head)
+    → head.method ≡ method_named (span_bytes text r.method) → head.target.now ≡ span_bytes text r.path
+    → head.size ≡ value_or_zero (length_told (map (header_bytes text) headers)) → head.closes ≡ closes r.version (map (header_bytes text) headers)
+    → option_map (λ c. c.now) head.caller ≡ caller_told (map (header_bytes text) headers) → head.after ≡ after_told (map (header_bytes text) headers)
+    → Says h head
+unfolding method_of size_of closes_of caller_of after_of
+says_read {text = text} {r = r} {headers = headers} {h = h} covers head method target size closing caller after = record {
+  method = method ∙ ap method_named covers.method;
+  target = target ∙ covers.target;
+  size = size ∙ ap (λ f. value_or_zero (length_told f)) covers.fields;
+  closes = closing ∙ ap (λ m. closes m (map (header_bytes text) headers)) covers.minor ∙ ap (closes h.minor) covers.fields;
+  caller = caller ∙ ap caller_told covers.fields;
+  after = after ∙ ap after_told covers.fields;
+}
+
+-- the spans of the one head cover it
+pub covers_whole : (text : List ℕ) (headers : List HeaderSpan) (r : RequestSpans) (w : IsWholeHead text headers r) → Covers text r (take r.headers headers) w.head
+covers_whole text headers r w = record { method = w.at.method; target = w.at.path; minor = w.at.version; fields = w.at.fields }
+
+-- an answer that is due to a head is due to its text
+pub judged_head : (text : List ℕ) (answer : Judged) → IsJudgedHead text answer → IsJudged text answer
+judged_head text Bad judged = inr judged
+judged_head text LengthRequired judged = judged
+judged_head text (TooLarge limit) judged = judged
+judged_head text (Good head) judged = judged
+
+-- a refusal is due where it is the head's
+pub due_refused : (h : RequestHead) (why : Option HeadRefusal) (answer : Judged) → head_refusal h ≡ why → Refuses why answer → IsDue h answer
+due_refused h why Bad same refuses = same ∙ refuses
+due_refused h why LengthRequired same refuses = same ∙ refuses
+due_refused h why (TooLarge limit) same refuses = same ∙ refuses
+due_refused h why (Good head) same refuses = absurd refuses

@@ -1,3 +1,5 @@
 pub mod Fields
-pub mod Plain
+pub mod Heads
+pub mod Numbers
+pub mod Says
 pub mod Judging

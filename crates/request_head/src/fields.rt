@@ -1,13 +1,16 @@
 //! Fields by their names, which are the same in any case of letters.
-ghost use Rattle.std.specs.Prelude.{◌≡◌, ℕ, List, [], ◌∷◌, ◌++◌, All, IfSome, length, map, option_map};
+ghost use Rattle.std.specs.Prelude.{◌≡◌, ◌≤◌, ℕ, List, [], ◌∷◌, ◌++◌, All, IfSome, length, map, option_map};
 ghost use Rattle.httparse.specs.Spans.{IsWithin, IsHeaderWithin, span_bytes, header_bytes};
 ghost use Rattle.request_head.specs.Fields.{named, if_named, same_name, lacks as spec_lacks, only as spec_only};
 ghost use Rattle.request_head.specs.Judging.{IsFound};
+ghost use Rattle.request_head.specs.Numbers.{only_number as spec_only_number};
 
 use crate::found::Found;
+use crate::number::Number;
 use httparse::spans::{HeaderSpan, Span};
 
-fn is_named(text: &[u8], header: &HeaderSpan, name: &[u8]) -> bool
+/// Whether the header has this name.
+pub fn is_named(text: &[u8], header: &HeaderSpan, name: &[u8]) -> bool
     requires { IsHeaderWithin (length text.now) header.now }
     ensures { result ≡ same_name (span_bytes text.now header.now.name) name.now }
 {
@@ -54,5 +57,18 @@ pub fn only(text: &[u8], headers: &[HeaderSpan], name: &[u8]) -> Option<Span>
     match find_field(text, headers, name) {
         Found::Once(span) => Some(span),
         _ => None,
+    }
+}
+
+/// What the values of this name tell that is to stand there once, in 1 to `most` digits.
+pub fn only_number(text: &[u8], headers: &[HeaderSpan], name: &[u8], most: usize) -> Number
+    requires fields { All (IsHeaderWithin (length text.now)) headers.now }
+    requires digits { most ≤ 19 }
+    ensures { result ≡ spec_only_number most (named name.now (map (header_bytes text.now) headers.now)) }
+{
+    match find_field(text, headers, name) {
+        Found::Absent => Number::Absent,
+        Found::Once(span) => Number::of(span.of(text), most),
+        Found::Repeated => Number::Broken,
     }
 }

@@ -1,20 +1,35 @@
-ghost use Rattle.std.specs.Prelude.{◌≡◌, length, MatchOption};
-ghost use Rattle.request_head.specs.Plain.{IsNoHead};
-ghost use Rattle.request_head.specs.Judging.{IsJudged, IsWholeHead};
+ghost use Rattle.std.specs.Prelude.{◌≡◌, All, IsUtf8, length, map, MatchOption, MatchResult, option_map};
+ghost use Rattle.httparse.specs.Grammar.{RequestHead};
+ghost use Rattle.httparse.specs.Spans.{IsWithin, IsHeaderWithin, span_bytes, header_bytes};
+ghost use Rattle.request_head.specs.Heads.{IsNoHead};
+ghost use Rattle.request_head.specs.Says.{limit_at as spec_limit_at, caller_told as spec_caller_told, refusal};
+ghost use Rattle.request_head.specs.Numbers.{value_or_zero};
+ghost use Rattle.request_head.specs.Judging.{IsJudged, IsDue, Refuses, Covers, IsWholeHead};
 
-use crate::PlainHead;
-use crate::plain_head::plain_head;
+use crate::caller::caller_of;
+use crate::connection::closes;
+use crate::fields::{lacks, only, only_number};
+use crate::number::Number;
+use crate::{After, Head, Method};
 use httparse::Status;
 use httparse::spans::{EMPTY_HEADER_SPAN, HeaderSpan, RequestSpans, parse_request};
 
-/// Whether bytes are the head of a request that is served.
+// The most bytes of a body, and of one that is put under `/blobs/`.
+const BODY_LIMIT: u32 = 65536;
+
+const BLOB_LIMIT: u32 = 16777216;
+
+/// What is judged of the bytes of a head.
 #[derive(Clone, Copy, Debug, PartialEq, Eq)]
 pub enum Judged<'a> {
-    /// They are no request head, or one with more than 64 fields.
+    /// They are no request head, or one with more than 64 fields, or one whose Content-Length is
+    /// not one field of 1 to 10 digits.
     Bad,
-    /// They are a head of a form that is not served.
-    NotBuilt,
-    Plain(PlainHead<'a>),
+    /// The head has a Transfer-Encoding, or its method is POST or PUT and it has no Content-Length.
+    LengthRequired,
+    /// The Content-Length is above the limit of the target.
+    TooLarge { limit: u32 },
+    Good(Head<'a>),
 }
 
 // Where the parts of the one head stand that the text is.
@@ -28,16 +43,88 @@ fn whole_head(text: &[u8], headers: &mut [HeaderSpan]) -> Option<RequestSpans>
     }
 }
 
+fn limit_at(target: &[u8]) -> u32
+    ensures { result ≡ spec_limit_at target.now }
+{
+    if target.starts_with(b"/blobs/") {
+        BLOB_LIMIT
+    } else {
+        BODY_LIMIT
+    }
+}
+
+fn target_text(target: &[u8]) -> &str
+    requires { IsUtf8 target.now }
+    ensures { result.now ≡ target.now }
+{
+    str::from_utf8(target).unwrap()
+}
+
+fn caller_told<'a>(text: &'a [u8], headers: &[HeaderSpan]) -> Option<&'a str>
+    requires { All (IsHeaderWithin (length text.now)) headers.now }
+    ensures { option_map (λ who. who.now) result ≡ spec_caller_told (map (header_bytes text.now) headers.now) }
+{
+    let caller = only(text, headers, b"x-swarming-caller")?;
+    caller_of(caller.of(text))
+}
+
+// The bytes of the body, or the refusal that is due.
+fn body_size<'a>(
+    method: Method,
+    length: Number,
+    encoded: bool,
+    limit: u32,
+) -> Result<u32, Judged<'a>>
+    ensures { MatchResult result
+        (λ size. (refusal method length encoded limit ≡ None) × (size ≡ value_or_zero length))
+        (λ answer. Refuses (refusal method length encoded limit) answer) }
+{
+    if length.is_broken() {
+        return Err(Judged::Bad);
+    }
+    if encoded || (method.has_body() && length.is_absent()) {
+        return Err(Judged::LengthRequired);
+    }
+    let size = length.value_or_zero();
+    if size > u64::from(limit) {
+        return Err(Judged::TooLarge { limit });
+    }
+    Ok(size as u32)
+}
+
+// The answer that is due to the head that these spans cover.
+fn judge_head<'a>(text: &'a [u8], head: &RequestSpans, headers: &[HeaderSpan]) -> Judged<'a>
+    requires method { IsWithin (length text.now) head.now.method }
+    requires path { IsWithin (length text.now) head.now.path }
+    requires path_text { IsUtf8 (span_bytes text.now head.now.path) }
+    requires fields { All (IsHeaderWithin (length text.now)) headers.now }
+    ensures { (h : RequestHead) → Covers text.now head.now headers.now h → IsDue h result }
+{
+    let method = Method::named(head.method.of(text));
+    let target = target_text(head.path.of(text));
+    let length = only_number(text, headers, b"content-length", 10);
+    let plain = lacks(text, headers, b"transfer-encoding");
+    let limit = limit_at(target.as_bytes());
+    match body_size(method, length, !plain, limit) {
+        Ok(size) => Judged::Good(Head {
+            method,
+            target,
+            size,
+            closes: closes(text, head.version, headers),
+            caller: caller_told(text, headers),
+            after: After::from_number(only_number(text, headers, b"x-swarming-after", 19)),
+        }),
+        Err(refused) => refused,
+    }
+}
+
 /// Judges the bytes through the end of a head. It takes no memory.
 pub fn judge(text: &[u8]) -> Judged<'_>
     ensures { IsJudged text.now result }
 {
     let mut headers = [EMPTY_HEADER_SPAN; 64];
-    let Some(head) = whole_head(text, &mut headers) else {
-        return Judged::Bad;
-    };
-    match plain_head(text, &head, &headers[..head.headers]) {
-        Some(plain) => Judged::Plain(plain),
-        None => Judged::NotBuilt,
+    match whole_head(text, &mut headers) {
+        Some(head) => judge_head(text, &head, &headers[..head.headers]),
+        None => Judged::Bad,
     }
 }

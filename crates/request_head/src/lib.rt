@@ -1,22 +1,27 @@
-//! What the head of a request says, and whether it is one that is served.
+//! What the head of a request says.
 //!
-//! The bytes that are judged are those through the first CR LF CR LF. [`judge`] gives one of three
-//! answers, each exactly where it is due. `Bad`: they are not one whole request head with at most
-//! 64 fields, by the grammar of RFC 9112 as `httparse` reads it, which also takes a bare LF as the
-//! end of a line and empty lines before the first. `NotBuilt`: they are a head, but not one of the
-//! form that is served. `Plain`: they are a head of that form, with the size of its body and the
-//! name of its caller, a text. Definitions in `specs/` say the form as a function of what the
-//! grammar reads: method, target, version, and the list of the fields' names and values. So the
-//! layer above needs no more than the one head that the bytes are, and that function of it.
+//! [`judge`] takes the bytes through the first CR LF CR LF and gives one of four answers, each
+//! exactly where it is due: `Bad`, `LengthRequired`, `TooLarge`, or `Good` with all that a served
+//! request's head may say. A head is what `httparse` reads by the grammar of RFC 9112, with at most
+//! 64 fields; it also takes a bare LF as the end of a line, and empty lines before the first.
+//! `specs/Says` has each part of an answer as a function of that head: its refusal, method, body's
+//! size, caller and the others. Names of fields are the same in any case of letters; `Expect` and
+//! fields of other names are ignored.
 #![tactic(auto)]
 
-mod content_length;
+mod after;
+mod caller;
+mod connection;
 mod fields;
 mod found;
+mod head;
 mod judged;
-mod plain_head;
+mod method;
+mod number;
 #[cfg(test)]
 mod tests;
 
+pub use after::After;
+pub use head::Head;
 pub use judged::{Judged, judge};
-pub use plain_head::PlainHead;
+pub use method::Method;

@@ -1,7 +1,6 @@
 -- A session that had no memory to begin with.
 use Rattle.std.proofs.Common.{◌≡◌, ℕ, List, [], Option, refl}
 use Rattle.sw_base.specs.Link.{LinkState}
-use Rattle.swarm_policy.specs.Open.{open_settings}
 use Rattle.swarm_http.specs.declared.ended.Ended.TheVariants.{Memory}
 use Rattle.swarm_http.proofs.Serving.{no_memory}
 use Rattle.swarm_cli.specs.Run.{RunsSession, status_of}

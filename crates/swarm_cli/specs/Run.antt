@@ -1,17 +1,18 @@
 -- What the program does.
 use Rattle.std.specs.Prelude.{◌≡◌, ◌⊎◌, ℕ, List, [], ◌∷◌, codes, Option}
 use Rattle.sw_base.specs.Faults.{Rose}
-use Rattle.sw_base.specs.Link.{LinkState, IsClean}
+use Rattle.sw_base.specs.Link.{LinkState}
 use Rattle.swarm_policy.specs.Open.{open_settings}
 use Rattle.swarm_history.specs.Doors.{Logs}
 use Rattle.swarm_http.specs.declared.ended.Ended.{Ended}
-use Rattle.swarm_http.specs.declared.ended.Ended.TheVariants.{Closed, CutShort, BadHead, Retired, ReadFault, WriteFault, Memory}
+use Rattle.swarm_http.specs.declared.ended.Ended.TheVariants.{Closed, LastAsked, CutShort, BadHead, Retired, ReadFault, WriteFault, Memory}
 use Rattle.swarm_http.specs.Sends.{Written}
 use Rattle.swarm_http.specs.Answered.{IsAnswered}
 
 -- the status of an ending
 abbrev pub status_of : Ended → ℕ
 status_of Closed = 0
+status_of LastAsked = 0
 status_of Retired = 0
 status_of ReadFault = 4
 status_of WriteFault = 4

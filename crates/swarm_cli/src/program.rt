@@ -10,7 +10,7 @@ fn status_of(ended: Ended) -> u8
     ensures { result ≡ status_of ended }
 {
     match ended {
-        Ended::Closed | Ended::Retired => 0,
+        Ended::Closed | Ended::LastAsked | Ended::Retired => 0,
         Ended::ReadFault | Ended::WriteFault => 4,
         Ended::Memory => 5,
         Ended::CutShort | Ended::BadHead => 7,
@@ -44,7 +44,7 @@ fn are_session(words: &[String]) -> bool
 ///
 /// | Status | Where |
 /// |---|---|
-/// | 0 | the session was closed by its client, or has answered 65536 requests |
+/// | 0 | the input ended between requests, the last request asked to close, or 65536 were answered |
 /// | 2 | the words are no command; `usage` is printed |
 /// | 4 | a read, a write or a flush on the console failed |
 /// | 5 | there was no memory to begin with |

@@ -5,7 +5,10 @@ use std::test::Fail;
 use swarm_http::{MemoryLink, StepClock};
 
 mod bodies;
+mod fronts;
+mod heads;
 mod limits;
+mod reading;
 mod turns;
 
 const PATH: &str = "/prpc/swarming.v2.Tasks/NewTask";
@@ -19,14 +22,38 @@ const PENDING: &str =
 const NOT_BUILT_TASK: &str =
     "HTTP/1.1 501 Not Implemented\r\nContent-Length: 34\r\nContent-Type: application/json\r\n\r\n{\"code\":\"not_built\",\"what\":\"task\"}";
 
-const NOT_BUILT_HEAD: &str =
-    "HTTP/1.1 501 Not Implemented\r\nContent-Length: 34\r\nContent-Type: application/json\r\n\r\n{\"code\":\"not_built\",\"what\":\"head\"}";
-
 const OUT_OF_RANGE: &str =
     "HTTP/1.1 400 Bad Request\r\nContent-Length: 75\r\nContent-Type: application/json\r\n\r\n{\"code\":\"bad_field\",\"field\":\"task_slices.0.expiration_secs\",\"rule\":\"range\"}";
 
-const BAD_HEAD: &str =
-    "HTTP/1.1 400 Bad Request\r\nContent-Length: 19\r\nContent-Type: application/json\r\n\r\n{\"code\":\"bad_head\"}";
+const NO_ROUTE: &str =
+    "HTTP/1.1 404 Not Found\r\nContent-Length: 19\r\nContent-Type: application/json\r\n\r\n{\"code\":\"no_route\"}";
+
+const NO_POOL: &str =
+    "HTTP/1.1 404 Not Found\r\nContent-Length: 18\r\nContent-Type: application/json\r\n\r\n{\"code\":\"no_pool\"}";
+
+const NO_TASK: &str =
+    "HTTP/1.1 404 Not Found\r\nContent-Length: 18\r\nContent-Type: application/json\r\n\r\n{\"code\":\"no_task\"}";
+
+const NO_TASK_OF_ONE: &str =
+    "HTTP/1.1 404 Not Found\r\nContent-Length: 18\r\nContent-Type: application/json\r\nX-Swarming-Front: 1\r\n\r\n{\"code\":\"no_task\"}";
+
+const COUNTS_ONE: &str =
+    "HTTP/1.1 200 OK\r\nContent-Length: 11\r\nContent-Type: application/json\r\nX-Swarming-Front: 1\r\n\r\n{\"count\":1}";
+
+const STATE_BREAKS: &str =
+    "HTTP/1.1 400 Bad Request\r\nContent-Length: 53\r\nContent-Type: application/json\r\n\r\n{\"code\":\"bad_field\",\"field\":\"state\",\"rule\":\"grammar\"}";
+
+const BAD_JSON: &str =
+    "HTTP/1.1 400 Bad Request\r\nContent-Length: 19\r\nContent-Type: application/json\r\n\r\n{\"code\":\"bad_json\"}";
+
+const COUNTS_NONE: &str =
+    "HTTP/1.1 200 OK\r\nContent-Length: 11\r\nContent-Type: application/json\r\nX-Swarming-Front: 0\r\n\r\n{\"count\":0}";
+
+/// The body of the small task.
+const TASK: &str =
+    "{\"task_slices\":[{\"expiration_secs\":600,\"wait_for_capacity\":true,\"properties\":{\"command\":[\"true\"],\"dimensions\":[{\"key\":\"pool\",\"value\":\"default\"}]}}]}";
+
+const DEFAULT: &str = "{\"pool\":\"default\"}";
 
 /// The reply that a front and a task's id stand in.
 fn pending(alloc: Global, front: u32, id: &str) -> Result<String, AllocError> {
@@ -41,6 +68,14 @@ fn task_of(alloc: Global, secs: &str) -> Result<String, AllocError> {
     let size = body.len();
     format!(in alloc;
         "POST {PATH} HTTP/1.1\r\nX-Swarming-Caller: ana\r\nContent-Length: {size}\r\n\r\n{body}"
+    )
+}
+
+/// A request of `ana` for a call, with these further fields.
+fn asking(alloc: Global, call: &str, fields: &str, body: &str) -> Result<String, AllocError> {
+    let size = body.len();
+    format!(in alloc;
+        "POST /prpc/swarming.v2.Tasks/{call} HTTP/1.1\r\nX-Swarming-Caller: ana\r\nContent-Length: {size}\r\n{fields}\r\n{body}"
     )
 }
 
@@ -59,6 +94,19 @@ fn run_over(alloc: Global, input: &[u8], piece: usize, fails: &[u64]) -> Result<
     let words = vec![in alloc; String::from_str(alloc, "session")?]?;
     let status = run(alloc, &words, &mut link, &mut clock);
     Ok(Ran { status, link })
+}
+
+/// Sends a text with the small task behind it.
+fn followed(alloc: Global, text: &str) -> Result<Ran, AllocError> {
+    let mut input = Vec::from_slice(alloc, text.as_bytes())?;
+    input.extend_from_slice(NEW_TASK)?;
+    run_over(alloc, input.as_slice(), 1000, &[])
+}
+
+/// A reply with that to the small task behind it, which is the first of its pool.
+fn and_pending(alloc: Global, reply: &str) -> Result<String, AllocError> {
+    let first = pending(alloc, 1, "10")?;
+    format!(in alloc; "{reply}{first}")
 }
 
 #[test]
@@ -107,93 +155,6 @@ fn requests_one_after_another(rt: HostRuntime) -> Result<(), Fail> {
     let ran = run_over(alloc, input.as_slice(), 1000, &[])?;
     assert_eq!(rt; ran.status, 0);
     assert_eq!(rt; ran.link.output(), expected.as_bytes());
-    Ok(())
-}
-
-#[test]
-fn heads_that_are_refused(rt: HostRuntime) -> Result<(), Fail> {
-    let good = "X-Swarming-Caller: ana\r\nContent-Length: 2\r\n";
-    let rows = [
-        // No head of a request.
-        ("GET /\r\n", "", BAD_HEAD),
-        (
-            "POST /prpc/swarming.v2.Tasks/NewTask HTTP/1.1\r\n",
-            "X-Swarming Caller: ana\r\n",
-            BAD_HEAD,
-        ),
-        // Heads that aren't served yet.
-        (
-            "POST /prpc/swarming.v2.Tasks/NewTask HTTP/1.0\r\n",
-            good,
-            NOT_BUILT_HEAD,
-        ),
-        (
-            "GET /prpc/swarming.v2.Tasks/NewTask HTTP/1.1\r\n",
-            good,
-            NOT_BUILT_HEAD,
-        ),
-        (
-            "POST /prpc/swarming.v2.Tasks/CountTasks HTTP/1.1\r\n",
-            good,
-            NOT_BUILT_HEAD,
-        ),
-        (
-            "POST /prpc/swarming.v2.Tasks/NewTask HTTP/1.1\r\n",
-            "Content-Length: 2\r\n",
-            NOT_BUILT_HEAD,
-        ),
-        (
-            "POST /prpc/swarming.v2.Tasks/NewTask HTTP/1.1\r\n",
-            "X-Swarming-Caller: ana\r\n",
-            NOT_BUILT_HEAD,
-        ),
-        (
-            "POST /prpc/swarming.v2.Tasks/NewTask HTTP/1.1\r\n",
-            "X-Swarming-Caller: ana\r\nX-Swarming-Caller: bob\r\nContent-Length: 2\r\n",
-            NOT_BUILT_HEAD,
-        ),
-        (
-            "POST /prpc/swarming.v2.Tasks/NewTask HTTP/1.1\r\n",
-            "X-Swarming-Caller: ana bob\r\nContent-Length: 2\r\n",
-            NOT_BUILT_HEAD,
-        ),
-        (
-            "POST /prpc/swarming.v2.Tasks/NewTask HTTP/1.1\r\n",
-            "X-Swarming-Caller: ana\r\nContent-Length: 2\r\nContent-Length: 2\r\n",
-            NOT_BUILT_HEAD,
-        ),
-        (
-            "POST /prpc/swarming.v2.Tasks/NewTask HTTP/1.1\r\n",
-            "X-Swarming-Caller: ana\r\nContent-Length: +2\r\n",
-            NOT_BUILT_HEAD,
-        ),
-        (
-            "POST /prpc/swarming.v2.Tasks/NewTask HTTP/1.1\r\n",
-            "X-Swarming-Caller: ana\r\nContent-Length: 65537\r\n",
-            NOT_BUILT_HEAD,
-        ),
-        (
-            "POST /prpc/swarming.v2.Tasks/NewTask HTTP/1.1\r\n",
-            "X-Swarming-Caller: ana\r\nContent-Length: 2\r\nConnection: keep-alive\r\n",
-            NOT_BUILT_HEAD,
-        ),
-        (
-            "POST /prpc/swarming.v2.Tasks/NewTask HTTP/1.1\r\n",
-            "X-Swarming-Caller: ana\r\nContent-Length: 2\r\nTransfer-Encoding: chunked\r\n",
-            NOT_BUILT_HEAD,
-        ),
-        (
-            "POST /prpc/swarming.v2.Tasks/NewTask HTTP/1.1\r\n",
-            "X-Swarming-Caller: ana\r\nContent-Length: 2\r\nX-Swarming-After: 1\r\n",
-            NOT_BUILT_HEAD,
-        ),
-    ];
-    for (line, fields, expected) in rows {
-        let input = format!(in rt.alloc(); "{line}{fields}\r\n{{}}")?;
-        let ran = run_over(rt.alloc(), input.as_bytes(), 1000, &[])?;
-        assert_eq!(rt; ran.status, 7, "{line}{fields}");
-        assert_eq!(rt; ran.link.output(), expected.as_bytes(), "{line}{fields}");
-    }
     Ok(())
 }
 

@@ -2,3 +2,4 @@ pub mod Sending
 pub mod Texts
 pub mod Requests
 pub mod Serving
+pub mod Asking

@@ -1,5 +1,7 @@
 -- The head at the front of what is pending, and what stands behind it.
-use Rattle.std.proofs.Common.{◌≡◌, ℕ, ◌+◌, ◌-◌, ◌≤◌, List, [], ◌++◌, length, take, arith, sym, ap, ◌∙◌, subst, append_assoc, append-nil, Some}
+use Rattle.std.specs.Prelude.{◌⊎◌, if◌then◌else◌, not, nat_le, nat_eq, codes}
+use Rattle.std.specs.List.{starts_with}
+use Rattle.std.proofs.Common.{inl, inr, refl, Bool, true, false, ◌≡◌, ℕ, ◌+◌, ◌-◌, ◌<◌, ◌≤◌, None, List, [], ◌++◌, length, take, arith, sym, ap, ◌∙◌, subst, append_assoc, append-nil, Some}
 use Rattle.std.proofs.lemmas.List.{get_or-take, length-take-le}
 use Rattle.httparse.specs.Grammar.{RequestHead}
 use Rattle.memchr.specs.Find.{OccursAt}
@@ -7,18 +9,23 @@ use Rattle.sw_base.specs.Link.{LinkState}
 use Rattle.sw_base.proofs.Moving.{Moves-refl, Moves-trans}
 use Rattle.link_reader.specs.Heads.{blank_line, IsHeadEnd, Grows}
 use Rattle.link_reader.specs.Bodies.{IsWhole, IsCut}
-use Rattle.link_reader.specs.declared.pending.TheConstants.{HEAD_LIMIT}
-use Rattle.request_head.specs.Plain.{IsHead, plain}
+use Rattle.request_head.specs.Heads.{IsHead, IsNoHead}
+use Rattle.request_head.specs.Fields.{lacks}
+use Rattle.request_head.specs.Numbers.{is_broken, value_or_zero}
+use Rattle.request_head.specs.Says.{bad, length_required, too_large, head_refusal, size_of, limit_at, fields_of, length_told, wants_length, method_named}
+use Rattle.request_head.specs.Judging.{IsJudgedHead}
+use Rattle.request_head.specs.declared.judged.Judged.TheVariants as judged
+use Rattle.swarm_model.specs.declared.rule.Rule.TheVariants as rule
 use Rattle.swarm_http.specs.declared.ended.Ended.{Ended}
-use Rattle.swarm_http.specs.declared.ended.Ended.TheVariants.{Closed, CutShort, BadHead, Retired, ReadFault, WriteFault, Memory}
+use Rattle.swarm_http.specs.declared.ended.Ended.TheVariants.{Closed, LastAsked, CutShort, BadHead, Retired, ReadFault, WriteFault, Memory}
 use Rattle.swarm_http.specs.declared.reply.Refusal.{Refusal}
 use Rattle.swarm_http.specs.declared.request.Received.{Received}
 use Rattle.swarm_http.specs.declared.request.Taken.{Taken}
 use Rattle.swarm_http.specs.declared.request.Taken.TheVariants as taken
 use Rattle.swarm_http.specs.Exchange.{HeadSays}
-use Rattle.swarm_http.specs.Answered.{IsPart, in_body, IsRefused}
+use Rattle.swarm_http.specs.Answered.{IsPart, in_body, IsRefused, no_head, by_head}
 use Rattle.swarm_http.specs.Sends.{rule_of}
-use Rattle.swarm_http.specs.Takes.{IsHeld, IsReceived, StopsAs, IsTaken, Takes}
+use Rattle.swarm_http.specs.Takes.{IsLimit, IsHeld, IsReceived, StopsAs, IsTaken, Takes}
 
 occurs_in_front : (bytes : List ℕ) (n k : ℕ) → n ≤ length bytes → k + 4 ≤ n → OccursAt bytes blank_line k → OccursAt (take n bytes) blank_line k
 occurs_in_front bytes n k le fits at = record {
@@ -47,32 +54,64 @@ head_alone bytes n end =
       first = λ k low high at. end.first k low high (occurs_in_all bytes n k end.within at);
     })
 
--- what a head says that is served
-pub says_plain : {bytes who : List ℕ} {n size : ℕ} → length bytes ≤ HEAD_LIMIT → IsHeadEnd bytes n → (h : RequestHead) → IsHead (take n bytes) h → plain h ≡ Some (size, who)
-    → HeadSays (take n bytes) size who
-says_plain {bytes = bytes} {n = n} short end h is_head told = record {
+-- the head at the front of what is pending
+pub says_head : {bytes : List ℕ} {n : ℕ} → length bytes ≤ 16384 → IsHeadEnd bytes n → (h : RequestHead) → IsHead (take n bytes) h → head_refusal h ≡ None
+    → HeadSays (take n bytes) h
+says_head {bytes = bytes} {n = n} short end h is_head accepted = record {
   short = let l : length (take n bytes) ≡ n = length-take-le n bytes end.within in let w : n ≤ length bytes = end.within in omega arith;
   ends = head_alone bytes n end;
-  head = h;
   is_head = is_head;
-  plain_is = told;
+  accepted = accepted;
 }
 
 -- a body was read to its end
-pub received_whole : {received : Received} {input text rest body who : List ℕ} {size : ℕ}
-    → HeadSays text size who → IsWhole input text rest size body → IsHeld received body who → IsReceived received input rest
-received_whole {text = text} {rest = rest} {body = body} {who = who} says whole held = record {
+pub received_whole : {received : Received} {input text rest body : List ℕ} {size : ℕ} {head : RequestHead}
+    → HeadSays text head → size ≡ size_of head → IsWhole input text rest size body → IsHeld received body head → IsReceived received input rest
+received_whole {text = text} {rest = rest} {body = body} {head = head} says told whole held = record {
   text = text;
   body = body;
-  who = who;
-  says = subst (λ k. HeadSays text k who) (sym whole.length_is) says;
+  head = head;
+  says = says;
+  size = sym told ∙ sym whole.length_is;
   input_is = whole.input_is ∙ sym (append_assoc text body rest);
   held = held;
 }
 
 -- a body was cut short
-pub part_cut : {input text who : List ℕ} {size : ℕ} → HeadSays text size who → IsCut input text size → IsPart input
-part_cut {text = text} {who = who} {size = size} says cut = in_body text cut.front who size says cut.input_is cut.short
+pub part_cut : {input text : List ℕ} {size : ℕ} {head : RequestHead} → HeadSays text head → size ≡ size_of head → IsCut input text size → IsPart input
+part_cut {text = text} {size = size} {head = head} says told cut =
+    in_body text cut.front head says cut.input_is (let short : length cut.front < size = cut.short in omega (arith, told))
+
+-- the bytes through the first blank line are no head, or one that says so
+pub bad_refused : (pending : List ℕ) (n : ℕ) → IsHeadEnd pending n → IsNoHead (take n pending) ⊎ IsJudgedHead (take n pending) judged.Bad → IsRefused pending rule.BadHead
+bad_refused pending n end (inl none) = no_head n refl end none
+bad_refused pending n end (inr h) = by_head n h.head bad refl end h.is_head h.due
+
+pub length_refused : (pending : List ℕ) (n : ℕ) → IsHeadEnd pending n → IsJudgedHead (take n pending) judged.LengthRequired → IsRefused pending rule.LengthRequired
+length_refused pending n end h = by_head n h.head length_required refl end h.is_head h.due
+
+pub size_refused : (pending : List ℕ) (n limit : ℕ) → IsHeadEnd pending n → IsJudgedHead (take n pending) (judged.TooLarge limit) → IsRefused pending (rule.TooLarge limit)
+size_refused pending n limit end h = by_head n h.head (too_large limit) refl end h.is_head h.due
+
+refusal_limit : (broken wants fits : Bool) (at limit : ℕ)
+    → (if broken then Some bad else (if wants then Some length_required else (if fits then None else Some (too_large at)))) ≡ Some (too_large limit) → at ≡ limit
+refusal_limit true wants fits at limit e = absurd (cc)
+refusal_limit false true fits at limit e = absurd (cc)
+refusal_limit false false true at limit e = absurd (cc)
+refusal_limit false false false at limit e = cc
+
+one_of_limits : (blob : Bool) → IsLimit (if blob then 16777216 else 65536)
+one_of_limits true = inr refl
+one_of_limits false = inl refl
+
+-- there are two limits
+pub limit_is : (h : RequestHead) (limit : ℕ) → head_refusal h ≡ Some (too_large limit) → IsLimit limit
+unfolding head_refusal
+limit_is h limit e =
+    subst IsLimit
+    (refusal_limit (is_broken (length_told (fields_of h))) (wants_length (method_named h.method) (length_told (fields_of h)) (not (lacks (codes "transfer-encoding") (fields_of h))))
+    (nat_le (value_or_zero (length_told (fields_of h))) (limit_at h.target)) (limit_at h.target) limit e)
+    (one_of_limits (starts_with nat_eq h.target (codes "/blobs/")))
 
 -- the head that is pending is refused, with nothing read
 pub refused_here : {s : LinkState} {pending : List ℕ} {why : Refusal} → IsRefused pending (rule_of why) → Takes s s pending pending (taken.Refuses why)
@@ -82,6 +121,7 @@ stops_after : (ended : Ended) (rest : List ℕ) (s t u : LinkState) → s.read_f
 stops_after Closed rest s t u le x = x
 stops_after CutShort rest s t u le x = x
 stops_after ReadFault rest s t u le x = (omega (arith, x.0), x.1)
+stops_after LastAsked rest s t u le x = x
 stops_after BadHead rest s t u le x = x
 stops_after Retired rest s t u le x = x
 stops_after WriteFault rest s t u le x = x

@@ -1,10 +1,12 @@
 -- Exchanges, one after another.
-use Rattle.std.proofs.Common.{◌≡◌, ℕ, ◌+◌, ◌<◌, ◌≤◌, List, [], ◌∷◌, ◌++◌, length, arith, refl, sym, ap, ◌∙◌, append_assoc, append-nil, length-append, Option, None, Result, subst}
+use Rattle.std.proofs.Common.{true, false, ◌≡◌, ℕ, ◌+◌, ◌<◌, ◌≤◌, List, [], ◌∷◌, ◌++◌, length, arith, refl, sym, ap, ◌∙◌, append_assoc, append-nil, length-append, Option, None, Result, subst}
 use Rattle.std.specs.Prelude.{◌≢◌}
 use Rattle.std.specs.List.{flat_map}
 use Rattle.std.specs.Io.KnownBytes.{Consumes}
 use Rattle.std.proofs.KnownBytes.{Consumes-nil, Consumes-trans}
 use Rattle.std.proofs.lemmas.List.Concat.{flat_map-append}
+use Rattle.httparse.specs.Grammar.{RequestHead}
+use Rattle.request_head.specs.Says.{size_of}
 use Rattle.sw_base.specs.Clock.{HandsIn}
 use Rattle.sw_base.specs.Faults.{Rose}
 use Rattle.sw_base.specs.Link.{LinkState, IsClean, Moves}
@@ -12,7 +14,7 @@ use Rattle.sw_base.proofs.Moving.{Moves-refl, Moves-trans}
 use Rattle.swarm_model.specs.declared.pool_settings.Settings.{Settings}
 use Rattle.swarm_history.specs.Doors.{Logs, DoorState}
 use Rattle.swarm_http.specs.declared.ended.Ended.{Ended}
-use Rattle.swarm_http.specs.declared.ended.Ended.TheVariants.{Closed, CutShort, BadHead, Retired, ReadFault, WriteFault, Memory}
+use Rattle.swarm_http.specs.declared.ended.Ended.TheVariants.{Closed, LastAsked, CutShort, BadHead, Retired, ReadFault, WriteFault, Memory}
 use Rattle.swarm_http.specs.declared.reply.Refusal.{Refusal}
 use Rattle.swarm_http.specs.declared.reply.Shown.{Shown}
 use Rattle.swarm_http.specs.declared.request.Received.{Received}
@@ -20,7 +22,7 @@ use Rattle.swarm_http.specs.declared.request.Taken.TheVariants as taken
 use Rattle.swarm_http.specs.Shown.{refusal}
 use Rattle.swarm_http.specs.Outcomes.{Outcome, Acts, shows, uses}
 use Rattle.swarm_http.specs.Exchange.{Exchange, HeadSays, spelled, reply_of, moments_of, Chain}
-use Rattle.swarm_http.specs.Answered.{replies, Serves, IsCutReply, last_reply, head_refusal, EndsAs, IsAnswered, KeepsDoor}
+use Rattle.swarm_http.specs.Answered.{replies, Serves, NoneCloses, IsCutReply, last_reply, refused_head, EndsAs, IsAnswered, KeepsDoor}
 use Rattle.swarm_http.specs.Sends.{Sends, rule_of, text_of}
 use Rattle.swarm_http.specs.Takes.{IsHeld, StopsAs, Takes}
 use Rattle.swarm_http.specs.Steps.{Answers, GoesOn, Stops}
@@ -60,25 +62,40 @@ Serves-trans {settings = settings} {numbers = numbers} {xs = xs} {ys = ys} {pend
 replies_after : (xs ys : List Exchange) (sent : List ℕ) → sent ≡ replies ys → replies xs ++ sent ≡ replies (xs ++ ys)
 replies_after xs ys sent e = ap (λ l. replies xs ++ l) e ∙ sym (flat_map-append reply_of xs ys)
 
-cut_after : (xs ys : List Exchange) (rest sent : List ℕ) → IsCutReply ys rest sent → IsCutReply (xs ++ ys) rest (replies xs ++ sent)
-cut_after xs ys rest sent (last_reply zs x front back is so_far whole) =
-    last_reply (xs ++ zs) x front back (ap (λ l. xs ++ l) is ∙ sym (append_assoc xs zs (x ∷ [])))
+none_close : (xs ys : List Exchange) → NoneCloses xs → NoneCloses ys → NoneCloses (xs ++ ys)
+none_close [] ys p q = q
+none_close (x ∷ xs) ys p q = (p.0, none_close xs ys p.1 q)
+
+cut_after : (xs ys : List Exchange) (rest sent : List ℕ) → NoneCloses xs → IsCutReply ys rest sent → IsCutReply (xs ++ ys) rest (replies xs ++ sent)
+cut_after xs ys rest sent o (last_reply zs x front back is still so_far whole) =
+    last_reply (xs ++ zs) x front back (ap (λ l. xs ++ l) is ∙ sym (append_assoc xs zs (x ∷ []))) (none_close xs zs o still)
     (ap (λ l. replies xs ++ l) so_far ∙ sym (append_assoc (replies xs) (replies zs) front) ∙ ap (λ l. l ++ front) (sym (flat_map-append reply_of xs zs))) whole
-cut_after xs ys rest sent (head_refusal why front back refused so_far whole) =
-    head_refusal why front back refused
+cut_after xs ys rest sent o (refused_head why front back still refused so_far whole) =
+    refused_head why front back (none_close xs ys o still) refused
     (ap (λ l. replies xs ++ l) so_far ∙ sym (append_assoc (replies xs) (replies ys) front) ∙ ap (λ l. l ++ front) (sym (flat_map-append reply_of xs ys))) whole
 
--- a connection that ends after some exchanges
-ends_after : (ended : Ended) (xs ys : List Exchange) (rest sent : List ℕ) (s m t : LinkState) → s.read_faults ≤ m.read_faults → s.write_faults ≤ m.write_faults
+-- a connection that ends after some exchanges, none of which asks to close it
+ends_after : (ended : Ended) (xs ys : List Exchange) (rest sent : List ℕ) (s m t : LinkState) → NoneCloses xs → s.read_faults ≤ m.read_faults → s.write_faults ≤ m.write_faults
     → ended ≢ Retired → ended ≢ Memory → EndsAs ended ys rest sent m t → EndsAs ended (xs ++ ys) rest (replies xs ++ sent) s t
-ends_after Closed xs ys rest sent s m t r w nr nm e = (e.0, e.1, replies_after xs ys sent e.2)
-ends_after CutShort xs ys rest sent s m t r w nr nm e = (e.0, e.1, replies_after xs ys sent e.2)
-ends_after BadHead xs ys rest sent s m t r w nr nm e =
-    (e.0, e.1, ap (λ l. replies xs ++ l) e.2 ∙ sym (append_assoc (replies xs) (replies ys) (refusal None e.0)) ∙ ap (λ l. l ++ refusal None e.0) (sym (flat_map-append reply_of xs ys)))
-ends_after Retired xs ys rest sent s m t r w nr nm e = absurd (nr refl)
-ends_after ReadFault xs ys rest sent s m t r w nr nm e = (omega (arith, e.0), e.1, replies_after xs ys sent e.2)
-ends_after WriteFault xs ys rest sent s m t r w nr nm e = (omega (arith, e.0), cut_after xs ys rest sent e.1)
-ends_after Memory xs ys rest sent s m t r w nr nm e = absurd (nm refl)
+ends_after Closed xs ys rest sent s m t o r w nr nm e = (e.0, e.1, replies_after xs ys sent e.2, none_close xs ys o e.3)
+ends_after LastAsked xs ys rest sent s m t o r w nr nm e =
+    let l = e.0 in (
+      record {
+        earlier = xs ++ l.earlier;
+        last = l.last;
+        are = ap (λ k. xs ++ k) l.are ∙ sym (append_assoc xs l.earlier (l.last ∷ []));
+        open_before = none_close xs l.earlier o l.open_before;
+        closing = l.closing;
+      },
+      replies_after xs ys sent e.1,
+    )
+ends_after CutShort xs ys rest sent s m t o r w nr nm e = (e.0, e.1, replies_after xs ys sent e.2, none_close xs ys o e.3)
+ends_after BadHead xs ys rest sent s m t o r w nr nm e =
+    (e.0, e.1, ap (λ l. replies xs ++ l) e.2 ∙ sym (append_assoc (replies xs) (replies ys) (refusal None e.0)) ∙ ap (λ l. l ++ refusal None e.0) (sym (flat_map-append reply_of xs ys)), none_close xs ys o e.3)
+ends_after Retired xs ys rest sent s m t o r w nr nm e = absurd (nr refl)
+ends_after ReadFault xs ys rest sent s m t o r w nr nm e = (omega (arith, e.0), e.1, replies_after xs ys sent e.2, none_close xs ys o e.3)
+ends_after WriteFault xs ys rest sent s m t o r w nr nm e = (omega (arith, e.0), cut_after xs ys rest sent o e.1)
+ends_after Memory xs ys rest sent s m t o r w nr nm e = absurd (nm refl)
 
 -- no request was answered
 none_served : {settings : Settings} {numbers : ℕ → ℕ} {pending rest taken sent : List ℕ} {s t : LinkState} {a : ℕ → Option (List ℕ)} {d : Logs}
@@ -86,51 +103,75 @@ none_served : {settings : Settings} {numbers : ℕ → ℕ} {pending rest taken 
 none_served {taken = taken} {a = a} m is = record { taken = taken; moves = m; input_is = is; moments = HandsIn-nil a; chain = refl }
 
 -- one request was answered
-one_served : {settings : Settings} {numbers : ℕ → ℕ} {pending rest taken sent text body who : List ℕ} {outcome : Outcome} {s t : LinkState} {a b : ℕ → Option (List ℕ)} {d e : Logs}
-    → Moves s t taken sent → pending ++ taken ≡ (text ++ body) ++ rest → HeadSays text (length body) who → Acts settings numbers body who outcome d e → HandsIn a b (uses outcome)
-    → Serves settings numbers (record { text = text; body = body; who = who; outcome = outcome } ∷ []) pending rest sent s t a b d e
-one_served {rest = rest} {taken = taken} {text = text} {body = body} {outcome = outcome} {a = a} {b = b} {e = e} m is says acts moments = record {
+one_served : {settings : Settings} {numbers : ℕ → ℕ} {pending rest taken sent text body : List ℕ} {head : RequestHead} {outcome : Outcome} {s t : LinkState} {a b : ℕ → Option (List ℕ)} {d e : Logs}
+    → Moves s t taken sent → pending ++ taken ≡ (text ++ body) ++ rest → HeadSays text head → size_of head ≡ length body → Acts settings numbers head body outcome d e → HandsIn a b (uses outcome)
+    → Serves settings numbers (record { text = text; body = body; head = head; outcome = outcome } ∷ []) pending rest sent s t a b d e
+one_served {rest = rest} {taken = taken} {text = text} {body = body} {outcome = outcome} {a = a} {b = b} {e = e} m is says size acts moments = record {
   taken = taken;
   moves = m;
   input_is = is ∙ ap (λ l. l ++ rest) (sym (append-nil (text ++ body)));
   moments = subst (HandsIn a b) (sym (append-nil (uses outcome))) moments;
-  chain = (e, record { says = says; acts = acts }, refl);
+  chain = (e, record { says = says; size = size; acts = acts }, refl);
 }
 
 -- a request was taken, answered and its reply written
 pub goes_on : {settings : Settings} {numbers : ℕ → ℕ} {pending rest : List ℕ} {received : Received} {shown : Shown} {T E : Type 0} {r : Result T E} {s t u : LinkState} {a b : ℕ → Option (List ℕ)} {d e : Logs}
     → Takes s t pending rest (taken.Asks received)
-    → ((body who : List ℕ) → IsHeld received body who → Answers settings numbers body who a b d e shown)
-    → (w : Sends t u (text_of shown) r) → w.back ≡ [] → IsClean u → GoesOn settings numbers pending rest s u a b d e
-goes_on {s = s} {u = u} x answers w all flushed =
+    → ((body : List ℕ) (head : RequestHead) → IsHeld received body head → Answers settings numbers head body a b d e shown)
+    → (w : Sends t u (text_of shown) r) → w.back ≡ [] → IsClean u → received.said.closes ≡ false → GoesOn settings numbers pending rest s u a b d e
+goes_on {s = s} {u = u} x answers w all flushed still =
     let q = x.outcome in
-    let y = answers q.body q.who q.held in
+    let y = answers q.body q.head q.held in
     let sent : w.written.sent ≡ shows y.outcome = sym (append-nil w.written.sent) ∙ ap (λ l. w.written.sent ++ l) (sym all) ∙ sym w.written.whole ∙ y.shown in
     let moves = Moves-trans x.moves w.written.moves in
     record {
-      x = record { text = q.text; body = q.body; who = q.who; outcome = y.outcome };
+      x = record { text = q.text; body = q.body; head = q.head; outcome = y.outcome };
       clean = flushed;
-      serves = one_served (subst (Moves s u x.taken) sent (subst (λ l. Moves s u l w.written.sent) (append-nil x.taken) moves)) q.input_is q.says y.acts y.moments;
+      open_still = sym q.held.said.closes ∙ still;
+      serves = one_served (subst (Moves s u x.taken) sent (subst (λ l. Moves s u l w.written.sent) (append-nil x.taken) moves)) q.input_is q.says q.size y.acts y.moments;
     }
 
 -- its reply was not written whole
 pub reply_cut : {settings : Settings} {numbers : ℕ → ℕ} {pending rest : List ℕ} {received : Received} {shown : Shown} {T E : Type 0} {r : Result T E} {s t u : LinkState} {a b : ℕ → Option (List ℕ)} {d e : Logs}
     → Takes s t pending rest (taken.Asks received)
-    → ((body who : List ℕ) → IsHeld received body who → Answers settings numbers body who a b d e shown)
+    → ((body : List ℕ) (head : RequestHead) → IsHeld received body head → Answers settings numbers head body a b d e shown)
     → Sends t u (text_of shown) r → Rose t.write_faults u.write_faults → Stops settings numbers pending s u a b d e WriteFault
 reply_cut {rest = rest} {s = s} {u = u} x answers w rose =
     let q = x.outcome in
-    let y = answers q.body q.who q.held in
-    let one : Exchange = record { text = q.text; body = q.body; who = q.who; outcome = y.outcome } in
+    let y = answers q.body q.head q.held in
+    let one : Exchange = record { text = q.text; body = q.body; head = q.head; outcome = y.outcome } in
     let moves = Moves-trans x.moves w.written.moves in
     record {
       xs = one ∷ [];
       rest = rest;
       sent = w.written.sent;
-      serves = one_served (subst (λ l. Moves s u l w.written.sent) (append-nil x.taken) moves) q.input_is q.says y.acts y.moments;
-      ends = (omega (arith, x.moves.writes, rose), last_reply [] one w.written.sent w.back refl refl (sym y.shown ∙ w.written.whole));
+      serves = one_served (subst (λ l. Moves s u l w.written.sent) (append-nil x.taken) moves) q.input_is q.says q.size y.acts y.moments;
+      ends = (omega (arith, x.moves.writes, rose), last_reply [] one w.written.sent w.back refl tt refl (sym y.shown ∙ w.written.whole));
       few = omega arith;
       clean = λ n c. absurd (n refl);
+      not_retired = λ h. cc;
+      not_memory = λ h. cc;
+    }
+
+-- its reply was the last
+pub asked_last : {settings : Settings} {numbers : ℕ → ℕ} {pending rest : List ℕ} {received : Received} {shown : Shown} {T E : Type 0} {r : Result T E} {s t u : LinkState} {a b : ℕ → Option (List ℕ)} {d e : Logs}
+    → Takes s t pending rest (taken.Asks received)
+    → ((body : List ℕ) (head : RequestHead) → IsHeld received body head → Answers settings numbers head body a b d e shown)
+    → (w : Sends t u (text_of shown) r) → w.back ≡ [] → IsClean u → received.said.closes ≡ true → Stops settings numbers pending s u a b d e LastAsked
+asked_last {rest = rest} {s = s} {u = u} x answers w all flushed closing =
+    let q = x.outcome in
+    let y = answers q.body q.head q.held in
+    let one : Exchange = record { text = q.text; body = q.body; head = q.head; outcome = y.outcome } in
+    let sent : w.written.sent ≡ shows y.outcome = sym (append-nil w.written.sent) ∙ ap (λ l. w.written.sent ++ l) (sym all) ∙ sym w.written.whole ∙ y.shown in
+    let moves = Moves-trans x.moves w.written.moves in
+    record {
+      xs = one ∷ [];
+      rest = rest;
+      sent = w.written.sent;
+      serves = one_served (subst (λ l. Moves s u l w.written.sent) (append-nil x.taken) moves) q.input_is q.says q.size y.acts y.moments;
+      ends = (record { earlier = []; last = one; are = refl; open_before = tt; closing = sym q.held.said.closes ∙ closing }, sent ∙ sym (append-nil (shows y.outcome)));
+      few = omega arith;
+      clean = λ n c. flushed;
       not_retired = λ h. cc;
       not_memory = λ h. cc;
     }
@@ -145,7 +186,7 @@ head_refused {rest = rest} {why = why} {s = s} {u = u} x w all flushed =
       rest = rest;
       sent = w.written.sent;
       serves = none_served (subst (λ l. Moves s u l w.written.sent) (append-nil x.taken) moves) x.outcome.1;
-      ends = (rule_of why, x.outcome.0, sym (append-nil w.written.sent) ∙ ap (λ l. w.written.sent ++ l) (sym all) ∙ sym w.written.whole);
+      ends = (rule_of why, x.outcome.0, sym (append-nil w.written.sent) ∙ ap (λ l. w.written.sent ++ l) (sym all) ∙ sym w.written.whole, tt);
       few = omega arith;
       clean = λ n c. flushed;
       not_retired = λ h. cc;
@@ -162,7 +203,7 @@ refusal_cut {rest = rest} {why = why} {s = s} {u = u} x w rose =
       rest = rest;
       sent = w.written.sent;
       serves = none_served (subst (λ l. Moves s u l w.written.sent) (append-nil x.taken) moves) x.outcome.1;
-      ends = (omega (arith, x.moves.writes, rose), head_refusal (rule_of why) w.written.sent w.back x.outcome.0 refl w.written.whole);
+      ends = (omega (arith, x.moves.writes, rose), refused_head (rule_of why) w.written.sent w.back tt x.outcome.0 refl w.written.whole);
       few = omega arith;
       clean = λ n c. absurd (n refl);
       not_retired = λ h. cc;
@@ -170,9 +211,10 @@ refusal_cut {rest = rest} {why = why} {s = s} {u = u} x w rose =
     }
 
 ends_of : (ended : Ended) (rest : List ℕ) (s t : LinkState) → StopsAs ended rest s t → EndsAs ended [] rest [] s t × (ended ≢ Retired) × (ended ≢ Memory)
-ends_of Closed rest s t x = ((x.0, x.1, refl), (λ h. cc), (λ h. cc))
-ends_of CutShort rest s t x = ((x.0, x.1, refl), (λ h. cc), (λ h. cc))
-ends_of ReadFault rest s t x = ((x.0, x.1, refl), (λ h. cc), (λ h. cc))
+ends_of Closed rest s t x = ((x.0, x.1, refl, tt), (λ h. cc), (λ h. cc))
+ends_of CutShort rest s t x = ((x.0, x.1, refl, tt), (λ h. cc), (λ h. cc))
+ends_of ReadFault rest s t x = ((x.0, x.1, refl, tt), (λ h. cc), (λ h. cc))
+ends_of LastAsked rest s t x = absurd x
 ends_of BadHead rest s t x = absurd x
 ends_of Retired rest s t x = absurd x
 ends_of WriteFault rest s t x = absurd x
@@ -208,6 +250,7 @@ pub record SoFar (settings : Settings) (numbers : ℕ → ℕ) (count : ℕ) (pe
   pub xs : List Exchange
   pub serves : Serves settings numbers xs [] pending (replies xs) s t a b d.seen e.seen
   pub counted : length xs ≡ count
+  pub open_still : NoneCloses xs
   pub clean : IsClean s → IsClean t
   pub settings_is : e.settings ≡ settings
   pub numbers_are : e.numbers ≡ numbers
@@ -218,6 +261,7 @@ begun settings s a d same = record {
   xs = [];
   serves = nothing_served settings d.numbers s a d.seen;
   counted = refl;
+  open_still = tt;
   clean = λ c. c;
   settings_is = same;
   numbers_are = refl;
@@ -235,6 +279,7 @@ one_on {settings = settings} {numbers = numbers} {pending = pending} {more = mor
           (replies_after x.xs (y.x ∷ []) (reply_of y.x) (sym (append-nil (reply_of y.x)))) (Serves-trans x.serves step);
       clean = λ c. y.clean;
       counted = omega (arith, length-append x.xs (y.x ∷ []), x.counted);
+      open_still = none_close x.xs (y.x ∷ []) x.open_still (y.open_still, tt);
       settings_is = k.settings ∙ x.settings_is;
       numbers_are = k.numbers ∙ x.numbers_are;
       keeps = keeps_on x.keeps k;
@@ -249,14 +294,14 @@ ended_so {settings = settings} {pending = pending} {s = s} {t = t} {u = u} {b = 
       rest = y.rest;
       sent = replies x.xs ++ y.sent;
       serves = Serves-trans x.serves step;
-      ends = ends_after ended x.xs y.xs y.rest y.sent s t u x.serves.moves.reads x.serves.moves.writes y.not_retired y.not_memory y.ends;
+      ends = ends_after ended x.xs y.xs y.rest y.sent s t u x.open_still x.serves.moves.reads x.serves.moves.writes y.not_retired y.not_memory y.ends;
       few = omega (arith, length-append x.xs y.xs, x.counted, y.few);
       clean = λ n c. y.clean n (x.clean c);
     }
 
 pub retired : {settings : Settings} {numbers : ℕ → ℕ} {pending : List ℕ} {s t : LinkState} {a b : ℕ → Option (List ℕ)} {d e : DoorState}
     → SoFar settings numbers 65536 pending s t a b d e → IsAnswered settings numbers s t a b d.seen e.seen Retired
-retired {pending = pending} x = record { xs = x.xs; rest = pending; sent = replies x.xs; serves = x.serves; ends = (x.counted, refl); few = omega (arith, x.counted); clean = λ n c. x.clean c }
+retired {pending = pending} x = record { xs = x.xs; rest = pending; sent = replies x.xs; serves = x.serves; ends = (x.counted, refl, x.open_still); few = omega (arith, x.counted); clean = λ n c. x.clean c }
 
 pub no_memory : {settings : Settings} {numbers : ℕ → ℕ} {s : LinkState} {a : ℕ → Option (List ℕ)} {old : Logs} → IsAnswered settings numbers s s a a old old Memory
 no_memory {settings = settings} {numbers = numbers} {s = s} {a = a} {old = old} = record { xs = []; rest = []; sent = []; serves = nothing_served settings numbers s a old; ends = (refl, refl, refl); few = omega arith; clean = λ n c. c }

@@ -8,19 +8,52 @@ use Rattle.swarm_model.specs.declared.rule.Unbuilt.TheVariants as unbuilt
 use Rattle.swarm_wire.specs.Bodies.{body_of}
 use Rattle.swarm_model.specs.declared.reply.Reply.{Reply}
 use Rattle.swarm_model.specs.declared.reply.Reply.TheVariants as reply
+use Rattle.swarm_http.specs.Meanings.{broken_front}
 use Rattle.swarm_http.specs.Shown.{status_of, phrase_of, head_with, reply_text, shown, refusal}
 
 pub bad_head : refusal None rule.BadHead ≡ codes "HTTP/1.1 400 Bad Request\r\nContent-Length: 19\r\nContent-Type: application/json\r\n\r\n{\"code\":\"bad_head\"}"
 unfolding refusal shown reply_text head_with body_of digits escape_byte
 bad_head = refl
 
+pub length_required : refusal None rule.LengthRequired ≡ codes "HTTP/1.1 411 Length Required\r\nContent-Length: 26\r\nContent-Type: application/json\r\n\r\n{\"code\":\"length_required\"}"
+unfolding refusal shown reply_text head_with body_of digits escape_byte
+length_required = refl
+
+pub body_too_large : refusal None (rule.TooLarge 65536) ≡ codes "HTTP/1.1 413 Payload Too Large\r\nContent-Length: 34\r\nContent-Type: application/json\r\n\r\n{\"code\":\"too_large\",\"limit\":65536}"
+unfolding refusal shown reply_text head_with body_of digits escape_byte
+body_too_large = refl
+
+pub blob_too_large : refusal None (rule.TooLarge 16777216) ≡ codes "HTTP/1.1 413 Payload Too Large\r\nContent-Length: 37\r\nContent-Type: application/json\r\n\r\n{\"code\":\"too_large\",\"limit\":16777216}"
+unfolding refusal shown reply_text head_with body_of digits escape_byte
+blob_too_large = refl
+
+pub no_route : refusal None rule.NoRoute ≡ codes "HTTP/1.1 404 Not Found\r\nContent-Length: 19\r\nContent-Type: application/json\r\n\r\n{\"code\":\"no_route\"}"
+unfolding refusal shown reply_text head_with body_of digits escape_byte
+no_route = refl
+
+pub bad_method : refusal None rule.BadMethod ≡ codes "HTTP/1.1 405 Method Not Allowed\r\nContent-Length: 21\r\nContent-Type: application/json\r\n\r\n{\"code\":\"bad_method\"}"
+unfolding refusal shown reply_text head_with body_of digits escape_byte
+bad_method = refl
+
 pub bad_json : refusal None rule.BadJson ≡ codes "HTTP/1.1 400 Bad Request\r\nContent-Length: 19\r\nContent-Type: application/json\r\n\r\n{\"code\":\"bad_json\"}"
 unfolding refusal shown reply_text head_with body_of digits escape_byte
 bad_json = refl
 
-pub head_not_built : refusal None (rule.NotBuilt unbuilt.Head) ≡ codes "HTTP/1.1 501 Not Implemented\r\nContent-Length: 34\r\nContent-Type: application/json\r\n\r\n{\"code\":\"not_built\",\"what\":\"head\"}"
+pub front_broken : refusal None broken_front ≡ codes "HTTP/1.1 400 Bad Request\r\nContent-Length: 64\r\nContent-Type: application/json\r\n\r\n{\"code\":\"bad_field\",\"field\":\"X-Swarming-After\",\"rule\":\"grammar\"}"
 unfolding refusal shown reply_text head_with body_of digits escape_byte
-head_not_built = refl
+front_broken = refl
+
+pub no_caller : refusal None rule.NoCaller ≡ codes "HTTP/1.1 401 Unauthorized\r\nContent-Length: 20\r\nContent-Type: application/json\r\n\r\n{\"code\":\"no_caller\"}"
+unfolding refusal shown reply_text head_with body_of digits escape_byte
+no_caller = refl
+
+pub no_pool : refusal None rule.NoPool ≡ codes "HTTP/1.1 404 Not Found\r\nContent-Length: 18\r\nContent-Type: application/json\r\n\r\n{\"code\":\"no_pool\"}"
+unfolding refusal shown reply_text head_with body_of digits escape_byte
+no_pool = refl
+
+pub no_task : refusal None rule.NoTask ≡ codes "HTTP/1.1 404 Not Found\r\nContent-Length: 18\r\nContent-Type: application/json\r\n\r\n{\"code\":\"no_task\"}"
+unfolding refusal shown reply_text head_with body_of digits escape_byte
+no_task = refl
 
 pub task_not_built : refusal None (rule.NotBuilt unbuilt.Task) ≡ codes "HTTP/1.1 501 Not Implemented\r\nContent-Length: 34\r\nContent-Type: application/json\r\n\r\n{\"code\":\"not_built\",\"what\":\"task\"}"
 unfolding refusal shown reply_text head_with body_of digits escape_byte

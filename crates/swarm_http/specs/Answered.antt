@@ -1,22 +1,22 @@
 -- What one connection does.
-use Rattle.std.specs.Prelude.{◌≡◌, ◌≢◌, ℕ, ◌+◌, ◌<◌, ◌≤◌, ◌⊎◌, List, [], ◌∷◌, ◌++◌, length, take, Option, None}
-use Rattle.std.specs.List.{flat_map}
+use Rattle.std.specs.Prelude.{◌≡◌, ◌≢◌, ℕ, ◌+◌, ◌<◌, ◌≤◌, ◌⊎◌, List, [], ◌∷◌, ◌++◌, length, take, true, false, Option, Some, None}
+use Rattle.std.specs.List.{flat_map, AllByRecursion}
 use Rattle.std.specs.Io.KnownBytes.{IsAtEnd}
 use Rattle.httparse.specs.Grammar.{RequestHead}
 use Rattle.sw_base.specs.Clock.{HandsIn}
 use Rattle.sw_base.specs.Faults.{Rose}
 use Rattle.sw_base.specs.Link.{LinkState, IsClean, Moves}
 use Rattle.link_reader.specs.Heads.{IsHeadEnd, IsOpen, IsTooLong}
-use Rattle.request_head.specs.Plain.{IsHead, IsNoHead, plain}
+use Rattle.request_head.specs.Heads.{IsHead, IsNoHead}
+use Rattle.request_head.specs.Says.{HeadRefusal, bad, length_required, too_large, head_refusal, size_of}
 use Rattle.swarm_model.specs.declared.pool_settings.Settings.{Settings}
 use Rattle.swarm_model.specs.declared.rule.Rule.{Rule}
 use Rattle.swarm_model.specs.declared.rule.Rule.TheVariants as rule
-use Rattle.swarm_model.specs.declared.rule.Unbuilt.TheVariants as unbuilt
 use Rattle.swarm_history.specs.Doors.{Logs, DoorState}
 use Rattle.swarm_http.specs.declared.ended.Ended.{Ended}
-use Rattle.swarm_http.specs.declared.ended.Ended.TheVariants.{Closed, CutShort, BadHead, Retired, ReadFault, WriteFault, Memory}
+use Rattle.swarm_http.specs.declared.ended.Ended.TheVariants.{Closed, LastAsked, CutShort, BadHead, Retired, ReadFault, WriteFault, Memory}
 use Rattle.swarm_http.specs.Shown.{refusal}
-use Rattle.swarm_http.specs.Exchange.{Exchange, spelled, reply_of, moments_of, HeadSays, Chain}
+use Rattle.swarm_http.specs.Exchange.{Exchange, spelled, reply_of, moments_of, closes, HeadSays, Chain}
 
 -- the replies, one after another
 abbrev pub replies : List Exchange → List ℕ
@@ -31,32 +31,51 @@ pub record Serves (settings : Settings) (numbers : ℕ → ℕ) (xs : List Excha
   pub moments : HandsIn a b (flat_map moments_of xs)
   pub chain : Chain settings numbers old xs new
 
--- an input that ends here is cut short: inside a head, or inside the body of one that is served
+-- an input that ends here is cut short: inside a head, or inside the body of one that isn't refused
 pub data IsPart (rest : List ℕ) : Type 0 where
   in_head : 0 < length rest → IsOpen rest → IsPart rest
-  in_body : (text front who : List ℕ) (size : ℕ) → HeadSays text size who → rest ≡ text ++ front → length front < size → IsPart rest
+  in_body : (text front : List ℕ) (head : RequestHead) → HeadSays text head → rest ≡ text ++ front → length front < size_of head → IsPart rest
 
--- why the head at the front is refused: it is too long, it is none, or it isn't served
+-- the rule of a head's refusal
+abbrev pub head_rule : HeadRefusal → Rule
+head_rule bad = rule.BadHead
+head_rule length_required = rule.LengthRequired
+head_rule (too_large limit) = rule.TooLarge limit
+
+-- why the head at the front is refused: it is too long, it is none, or it says so
 pub data IsRefused (rest : List ℕ) (why : Rule) : Type 0 where
   too_long : why ≡ rule.BadHead → IsTooLong rest → IsRefused rest why
   no_head : (n : ℕ) → why ≡ rule.BadHead → IsHeadEnd rest n → IsNoHead (take n rest) → IsRefused rest why
-  not_built : (n : ℕ) (head : RequestHead) → why ≡ rule.NotBuilt unbuilt.Head → IsHeadEnd rest n → IsHead (take n rest) head → plain head ≡ None
+  by_head : (n : ℕ) (head : RequestHead) (cause : HeadRefusal) → why ≡ head_rule cause → IsHeadEnd rest n → IsHead (take n rest) head → head_refusal head ≡ Some cause
       → IsRefused rest why
+
+-- no request asks to close the connection
+abbrev pub NoneCloses : List Exchange → Type 0
+NoneCloses xs = AllByRecursion (λ x. closes x ≡ false) xs
+
+-- the last request asks to close the connection, and none before it
+pub record LastCloses (xs : List Exchange) : Type 0 where
+  pub earlier : List Exchange
+  pub last : Exchange
+  pub are : xs ≡ earlier ++ last ∷ []
+  pub open_before : NoneCloses earlier
+  pub closing : closes last ≡ true
 
 -- the last reply, or the refusal of the head, was not written and flushed whole
 pub data IsCutReply (xs : List Exchange) (rest sent : List ℕ) : Type 0 where
-  last_reply : (ys : List Exchange) (x : Exchange) (front back : List ℕ) → xs ≡ ys ++ x ∷ [] → sent ≡ replies ys ++ front → reply_of x ≡ front ++ back
+  last_reply : (ys : List Exchange) (x : Exchange) (front back : List ℕ) → xs ≡ ys ++ x ∷ [] → NoneCloses ys → sent ≡ replies ys ++ front → reply_of x ≡ front ++ back
       → IsCutReply xs rest sent
-  head_refusal : (why : Rule) (front back : List ℕ) → IsRefused rest why → sent ≡ replies xs ++ front → refusal None why ≡ front ++ back
+  refused_head : (why : Rule) (front back : List ℕ) → NoneCloses xs → IsRefused rest why → sent ≡ replies xs ++ front → refusal None why ≡ front ++ back
       → IsCutReply xs rest sent
 
 -- what each ending says of the requests answered, of the rest, and of the bytes written
 abbrev pub EndsAs : Ended → List Exchange → List ℕ → List ℕ → LinkState → LinkState → Type 0
-EndsAs Closed xs rest sent s t = (rest ≡ []) × IsAtEnd t.left × (sent ≡ replies xs)
-EndsAs CutShort xs rest sent s t = IsPart rest × IsAtEnd t.left × (sent ≡ replies xs)
-EndsAs BadHead xs rest sent s t = (why : Rule) × IsRefused rest why × (sent ≡ replies xs ++ refusal None why)
-EndsAs Retired xs rest sent s t = (length xs ≡ 65536) × (sent ≡ replies xs)
-EndsAs ReadFault xs rest sent s t = Rose s.read_faults t.read_faults × ((rest ≡ []) ⊎ IsPart rest) × (sent ≡ replies xs)
+EndsAs Closed xs rest sent s t = (rest ≡ []) × IsAtEnd t.left × (sent ≡ replies xs) × NoneCloses xs
+EndsAs LastAsked xs rest sent s t = LastCloses xs × (sent ≡ replies xs)
+EndsAs CutShort xs rest sent s t = IsPart rest × IsAtEnd t.left × (sent ≡ replies xs) × NoneCloses xs
+EndsAs BadHead xs rest sent s t = (why : Rule) × IsRefused rest why × (sent ≡ replies xs ++ refusal None why) × NoneCloses xs
+EndsAs Retired xs rest sent s t = (length xs ≡ 65536) × (sent ≡ replies xs) × NoneCloses xs
+EndsAs ReadFault xs rest sent s t = Rose s.read_faults t.read_faults × ((rest ≡ []) ⊎ IsPart rest) × (sent ≡ replies xs) × NoneCloses xs
 EndsAs WriteFault xs rest sent s t = Rose s.write_faults t.write_faults × IsCutReply xs rest sent
 EndsAs Memory xs rest sent s t = (xs ≡ []) × (rest ≡ []) × (sent ≡ [])
 

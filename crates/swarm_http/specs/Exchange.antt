@@ -1,18 +1,18 @@
 -- One request and its outcome.
-use Rattle.std.specs.Prelude.{◌≡◌, ℕ, ◌≤◌, List, [], ◌∷◌, ◌++◌, length, Some}
+use Rattle.std.specs.Prelude.{◌≡◌, ℕ, Bool, ◌≤◌, List, [], ◌∷◌, ◌++◌, length, None}
 use Rattle.httparse.specs.Grammar.{RequestHead}
 use Rattle.link_reader.specs.Heads.{IsHeadEnd}
-use Rattle.link_reader.specs.declared.pending.TheConstants.{HEAD_LIMIT}
-use Rattle.request_head.specs.Plain.{IsHead, plain}
+use Rattle.request_head.specs.Heads.{IsHead}
+use Rattle.request_head.specs.Says.{head_refusal, size_of, closes_of}
 use Rattle.swarm_model.specs.declared.pool_settings.Settings.{Settings}
 use Rattle.swarm_history.specs.Doors.{Logs}
 use Rattle.swarm_http.specs.Outcomes.{Outcome, Acts, shows, uses}
 
--- a request as it stood on the link, its caller, and its outcome
+-- a request as it stood on the link, what its head is, and its outcome
 pub record Exchange : Type 0 where
   pub text : List ℕ
   pub body : List ℕ
-  pub who : List ℕ
+  pub head : RequestHead
   pub outcome : Outcome
 
 -- the bytes of the request
@@ -27,18 +27,22 @@ reply_of x = shows x.outcome
 abbrev pub moments_of : Exchange → List ℕ
 moments_of x = uses x.outcome
 
--- the text is a head that is served, and says the size of its body and its caller
-pub record HeadSays (text : List ℕ) (size : ℕ) (who : List ℕ) : Type 0 where
-  pub short : length text ≤ HEAD_LIMIT
-  pub ends : IsHeadEnd text (length text)
-  pub head : RequestHead
-  pub is_head : IsHead text head
-  pub plain_is : plain head ≡ Some (size, who)
+-- it asks to close the connection
+abbrev pub closes : Exchange → Bool
+closes x = closes_of x.head
 
--- the head says the body and the caller, and the logs went from `old` to `new`
+-- the text is this head, up to the first blank line, and the head isn't refused
+pub record HeadSays (text : List ℕ) (head : RequestHead) : Type 0 where
+  pub short : length text ≤ 16384
+  pub ends : IsHeadEnd text (length text)
+  pub is_head : IsHead text head
+  pub accepted : head_refusal head ≡ None
+
+-- the body has the size that the head tells, and the logs went from `old` to `new`
 pub record IsExchange (settings : Settings) (numbers : ℕ → ℕ) (x : Exchange) (old new : Logs) : Type 0 where
-  pub says : HeadSays x.text (length x.body) x.who
-  pub acts : Acts settings numbers x.body x.who x.outcome old new
+  pub says : HeadSays x.text x.head
+  pub size : size_of x.head ≡ length x.body
+  pub acts : Acts settings numbers x.head x.body x.outcome old new
 
 -- one exchange after another
 abbrev pub Chain : Settings → (ℕ → ℕ) → Logs → List Exchange → Logs → Type 0

@@ -1,4 +1,5 @@
 pub mod Shown
+pub mod Meanings
 pub mod Outcomes
 pub mod Exchange
 pub mod Answered

@@ -6,9 +6,10 @@ use Rattle.swarm_model.specs.declared.rule.Rule.{Rule}
 use Rattle.swarm_model.specs.declared.rule.Rule.TheVariants as rule
 use Rattle.swarm_model.specs.declared.rule.Unbuilt.TheVariants as unbuilt
 use Rattle.swarm_http.specs.declared.reply.Refusal.{Refusal}
-use Rattle.swarm_http.specs.declared.reply.Refusal.TheVariants.{BadHead, BadJson, HeadNotBuilt, TaskNotBuilt, LogFull, WantOfMemory}
+use Rattle.swarm_http.specs.declared.reply.Refusal.TheVariants.{BadHead, LengthRequired, BodyTooLarge, BlobTooLarge, NoRoute, BadMethod, BadJson, FrontBroken, NoCaller, NoPool, NoTask, TaskNotBuilt, LogFull, WantOfMemory}
 use Rattle.swarm_http.specs.declared.reply.Shown.{Shown}
 use Rattle.swarm_http.specs.declared.reply.Shown.TheVariants as shown
+use Rattle.swarm_http.specs.Meanings.{broken_front}
 use Rattle.swarm_http.specs.Shown.{refusal}
 
 -- so much of the text was written, and this is left
@@ -26,8 +27,16 @@ pub record Sends {T E : Type 0} (s t : LinkState) (text : List ℕ) (result : Re
 -- the rule of a refusal whose reply takes no memory
 abbrev pub rule_of : Refusal → Rule
 rule_of BadHead = rule.BadHead
+rule_of LengthRequired = rule.LengthRequired
+rule_of BodyTooLarge = rule.TooLarge 65536
+rule_of BlobTooLarge = rule.TooLarge 16777216
+rule_of NoRoute = rule.NoRoute
+rule_of BadMethod = rule.BadMethod
 rule_of BadJson = rule.BadJson
-rule_of HeadNotBuilt = rule.NotBuilt unbuilt.Head
+rule_of FrontBroken = broken_front
+rule_of NoCaller = rule.NoCaller
+rule_of NoPool = rule.NoPool
+rule_of NoTask = rule.NoTask
 rule_of TaskNotBuilt = rule.NotBuilt unbuilt.Task
 rule_of LogFull = rule.LogFull
 rule_of WantOfMemory = rule.WantOfMemory

@@ -10,8 +10,15 @@ use Rattle.swarm_wire.specs.Bodies.{body_of}
 -- the status of a refusal
 abbrev pub refusal_status : Rule → ℕ
 refusal_status rule.BadHead = 400
+refusal_status rule.LengthRequired = 411
+refusal_status (rule.TooLarge limit) = 413
+refusal_status rule.NoRoute = 404
+refusal_status rule.BadMethod = 405
 refusal_status rule.BadJson = 400
 refusal_status (rule.BadField field broken) = 400
+refusal_status rule.NoCaller = 401
+refusal_status rule.NoPool = 404
+refusal_status rule.NoTask = 404
 refusal_status (rule.PoolTasksFull limit) = 503
 refusal_status rule.LogFull = 503
 refusal_status (rule.FrontAhead length) = 409
@@ -21,6 +28,8 @@ refusal_status (rule.NotBuilt what) = 501
 -- the status of a reply
 abbrev pub status_of : Reply → ℕ
 status_of (reply.New task state) = 200
+status_of (reply.Result view) = 200
+status_of (reply.Count count) = 200
 status_of (reply.No why) = refusal_status why
 
 -- the phrase that stands beside a status

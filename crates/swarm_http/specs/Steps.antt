@@ -1,5 +1,5 @@
 -- One request of a connection.
-use Rattle.std.specs.Prelude.{◌≡◌, ◌≢◌, ℕ, ◌≤◌, List, [], ◌∷◌, length, Option}
+use Rattle.std.specs.Prelude.{◌≡◌, ◌≢◌, ℕ, ◌≤◌, List, [], ◌∷◌, length, false, Option, None, Result, Err}
 use Rattle.sw_base.specs.Clock.{HandsIn}
 use Rattle.sw_base.specs.Link.{LinkState, IsClean}
 use Rattle.swarm_model.specs.declared.pool_settings.Settings.{Settings}
@@ -10,20 +10,31 @@ use Rattle.swarm_http.specs.declared.connection.Step.{Step}
 use Rattle.swarm_http.specs.declared.connection.Step.TheVariants.{Next, End}
 use Rattle.swarm_http.specs.declared.reply.Shown.{Shown}
 use Rattle.swarm_http.specs.Outcomes.{Outcome, Acts, shows, uses}
-use Rattle.swarm_http.specs.Exchange.{Exchange, reply_of}
+use Rattle.swarm_http.specs.Exchange.{Exchange, reply_of, closes}
+use Rattle.httparse.specs.Grammar.{RequestHead}
 use Rattle.swarm_http.specs.Answered.{Serves, EndsAs}
+use Rattle.swarm_http.specs.Shown.{refusal}
 use Rattle.swarm_http.specs.Sends.{text_of}
+use Rattle.swarm_wire.specs.declared.asked.Asked.{Asked}
+use Rattle.swarm_model.specs.declared.rule.Rule.{Rule}
+use Rattle.swarm_model.specs.declared.rule.Rule.TheVariants as rule
 
--- a request with this body and caller has the reply
-pub record Answers (settings : Settings) (numbers : ℕ → ℕ) (body who : List ℕ) (a b : ℕ → Option (List ℕ)) (old new : Logs) (result : Shown) : Type 0 where
+-- a request with this head and body has the reply
+pub record Answers (settings : Settings) (numbers : ℕ → ℕ) (head : RequestHead) (body : List ℕ) (a b : ℕ → Option (List ℕ)) (old new : Logs) (result : Shown) : Type 0 where
   pub outcome : Outcome
-  pub acts : Acts settings numbers body who outcome old new
+  pub acts : Acts settings numbers head body outcome old new
   pub moments : HandsIn a b (uses outcome)
   pub shown : text_of result ≡ shows outcome
+
+-- the refusal is written that was to be told, or that of want of memory
+pub data IsEarly (shown : Shown) (asked : Result Asked Rule) : Type 0 where
+  told : (why : Rule) → asked ≡ Err why → text_of shown ≡ refusal None why → IsEarly shown asked
+  untold : text_of shown ≡ refusal None rule.WantOfMemory → IsEarly shown asked
 
 -- one request was answered, and its reply written and flushed
 pub record GoesOn (settings : Settings) (numbers : ℕ → ℕ) (pending rest : List ℕ) (s t : LinkState) (a b : ℕ → Option (List ℕ)) (old new : Logs) : Type 0 where
   pub x : Exchange
+  pub open_still : closes x ≡ false
   pub serves : Serves settings numbers (x ∷ []) pending rest (reply_of x) s t a b old new
   pub clean : IsClean t
 

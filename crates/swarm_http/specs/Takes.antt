@@ -1,10 +1,16 @@
 -- What taking the next request does.
-use Rattle.std.specs.Prelude.{◌≡◌, ◌⊎◌, ℕ, List, [], ◌++◌, length, IfSome}
+use Rattle.std.specs.Prelude.{◌≡◌, ◌⊎◌, ℕ, List, [], ◌++◌, length, Option, Some, None, IfSome, ⊤}
 use Rattle.std.specs.Io.KnownBytes.{IsAtEnd}
 use Rattle.sw_base.specs.Faults.{Rose}
 use Rattle.sw_base.specs.Link.{LinkState, Moves}
 use Rattle.swarm_http.specs.declared.ended.Ended.{Ended}
-use Rattle.swarm_http.specs.declared.ended.Ended.TheVariants.{Closed, CutShort, BadHead, Retired, ReadFault, WriteFault, Memory}
+use Rattle.swarm_http.specs.declared.ended.Ended.TheVariants.{Closed, LastAsked, CutShort, BadHead, Retired, ReadFault, WriteFault, Memory}
+use Rattle.httparse.specs.Grammar.{RequestHead}
+use Rattle.request_head.specs.Says.{method_of, size_of, closes_of, caller_of, after_of}
+use Rattle.swarm_wire.specs.Routes.{route_of}
+use Rattle.swarm_http.specs.declared.request.Who.{Who}
+use Rattle.swarm_http.specs.declared.request.Who.TheVariants.{Unnamed, Named, Unheld}
+use Rattle.swarm_http.specs.declared.request.Said.{Said}
 use Rattle.swarm_http.specs.declared.request.Received.{Received}
 use Rattle.swarm_http.specs.declared.request.Taken.{Taken}
 use Rattle.swarm_http.specs.declared.request.Taken.TheVariants as taken
@@ -17,24 +23,44 @@ abbrev pub StopsAs : Ended → List ℕ → LinkState → LinkState → Type 0
 StopsAs Closed rest s t = (rest ≡ []) × IsAtEnd t.left
 StopsAs CutShort rest s t = IsPart rest × IsAtEnd t.left
 StopsAs ReadFault rest s t = Rose s.read_faults t.read_faults × ((rest ≡ []) ⊎ IsPart rest)
+StopsAs LastAsked rest s t = ⊥
 StopsAs BadHead rest s t = ⊥
 StopsAs Retired rest s t = ⊥
 StopsAs WriteFault rest s t = ⊥
 StopsAs Memory rest s t = ⊥
 
--- what is held of a request is its body and its caller
-pub record IsHeld (received : Received) (body who : List ℕ) : Type 0 where
+-- the caller that is held, as far as there was memory for it
+abbrev pub IsWho : Who → Option (List ℕ) → Type 0
+IsWho Unnamed who = who ≡ None
+IsWho (Named text) who = who ≡ Some text
+IsWho Unheld who = ⊤
+
+-- what is held of a head is what it says
+pub record IsSaid (said : Said) (head : RequestHead) : Type 0 where
+  pub route : said.route ≡ route_of head.target
+  pub method : said.method ≡ method_of head
+  pub who : IsWho said.who (caller_of head)
+  pub after : said.after ≡ after_of head
+  pub closes : said.closes ≡ closes_of head
+
+-- a limit on the size of a body
+abbrev pub IsLimit : ℕ → Type 0
+IsLimit limit = (limit ≡ 65536) ⊎ (limit ≡ 16777216)
+
+-- what is held of a request is what its head says, and its body
+pub record IsHeld (received : Received) (body : List ℕ) (head : RequestHead) : Type 0 where
+  pub said : IsSaid received.said head
   pub body_is : IfSome received.body (λ v. v.items ≡ body)
-  pub who_is : IfSome received.who (λ w. w ≡ who)
 
 -- the input is one request and a rest
 pub record IsReceived (received : Received) (input rest : List ℕ) : Type 0 where
   pub text : List ℕ
   pub body : List ℕ
-  pub who : List ℕ
-  pub says : HeadSays text (length body) who
+  pub head : RequestHead
+  pub says : HeadSays text head
+  pub size : size_of head ≡ length body
   pub input_is : input ≡ (text ++ body) ++ rest
-  pub held : IsHeld received body who
+  pub held : IsHeld received body head
 
 -- what came of it, with `new` pending after it
 abbrev pub IsTaken : LinkState → LinkState → List ℕ → List ℕ → Taken → Type 0

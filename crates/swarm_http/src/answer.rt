@@ -1,22 +1,28 @@
 //! Answering a request.
-ghost use Rattle.std.specs.Prelude.{◌≡◌, ◌<◌, ◌^◌, ℕ, List, Ok, IsTrue, IsSomeAnd, length, slice_get};
+ghost use Rattle.std.specs.Prelude.{◌≡◌, ◌≢◌, ◌<◌, ◌^◌, ℕ, List, Result, Ok, Err, IsTrue, IsSomeAnd, IfOk, IfErr, length, slice_get};
+ghost use Rattle.httparse.specs.Grammar.{RequestHead};
+ghost use Rattle.request_head.specs.Says.{after_of};
 ghost use Rattle.swarm_model.specs.Fits.{fits};
 ghost use Rattle.swarm_model.specs.Settings.{AreOpen};
+ghost use Rattle.swarm_wire.specs.declared.asked.Asked.{Asked};
+ghost use Rattle.swarm_wire.specs.declared.asked.WireFault.{WireFault};
 ghost use Rattle.swarm_wire.specs.Asking.{asked_of};
+ghost use Rattle.swarm_http.specs.Meanings.{front_of, unless_broken, with_front, meant_by, meaning, is_post};
 ghost use Rattle.swarm_http.specs.Outcomes.{stop_rule};
 ghost use Rattle.swarm_http.specs.Sends.{rule_of};
 ghost use Rattle.swarm_http.specs.Takes.{IsHeld};
 ghost use Rattle.swarm_http.specs.Answered.{KeepsDoor};
-ghost use Rattle.swarm_http.specs.Steps.{Answers};
+ghost use Rattle.swarm_http.specs.Steps.{Answers, IsEarly};
 
 use crate::reply::{Refusal, Shown, field_refusal, whole_reply};
-use crate::request::Received;
+use crate::request::{Received, Said, Who};
 use dimensions::Text;
+use request_head::{After, Method};
 use std::alloc::Global;
 use sw_base::Clock;
 use swarm_history::{CallFault, Door};
 use swarm_model::Settings;
-use swarm_wire::{Asked, WireFault, read_request};
+use swarm_wire::{Asked, Route, WireFault, read_request};
 
 fn stop_refusal(why: CallFault) -> Refusal
     ensures { rule_of result ≡ stop_rule why }
@@ -27,9 +33,28 @@ fn stop_refusal(why: CallFault) -> Refusal
     }
 }
 
+fn is_post(method: Method) -> bool
+    ensures { result ≡ is_post method }
+{
+    match method {
+        Method::Post => true,
+        Method::Get | Method::Put | Method::Other => false,
+    }
+}
+
+fn front_of(after: After) -> Option<u64>
+    ensures { result ≡ front_of after }
+{
+    match after {
+        After::Front(front) => Some(front),
+        After::Absent | After::Broken => None,
+    }
+}
+
 fn call_door<D: Door, C: Clock>(
     alloc: Global,
     who: &Text,
+    after: After,
     asked: &Asked,
     door: &mut D,
     clock: &mut C,
@@ -38,15 +63,15 @@ fn call_door<D: Door, C: Clock>(
     requires place { asked.now.place < length (D.state door.old).settings.pools }
     requires fits { IsSomeAnd (slice_get (D.state door.old).settings.pools asked.now.place) (λ pool. IsTrue (fits pool asked.now.request)) }
     requires calls { (D.state door.old).calls < 2 ^ 40 }
-    ensures answers { (body : List ℕ) → asked_of body ≡ Ok asked.now →
-        Answers (D.state door.old).settings (D.state door.old).numbers body who.now (C.ahead clock.old) (C.ahead clock.new) (D.state door.old).seen (D.state door.new).seen result }
+    ensures answers { (head : RequestHead) (body : List ℕ) → after ≡ after_of head → meaning (D.state door.old).settings head body ≡ meant_by who.now asked.now →
+        Answers (D.state door.old).settings (D.state door.old).numbers head body (C.ahead clock.old) (C.ahead clock.new) (D.state door.old).seen (D.state door.new).seen result }
     ensures door { KeepsDoor 1 (D.state door.old) (D.state door.new) }
 {
     let moment = clock.now();
     match door.call(
         asked.place,
         moment,
-        None,
+        front_of(after),
         who,
         &asked.request,
         asked.bytes.as_slice(),
@@ -65,6 +90,55 @@ fn call_door<D: Door, C: Clock>(
     }
 }
 
+// A front that is no number is told in place of what the pools say.
+fn unless_broken(after: After, why: Refusal) -> Refusal
+    ensures { unless_broken after (Err (rule_of why)) ≡ Err (rule_of result) }
+{
+    match after {
+        After::Broken => Refusal::FrontBroken,
+        After::Absent | After::Front(_) => why,
+    }
+}
+
+fn shown_fault(alloc: Global, after: After, fault: WireFault) -> Shown
+    ensures { (asked : Result Asked WireFault) → (fault ≢ WireFault.Memory → asked ≡ Err fault) → IsEarly result (with_front after asked) }
+{
+    match fault {
+        WireFault::Memory => Shown::Refused(Refusal::WantOfMemory),
+        WireFault::BadJson => Shown::Refused(Refusal::BadJson),
+        WireFault::BadField { field, rule } => match field_refusal(alloc, field, rule) {
+            Ok(shown) => shown,
+            Err(_) => Shown::Refused(Refusal::WantOfMemory),
+        },
+        WireFault::NoPool => Shown::Refused(unless_broken(after, Refusal::NoPool)),
+        WireFault::NoTask => Shown::Refused(unless_broken(after, Refusal::NoTask)),
+        WireFault::NotBuilt => Shown::Refused(unless_broken(after, Refusal::TaskNotBuilt)),
+    }
+}
+
+// What a body asks for, or its refusal.
+fn read_asked(
+    alloc: Global,
+    settings: &Settings,
+    route: Route,
+    after: After,
+    body: &[u8],
+) -> Result<Asked, Shown>
+    requires { AreOpen settings.now }
+    ensures asks { IfOk result (λ asked. with_front after (asked_of settings.now route body.now) ≡ Ok asked) }
+    ensures refused { IfErr result (λ shown. IsEarly shown (with_front after (asked_of settings.now route body.now))) }
+    ensures fits { IfOk result (λ asked. IsSomeAnd (slice_get settings.now.pools asked.place) (λ pool. IsTrue (fits pool asked.request))) }
+    ensures place { IfOk result (λ asked. asked.place < 4) }
+{
+    match read_request(alloc, settings, route, body) {
+        Ok(asked) => match after {
+            After::Broken => Err(Shown::Refused(Refusal::FrontBroken)),
+            After::Absent | After::Front(_) => Ok(asked),
+        },
+        Err(fault) => Err(shown_fault(alloc, after, fault)),
+    }
+}
+
 /// Answers a request.
 pub fn answer_request<D: Door, C: Clock>(
     alloc: Global,
@@ -76,21 +150,34 @@ pub fn answer_request<D: Door, C: Clock>(
     requires settings { (D.state door.old).settings ≡ settings.now }
     requires open { AreOpen settings.now }
     requires calls { (D.state door.old).calls < 2 ^ 40 }
-    ensures answers { (body who : List ℕ) → IsHeld received body who →
-        Answers settings.now (D.state door.old).numbers body who (C.ahead clock.old) (C.ahead clock.new) (D.state door.old).seen (D.state door.new).seen result }
+    ensures answers { (body : List ℕ) (head : RequestHead) → IsHeld received body head →
+        Answers settings.now (D.state door.old).numbers head body (C.ahead clock.old) (C.ahead clock.new) (D.state door.old).seen (D.state door.new).seen result }
     ensures door { KeepsDoor 1 (D.state door.old) (D.state door.new) }
 {
-    let (Some(who), Some(body)) = (received.who, received.body) else {
+    let Received { said, body } = received;
+    let Said {
+        route,
+        method,
+        who,
+        after,
+        closes: _,
+    } = said;
+    let Some(route) = route else {
+        return Shown::Refused(Refusal::NoRoute);
+    };
+    if !is_post(method) {
+        return Shown::Refused(Refusal::BadMethod);
+    }
+    let who = match who {
+        Who::Named(who) => who,
+        Who::Unnamed => return Shown::Refused(Refusal::NoCaller),
+        Who::Unheld => return Shown::Refused(Refusal::WantOfMemory),
+    };
+    let Some(body) = body else {
         return Shown::Refused(Refusal::WantOfMemory);
     };
-    match read_request(alloc, settings, &body) {
-        Ok(asked) => call_door(alloc, &who, &asked, door, clock),
-        Err(WireFault::BadJson) => Shown::Refused(Refusal::BadJson),
-        Err(WireFault::BadField { field, rule }) => match field_refusal(alloc, field, rule) {
-            Ok(shown) => shown,
-            Err(_) => Shown::Refused(Refusal::WantOfMemory),
-        },
-        Err(WireFault::NotBuilt) => Shown::Refused(Refusal::TaskNotBuilt),
-        Err(WireFault::Memory) => Shown::Refused(Refusal::WantOfMemory),
+    match read_asked(alloc, settings, route, after, &body) {
+        Ok(asked) => call_door(alloc, &who, after, &asked, door, clock),
+        Err(shown) => shown,
     }
 }

@@ -41,8 +41,10 @@ fn serve_one<D: Door, L: Link, C: Clock>(
 {
     match take_request(alloc, pending, link) {
         Taken::Asks(received) => {
+            let closes = received.said.closes;
             let shown = answer_request(alloc, settings, received, door, clock);
             match send_shown(link, &shown) {
+                Ok(()) if closes => Step::End(Ended::LastAsked),
                 Ok(()) => Step::Next,
                 Err(_) => Step::End(Ended::WriteFault),
             }

@@ -3,9 +3,11 @@
 pub enum Ended {
     /// The input ended between requests.
     Closed,
+    /// The last request was of version 1.0, or asked to close the connection.
+    LastAsked,
     /// The input ended inside a request.
     CutShort,
-    /// A head was answered that is none, or that isn't served.
+    /// The refusal of a head was written.
     BadHead,
     /// As many requests were answered as one connection may ask.
     Retired,

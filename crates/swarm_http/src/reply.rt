@@ -15,8 +15,19 @@ use task_props::PropRule;
 #[derive(Clone, Copy, Debug, PartialEq, Eq)]
 pub enum Refusal {
     BadHead,
+    LengthRequired,
+    /// The body is above 65536 bytes.
+    BodyTooLarge,
+    /// The body of a blob is above 16777216 bytes.
+    BlobTooLarge,
+    NoRoute,
+    BadMethod,
     BadJson,
-    HeadNotBuilt,
+    /// X-Swarming-After is no number.
+    FrontBroken,
+    NoCaller,
+    NoPool,
+    NoTask,
     TaskNotBuilt,
     LogFull,
     WantOfMemory,
@@ -38,7 +49,12 @@ fn refusal_status(why: &Rule) -> u16
 {
     match why {
         Rule::BadHead | Rule::BadJson | Rule::BadField { field: _, rule: _ } => 400,
+        Rule::NoCaller => 401,
+        Rule::NoRoute | Rule::NoPool | Rule::NoTask => 404,
+        Rule::BadMethod => 405,
         Rule::FrontAhead { length: _ } => 409,
+        Rule::LengthRequired => 411,
+        Rule::TooLarge { limit: _ } => 413,
         Rule::NotBuilt { what: _ } => 501,
         Rule::PoolTasksFull { limit: _ } | Rule::LogFull | Rule::WantOfMemory => 503,
     }
@@ -49,7 +65,7 @@ fn status_of(reply: &Reply) -> u16
     ensures code { IsStatusCode result }
 {
     match reply {
-        Reply::New { task: _, state: _ } => 200,
+        Reply::New { task: _, state: _ } | Reply::Result(_) | Reply::Count { count: _ } => 200,
         Reply::No(why) => refusal_status(why),
     }
 }

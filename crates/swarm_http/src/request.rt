@@ -1,22 +1,47 @@
 //! Taking the next request from a link.
-ghost use Rattle.std.specs.Prelude.{◌≡◌, ◌≤◌, ℕ, List, length, take, IfSome};
+ghost use Rattle.std.specs.Prelude.{◌≡◌, ◌≤◌, ℕ, List, length, take, IfSome, option_map};
+ghost use Rattle.httparse.specs.Grammar.{RequestHead};
 ghost use Rattle.link_reader.specs.Heads.{IsHeadEnd};
-ghost use Rattle.link_reader.specs.declared.pending.TheConstants.{HEAD_LIMIT};
+ghost use Rattle.request_head.specs.Says.{size_of};
+ghost use Rattle.request_head.specs.Judging.{Says};
+ghost use Rattle.swarm_model.specs.declared.rule.Rule.TheVariants as Rule;
+ghost use Rattle.swarm_http.specs.Sends.{rule_of};
 ghost use Rattle.swarm_http.specs.Exchange.{HeadSays};
-ghost use Rattle.swarm_http.specs.Takes.{Takes};
+ghost use Rattle.swarm_http.specs.Takes.{IsWho, IsSaid, IsLimit, Takes};
 
 use crate::Ended;
 use crate::reply::Refusal;
 use dimensions::Text;
 use link_reader::{BodyEnd, HeadEnd, Pending, read_body, read_head};
-use request_head::{Judged, judge};
+use request_head::{After, Head, Judged, Method, judge};
 use std::alloc::Global;
 use sw_base::Link;
+use swarm_wire::{Route, route_of};
 
-/// The caller and the body of a request, each as far as there was memory to hold it.
+/// The caller of a request.
+#[derive(Drop)]
+pub enum Who {
+    /// The head names none, or not just one.
+    Unnamed,
+    Named(Text),
+    /// There was no memory to hold it.
+    Unheld,
+}
+
+/// What a head says that its request's answer needs.
+#[derive(Drop)]
+pub struct Said {
+    pub route: Option<Route>,
+    pub method: Method,
+    pub who: Who,
+    pub after: After,
+    pub closes: bool,
+}
+
+/// A request, its body as far as there was memory to hold it.
 #[derive(Drop)]
 pub struct Received {
-    pub who: Option<Text>,
+    pub said: Said,
     pub body: Option<Vec<u8>>,
 }
 
@@ -29,48 +54,78 @@ pub enum Taken {
     Ends(Ended),
 }
 
-fn held_caller(alloc: Global, who: &str) -> Option<Text>
-    ensures { IfSome result (λ w. w ≡ who.now) }
+fn held_caller(alloc: Global, caller: Option<&str>) -> Who
+    ensures { IsWho result (option_map (λ c. c.now) caller.entry) }
 {
-    Text::from_str(alloc, who).ok()
+    match caller {
+        None => Who::Unnamed,
+        Some(who) => match Text::from_str(alloc, who) {
+            Ok(text) => Who::Named(text),
+            Err(_) => Who::Unheld,
+        },
+    }
 }
 
-// Takes the body behind a head of n bytes, which says this caller and this size.
+fn said_of(alloc: Global, head: &Head) -> Said
+    ensures { (h : RequestHead) → Says h head.now → IsSaid result h }
+{
+    Said {
+        route: route_of(head.target),
+        method: head.method,
+        who: held_caller(alloc, head.caller),
+        after: head.after,
+        closes: head.closes,
+    }
+}
+
+// Takes the body behind a head of n bytes.
 fn take_body<L: Link>(
     alloc: Global,
     n: usize,
     size: u32,
-    who: Option<Text>,
+    said: Said,
     pending: &mut Pending,
     link: &mut L,
 ) -> Taken
     requires within { n ≤ length pending.old }
-    requires says { (w : List ℕ) × HeadSays (take n pending.old) size w × IfSome who (λ t. t ≡ w) }
+    requires says { (h : RequestHead) × HeadSays (take n pending.old) h × (size ≡ size_of h) × IsSaid said h }
     ensures { Takes (L.state link.old) (L.state link.new) pending.old pending.new result }
 {
     match read_body(alloc, pending, n, size as usize, link) {
         Ok(BodyEnd::Whole(body)) => Taken::Asks(Received {
-            who,
+            said,
             body: Some(body),
         }),
-        Ok(BodyEnd::Dropped) => Taken::Asks(Received { who, body: None }),
+        Ok(BodyEnd::Dropped) => Taken::Asks(Received { said, body: None }),
         Ok(BodyEnd::Ended) => Taken::Ends(Ended::CutShort),
         Err(_) => Taken::Ends(Ended::ReadFault),
+    }
+}
+
+fn too_large(limit: u32) -> Refusal
+    requires { IsLimit limit }
+    ensures { rule_of result ≡ Rule.TooLarge limit }
+{
+    if limit == 65536 {
+        Refusal::BodyTooLarge
+    } else {
+        Refusal::BlobTooLarge
     }
 }
 
 // Takes the request whose head is the first n bytes that are pending.
 fn take_head<L: Link>(alloc: Global, n: usize, pending: &mut Pending, link: &mut L) -> Taken
     requires end { IsHeadEnd pending.old n }
-    requires short { length pending.old ≤ HEAD_LIMIT }
+    requires short { length pending.old ≤ 16384 }
     ensures { Takes (L.state link.old) (L.state link.new) pending.old pending.new result }
 {
     match judge(pending.front(n)) {
         Judged::Bad => Taken::Refuses(Refusal::BadHead),
-        Judged::NotBuilt => Taken::Refuses(Refusal::HeadNotBuilt),
-        Judged::Plain(plain) => {
-            let who = held_caller(alloc, plain.who);
-            take_body(alloc, n, plain.size, who, pending, link)
+        Judged::LengthRequired => Taken::Refuses(Refusal::LengthRequired),
+        Judged::TooLarge { limit } => Taken::Refuses(too_large(limit)),
+        Judged::Good(head) => {
+            let said = said_of(alloc, &head);
+            take_body(alloc, n, head.size, said, pending, link)
         }
     }
 }

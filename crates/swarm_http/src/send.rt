@@ -37,10 +37,26 @@ fn refusal_bytes(why: Refusal) -> &'static [u8]
     match why {
         Refusal::BadHead =>
             b"HTTP/1.1 400 Bad Request\r\nContent-Length: 19\r\nContent-Type: application/json\r\n\r\n{\"code\":\"bad_head\"}",
+        Refusal::LengthRequired =>
+            b"HTTP/1.1 411 Length Required\r\nContent-Length: 26\r\nContent-Type: application/json\r\n\r\n{\"code\":\"length_required\"}",
+        Refusal::BodyTooLarge =>
+            b"HTTP/1.1 413 Payload Too Large\r\nContent-Length: 34\r\nContent-Type: application/json\r\n\r\n{\"code\":\"too_large\",\"limit\":65536}",
+        Refusal::BlobTooLarge =>
+            b"HTTP/1.1 413 Payload Too Large\r\nContent-Length: 37\r\nContent-Type: application/json\r\n\r\n{\"code\":\"too_large\",\"limit\":16777216}",
+        Refusal::NoRoute =>
+            b"HTTP/1.1 404 Not Found\r\nContent-Length: 19\r\nContent-Type: application/json\r\n\r\n{\"code\":\"no_route\"}",
+        Refusal::BadMethod =>
+            b"HTTP/1.1 405 Method Not Allowed\r\nContent-Length: 21\r\nContent-Type: application/json\r\n\r\n{\"code\":\"bad_method\"}",
         Refusal::BadJson =>
             b"HTTP/1.1 400 Bad Request\r\nContent-Length: 19\r\nContent-Type: application/json\r\n\r\n{\"code\":\"bad_json\"}",
-        Refusal::HeadNotBuilt =>
-            b"HTTP/1.1 501 Not Implemented\r\nContent-Length: 34\r\nContent-Type: application/json\r\n\r\n{\"code\":\"not_built\",\"what\":\"head\"}",
+        Refusal::FrontBroken =>
+            b"HTTP/1.1 400 Bad Request\r\nContent-Length: 64\r\nContent-Type: application/json\r\n\r\n{\"code\":\"bad_field\",\"field\":\"X-Swarming-After\",\"rule\":\"grammar\"}",
+        Refusal::NoCaller =>
+            b"HTTP/1.1 401 Unauthorized\r\nContent-Length: 20\r\nContent-Type: application/json\r\n\r\n{\"code\":\"no_caller\"}",
+        Refusal::NoPool =>
+            b"HTTP/1.1 404 Not Found\r\nContent-Length: 18\r\nContent-Type: application/json\r\n\r\n{\"code\":\"no_pool\"}",
+        Refusal::NoTask =>
+            b"HTTP/1.1 404 Not Found\r\nContent-Length: 18\r\nContent-Type: application/json\r\n\r\n{\"code\":\"no_task\"}",
         Refusal::TaskNotBuilt =>
             b"HTTP/1.1 501 Not Implemented\r\nContent-Length: 34\r\nContent-Type: application/json\r\n\r\n{\"code\":\"not_built\",\"what\":\"task\"}",
         Refusal::LogFull =>

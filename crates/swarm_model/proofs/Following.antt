@@ -4,7 +4,9 @@ use Rattle.std.specs.Prelude.{nat_le}
 use Rattle.std.specs.Option.{option_map}
 use Rattle.task_props.specs.declared.new_task.NewTask.{NewTask}
 use Rattle.swarm_model.specs.declared.task_state.TaskState.TheVariants.{Pending}
+use Rattle.swarm_model.specs.declared.task_row.TaskRow.{TaskRow}
 use Rattle.swarm_model.specs.declared.pool_state.PoolState.{PoolState}
+use Rattle.swarm_model.specs.declared.rule.Rule.TheVariants as rule
 use Rattle.swarm_model.specs.declared.entry.Entry.{Entry}
 use Rattle.swarm_model.specs.declared.entry.EntryKind.{EntryKind}
 use Rattle.swarm_model.specs.declared.entry.EntryKind.TheVariants as kind
@@ -13,7 +15,7 @@ use Rattle.swarm_model.specs.declared.request.Request.TheVariants as ask
 use Rattle.dimensions.specs.Choosing.{when}
 use Rattle.swarm_model.specs.Words.{◌otherwise◌}
 use Rattle.swarm_model.specs.Fits.{fits}
-use Rattle.swarm_model.specs.Answers.{answer, entry_at, accepted, tasks_full}
+use Rattle.swarm_model.specs.Answers.{answer, entry_at, accepted, tasks_full, with, named_task, result_of}
 use Rattle.swarm_model.specs.Deadlines.{due_entry}
 use Rattle.swarm_model.specs.History.{MayFollow}
 
@@ -42,7 +44,20 @@ new_follows s who moment pass task e before late may gives =
       has_cause = record { nothing_due = refl; may_ask = may; gives = gives ∙ ap (λ (x : Entry). Some x) made };
     })
 
+-- a result adds nothing
+result_adds : (task : Option TaskRow) → (with task rule.NoTask result_of).adds ≡ None
+result_adds None = refl
+result_adds (Some task) = refl
+
+-- an answer that adds nothing has no entry
+no_entry : (moment pass : ℕ) (adds : Option EntryKind) (e : Entry) → adds ≡ None → ¬ (option_map (entry_at moment pass) adds ≡ Some e)
+no_entry moment pass None e is h = cc
+no_entry moment pass (Some k) e is h = cc
+
 -- where nothing is due, what the answer to a request adds may follow
 pub answer_follows : (s : PoolState) (who : List ℕ) (moment pass : ℕ) (request : Request) (e : Entry) → s.last ≤ moment → moment ≤ 2 ^ 40 →
     due_entry s moment pass ≡ None → IsTrue (fits s.settings request) → (answer s who moment pass request).entry ≡ Some e → MayFollow s e
 answer_follows s who moment pass (ask.New task) e before late none may gives = new_follows s who moment pass task e before late may gives
+answer_follows s who moment pass (ask.Result task try_no) e before late none may gives =
+    absurd (no_entry moment pass (with (named_task s task try_no) rule.NoTask result_of).adds e (result_adds (named_task s task try_no)) gives)
+answer_follows s who moment pass (ask.Count state) e before late none may gives = absurd (no_entry moment pass None e refl gives)

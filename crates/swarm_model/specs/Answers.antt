@@ -1,8 +1,11 @@
 -- The answer to each request, and the entry that it adds.
-use Rattle.std.specs.Prelude.{ℕ, ◌+◌, List, length, Some, None, nat_le}
-use Rattle.std.specs.Option.{option_map}
+use Rattle.std.specs.Prelude.{ℕ, ◌+◌, ◌==◌, List, length, Option, Some, None, nat_le}
+use Rattle.std.specs.List.{count_by}
+use Rattle.std.specs.Option.{option_map, option_and_then}
 use Rattle.task_props.specs.declared.new_task.NewTask.{NewTask}
+use Rattle.swarm_model.specs.declared.task_state.TaskState.{TaskState}
 use Rattle.swarm_model.specs.declared.task_state.TaskState.TheVariants.{Pending}
+use Rattle.swarm_model.specs.declared.task_row.TaskRow.{TaskRow}
 use Rattle.swarm_model.specs.declared.pool_state.PoolState.{PoolState}
 use Rattle.swarm_model.specs.declared.entry.Entry.{Entry}
 use Rattle.swarm_model.specs.declared.entry.EntryKind.{EntryKind}
@@ -16,6 +19,8 @@ use Rattle.swarm_model.specs.declared.reply.Reply.TheVariants as reply
 use Rattle.swarm_model.specs.declared.answer.Answer.{Answer}
 use Rattle.swarm_model.specs.declared.answer.Told.{Told}
 use Rattle.dimensions.specs.Choosing.{when}
+use Rattle.swarm_model.specs.Finding.{task_of, is_wanted}
+use Rattle.swarm_model.specs.Views.{view_of}
 use Rattle.swarm_model.specs.Words.{◌otherwise◌}
 
 -- a reply that adds nothing
@@ -41,9 +46,30 @@ new_task s who request =
     when (nat_le s.settings.most_tasks (length s.tasks)) (tasks_full s)
     otherwise accepted s who request
 
+-- what follows where there is a value, and the refusal where there is none
+abbrev pub with : {A : Type 0} → Option A → Rule → (A → Told) → Told
+with None why next = refuses why
+with (Some value) why next = next value
+
+-- the task itself; no task has had a try yet
+abbrev pub if_named : ℕ → TaskRow → Option TaskRow
+if_named try_no task = when (try_no == 0) task
+
+-- the task, where it has the try that the number names
+abbrev pub named_task : PoolState → ℕ → ℕ → Option TaskRow
+named_task s number try_no = option_and_then (if_named try_no) (task_of s number)
+
+abbrev pub result_of : TaskRow → Told
+result_of task = says (reply.Result (view_of task))
+
+abbrev pub count_tasks : PoolState → Option TaskState → Told
+count_tasks s state = says (reply.Count (count_by (is_wanted state) s.tasks))
+
 -- what a caller is told at a moment
 abbrev pub tell : PoolState → List ℕ → ℕ → Request → Told
 tell s who moment (ask.New request) = new_task s who request
+tell s who moment (ask.Result task try_no) = with (named_task s task try_no) rule.NoTask result_of
+tell s who moment (ask.Count state) = count_tasks s state
 
 abbrev pub entry_at : ℕ → ℕ → EntryKind → Entry
 entry_at moment pass kind = record { moment = moment; pass = pass; kind = kind }

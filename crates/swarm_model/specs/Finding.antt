@@ -1,5 +1,5 @@
 -- The rows of a pool by their states, numbers and places.
-use Rattle.std.specs.Prelude.{ℕ, Bool, false, ◌==◌, Option, slice_get, List}
+use Rattle.std.specs.Prelude.{ℕ, Bool, true, false, ◌==◌, Option, Some, None, slice_get, List}
 use Rattle.std.specs.List.{find}
 use Rattle.std.specs.Option.{option_map_or}
 use Rattle.dimensions.specs.Alike.{same}
@@ -27,6 +27,11 @@ is_state a b = place_of a == place_of b
 
 abbrev pub has_state : TaskState → TaskRow → Bool
 has_state state task = is_state task.state state
+
+-- in the state, or in any where none is named
+abbrev pub is_wanted : Option TaskState → TaskRow → Bool
+is_wanted None task = true
+is_wanted (Some state) task = has_state state task
 
 abbrev pub is_task : ℕ → TaskRow → Bool
 is_task number task = task.no == number

@@ -2,6 +2,7 @@ pub mod Words
 pub mod Settings
 pub mod Finding
 pub mod Fits
+pub mod Views
 pub mod Answers
 pub mod Entries
 pub mod Effects

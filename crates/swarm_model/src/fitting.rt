@@ -18,5 +18,7 @@ pub fn fits(settings: &PoolSettings, request: &Request) -> bool
 {
     match request {
         Request::New(task) => fits_pool(settings, task),
+        Request::Result { task, try_no } => *task >= 1 && *task <= 262_144 && *try_no <= 1,
+        Request::Count { state: _ } => true,
     }
 }

@@ -22,6 +22,7 @@ mod rule;
 mod steps;
 mod task_row;
 mod task_state;
+mod task_view;
 mod weighing;
 
 pub use answer::{Answer, Told};
@@ -39,4 +40,5 @@ pub use rule::{Rule, Unbuilt};
 pub use steps::Steps;
 pub use task_row::TaskRow;
 pub use task_state::TaskState;
+pub use task_view::TaskView;
 pub use weighing::weight;

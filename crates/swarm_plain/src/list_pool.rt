@@ -17,7 +17,7 @@ use swarm_model::{
     Answer, BlobRow, BotRow, Entry, EntryKind, Machine, PoolSettings, Request, ReserveFault, Steps,
     TaskRow, TaskState, Told, weight,
 };
-use swarm_rules::{due_entry, tell};
+use swarm_rules::{LookUps, due_entry, tell};
 use task_props::{Digest, NewTask};
 
 /// What lies ready for an entry: its copy, the row that it adds, and its weight.
@@ -190,8 +190,7 @@ impl Machine for ListPool {
     }
 
     fn task<L: Ledger>(&self, no: u32, steps: &mut Steps<L>) -> Option<&TaskRow> {
-        steps.tick();
-        scans::task_of(self.rows.tasks.as_slice(), no)
+        self.rows.task_of(no, steps)
     }
 
     fn bot(&self, _no: u32) -> Option<&BotRow> {

@@ -2,7 +2,7 @@ ghost use Rattle.std.specs.Prelude.{◌≡◌, map};
 ghost use Rattle.swarm_model.specs.History.{states};
 ghost use Rattle.std.specs.List.{find, count_by};
 ghost use Rattle.std.specs.Option.{option_copied};
-ghost use Rattle.swarm_model.specs.Finding.{place_of, is_task, has_state};
+ghost use Rattle.swarm_model.specs.Finding.{place_of, is_task, has_state, is_wanted};
 
 use swarm_model::{TaskRow, TaskState};
 
@@ -39,6 +39,22 @@ fn has_state(state: TaskState, task: &TaskRow) -> bool
     ensures { result ≡ has_state state task.now }
 {
     place_of(task.state) == place_of(state)
+}
+
+fn is_wanted(wanted: Option<TaskState>, task: &TaskRow) -> bool
+    ensures { result ≡ is_wanted wanted task.now }
+{
+    match wanted {
+        None => true,
+        Some(state) => has_state(state, task),
+    }
+}
+
+/// How many tasks are in the state, or in any where none is named.
+pub(crate) fn count_wanted(tasks: &[TaskRow], wanted: Option<TaskState>) -> u64
+    ensures { result ≡ count_by (is_wanted wanted) tasks.now }
+{
+    tasks.iter().filter(|task| is_wanted(wanted, task)).count() as u64
 }
 
 /// How many tasks are in the state.

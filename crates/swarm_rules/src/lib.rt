@@ -8,6 +8,7 @@
 
 mod look_ups;
 mod new_tasks;
+mod reading;
 mod settling;
 mod telling;
 

@@ -1,6 +1,10 @@
 ghost use Rattle.std.specs.Prelude.{◌≡◌, length};
+ghost use Rattle.std.specs.List.{count_by};
+ghost use Rattle.std.specs.Option.{option_copied};
+ghost use Rattle.swarm_model.specs.Finding.{task_of, is_wanted};
 
-use swarm_model::PoolSettings;
+use std::sync::ledger::Ledger;
+use swarm_model::{PoolSettings, Steps, TaskRow, TaskState};
 
 /// What the rules ask of a pool's rows.
 pub trait LookUps {
@@ -14,4 +18,11 @@ pub trait LookUps {
 
     fn task_count(&self) -> usize
         ensures { result ≡ length (state self.now).tasks };
+
+    /// How many tasks are in the state, or in any where none is named.
+    fn count(&self, wanted: Option<TaskState>) -> u64
+        ensures { result ≡ count_by (is_wanted wanted) (state self.now).tasks };
+
+    fn task_of<L: Ledger>(&self, number: u32, steps: &mut Steps<L>) -> Option<&TaskRow>
+        ensures { option_copied result ≡ task_of (state self.now) number };
 }

@@ -3,6 +3,7 @@ ghost use Rattle.swarm_model.specs.Answers.{tell};
 
 use crate::LookUps;
 use crate::new_tasks::new_task;
+use crate::reading::{task_count, task_result};
 use dimensions::Text;
 use std::alloc::{AllocError, Global};
 use std::sync::ledger::Ledger;
@@ -21,5 +22,7 @@ pub fn tell<P: LookUps, L: Ledger>(
 {
     match request {
         Request::New(task) => new_task(alloc, pool, who, task),
+        Request::Result { task, try_no } => task_result(alloc, pool, *task, *try_no, steps),
+        Request::Count { state } => Ok(task_count(pool, *state)),
     }
 }

@@ -1,29 +1,33 @@
--- A sound task that is served fits an open pool.
-use Rattle.std.proofs.Common.{◌≡◌, true, ◌&&◌, ◌∙◌}
-use Rattle.std.specs.Prelude.{IsTrue, IsSomeAnd, codes, slice_get}
+-- Which requests fit their pools.
+use Rattle.std.proofs.Common.{◌≡◌, ℕ, ◌≤◌, true, List, length, arith, ◌∙◌, sym}
+use Rattle.std.specs.Prelude.{IsTrue, IsSomeAnd, Option, Some, None, slice_get}
 use Rattle.std.proofs.lemmas.Bool.{and_parts, and_from}
 use Rattle.serde_json.specs.Data.{Data}
 use Rattle.dimensions.specs.Alike.{same, same_laws}
 use Rattle.task_props.specs.declared.new_task.NewTask.{NewTask}
-use Rattle.task_props.specs.Checked.{is_sound_task, is_served, pool_of_task}
+use Rattle.task_props.specs.Checked.{is_sound_task, pool_of_task}
 use Rattle.swarm_model.specs.declared.pool_settings.PoolSettings.{PoolSettings}
 use Rattle.swarm_model.specs.declared.pool_settings.Settings.{Settings}
 use Rattle.swarm_model.specs.declared.request.Request.TheVariants as ask
 use Rattle.swarm_model.specs.Fits.{fits}
-use Rattle.swarm_model.specs.Settings.{is_open_pool, AreOpen}
+use Rattle.swarm_model.specs.Settings.{AreOpen}
 use Rattle.swarm_wire.specs.Tasks.{is_built}
 
-built_fits : (pool : PoolSettings) (d : Data) (task : NewTask) → is_sound_task task ≡ true → is_built d task ≡ true → IsTrue (is_open_pool pool) → IsTrue (fits pool (ask.New task))
+built_fits : (pool : PoolSettings) (d : Data) (task : NewTask) → is_sound_task task ≡ true → is_built d task ≡ true → IsTrue (same pool.name (pool_of_task task)) → IsTrue (fits pool (ask.New task))
 unfolding is_built
-built_fits pool d task sound built is_open =
-    let served_here : (is_served task && same (pool_of_task task) (codes "default")) ≡ true = (and_parts _ _ built).1 in
-    let served : is_served task ≡ true = (and_parts _ _ served_here).0 in
-    let here : same (pool_of_task task) (codes "default") ≡ true = (and_parts _ _ served_here).1 in
-    let named : same pool.name (codes "default") ≡ true = (and_parts _ _ is_open).0 in
-    and_from _ _ (and_from _ _ sound served)
-    (same_laws.trans (pool_of_task task) (codes "default") pool.name here (same_laws.symm (codes "default") pool.name ∙ named))
+built_fits pool d task sound built named =
+    and_from _ _ (and_from _ _ sound (and_parts _ _ built).1) (sym (same_laws.symm pool.name (pool_of_task task)) ∙ named)
 
--- the pool at place 0 of open settings
-pub open_fits : (settings : Settings) (d : Data) (task : NewTask) → AreOpen settings → is_sound_task task ≡ true → is_built d task ≡ true
-    → IsSomeAnd (slice_get settings.pools 0) (λ pool. IsTrue (fits pool (ask.New task)))
-open_fits settings d task opened sound built = rw opened.only (built_fits opened.pool d task sound built opened.open_pool)
+new_fits_at : (found : Option PoolSettings) (d : Data) (task : NewTask) → is_sound_task task ≡ true → is_built d task ≡ true
+    → IsSomeAnd found (λ pool. IsTrue (same pool.name (pool_of_task task))) → IsSomeAnd found (λ pool. IsTrue (fits pool (ask.New task)))
+new_fits_at None d task sound built named = named
+new_fits_at (Some pool) d task sound built named = built_fits pool d task sound built named
+
+-- a sound task that is served fits the pool of its name
+pub new_fits : (pools : List PoolSettings) (place : ℕ) (d : Data) (task : NewTask) → is_sound_task task ≡ true → is_built d task ≡ true
+    → IsSomeAnd (slice_get pools place) (λ pool. IsTrue (same pool.name (pool_of_task task))) → IsSomeAnd (slice_get pools place) (λ pool. IsTrue (fits pool (ask.New task)))
+new_fits pools place d task = new_fits_at (slice_get pools place) d task
+
+-- open settings have few pools
+pub open_few : (settings : Settings) → AreOpen settings → length settings.pools ≤ 4
+open_few settings opened = rw opened.only (omega arith)

@@ -1,22 +1,71 @@
 -- No float is shown.
-use Rattle.std.proofs.Common.{◌≡◌, ℕ, false, refl}
-use Rattle.serde_json.specs.Written.{has_float}
+use Rattle.std.proofs.Common.{◌≡◌, ℕ, List, [], ◌∷◌, false, refl}
+use Rattle.std.specs.Prelude.{ℤ, pos, negsuc, map, Option, Some, None}
+use Rattle.serde_json.specs.Data.{Data, string}
+use Rattle.serde_json.specs.View.{items_of}
+use Rattle.serde_json.specs.Written.{has_float, items_have_float, members_have_float}
+use Rattle.task_props.specs.declared.file.File.{File}
+use Rattle.swarm_model.specs.declared.task_view.TaskView.{TaskView}
 use Rattle.swarm_model.specs.declared.rule.Rule.{Rule}
 use Rattle.swarm_model.specs.declared.rule.Rule.TheVariants as rule
 use Rattle.swarm_model.specs.declared.reply.Reply.{Reply}
 use Rattle.swarm_model.specs.declared.reply.Reply.TheVariants as reply
+use Rattle.swarm_wire.specs.Views.{whole, signed, or_null, file_data, run_data, last_members, task_data}
 use Rattle.swarm_wire.specs.Bodies.{refusal_data, reply_data}
 
 refusal_is_plain : (why : Rule) → has_float (refusal_data why) ≡ false
 refusal_is_plain rule.BadHead = refl
+refusal_is_plain rule.LengthRequired = refl
+refusal_is_plain (rule.TooLarge limit) = refl
+refusal_is_plain rule.NoRoute = refl
+refusal_is_plain rule.BadMethod = refl
 refusal_is_plain rule.BadJson = refl
 refusal_is_plain (rule.BadField field broken) = refl
+refusal_is_plain rule.NoCaller = refl
+refusal_is_plain rule.NoPool = refl
+refusal_is_plain rule.NoTask = refl
 refusal_is_plain (rule.PoolTasksFull limit) = refl
 refusal_is_plain rule.LogFull = refl
 refusal_is_plain (rule.FrontAhead length) = refl
 refusal_is_plain rule.WantOfMemory = refl
 refusal_is_plain (rule.NotBuilt what) = refl
 
+or_null_is_plain : {A : Type 0} (show : A → Data) → ((a : A) → has_float (show a) ≡ false) → (o : Option A) → has_float (or_null show o) ≡ false
+or_null_is_plain show h None = refl
+or_null_is_plain show h (Some a) = h a
+
+signed_is_plain : (z : ℤ) → has_float (signed z) ≡ false
+signed_is_plain (pos n) = refl
+signed_is_plain (negsuc n) = refl
+
+file_is_plain : (file : File) → has_float (file_data file) ≡ false
+unfolding file_data
+file_is_plain file = refl
+
+files_are_plain : (files : List File) → items_have_float (items_of (map file_data files)) ≡ false
+files_are_plain [] = refl
+files_are_plain (file ∷ files) = rw (file_is_plain file, files_are_plain files) refl
+
+last_are_plain : (place : ℕ) (task : TaskView) → members_have_float (last_members place task) ≡ false
+unfolding last_members
+last_are_plain place task =
+    rw (files_are_plain task.files, or_null_is_plain (run_data place) (λ _. refl) task.run_id, or_null_is_plain whole (λ _. refl) task.started_ts) refl
+
+task_is_plain : (place : ℕ) (task : TaskView) → has_float (task_data place task) ≡ false
+unfolding task_data
+task_is_plain place task =
+    rw (
+      or_null_is_plain string (λ _. refl) task.bot_id,
+      or_null_is_plain whole (λ _. refl) task.completed_ts,
+      or_null_is_plain (run_data place) (λ _. refl) task.deduped_from,
+      or_null_is_plain whole (λ _. refl) task.dropped,
+      or_null_is_plain whole (λ _. refl) task.duration_ms,
+      or_null_is_plain signed signed_is_plain task.exit_code,
+      last_are_plain place task,
+    ) refl
+
 pub reply_is_plain : (place : ℕ) (r : Reply) → has_float (reply_data place r) ≡ false
 reply_is_plain place (reply.New task state) = refl
+reply_is_plain place (reply.Result task) = task_is_plain place task
+reply_is_plain place (reply.Count count) = refl
 reply_is_plain place (reply.No why) = refusal_is_plain why

@@ -1,38 +1,101 @@
 -- What the body of a request asks for.
-use Rattle.std.specs.Prelude.{ℕ, List, [], Option, Some, None, Result, Ok, Err, if◌then◌else◌}
+use Rattle.std.specs.Prelude.{◌≡◌, ◌≢◌, ℕ, List, [], length, nat_lt, Option, Some, None, Result, Ok, Err, if◌then◌else◌, IsTrue, IsSomeAnd, slice_get}
 use Rattle.std.specs.Str.{is_utf8}
 use Rattle.serde_json.specs.Data.{Data}
 use Rattle.serde_json.specs.Read.{read}
-use Rattle.task_props.specs.declared.new_task.NewTask.{NewTask}
 use Rattle.task_props.specs.declared.prop_fault.PropFault.{PropFault}
 use Rattle.task_props.specs.declared.prop_fault.PropFault.TheVariants as prop_fault
+use Rattle.task_props.specs.declared.prop_rule.PropRule.TheVariants.{WrongType}
+use Rattle.task_props.specs.Checked.{pool_of_task}
+use Rattle.swarm_model.specs.declared.pool_settings.PoolSettings.{PoolSettings}
+use Rattle.swarm_model.specs.declared.pool_settings.Settings.{Settings}
+use Rattle.swarm_model.specs.declared.request.Request.{Request}
 use Rattle.swarm_model.specs.declared.request.Request.TheVariants as ask
+use Rattle.swarm_model.specs.Fits.{fits}
 use Rattle.swarm_wire.specs.declared.asked.Asked.{Asked}
 use Rattle.swarm_wire.specs.declared.asked.WireFault.{WireFault}
 use Rattle.swarm_wire.specs.declared.asked.WireFault.TheVariants as fault
+use Rattle.swarm_wire.specs.declared.route.Route.{Route}
+use Rattle.swarm_wire.specs.declared.route.Route.TheVariants as route
+use Rattle.swarm_wire.specs.Readings.{◌>>=◌}
+use Rattle.swarm_wire.specs.Fields.{is_object}
+use Rattle.swarm_wire.specs.Pools.{place_of}
+use Rattle.swarm_wire.specs.Ids.{place_of_id, task_of_id, try_of_id}
 use Rattle.swarm_wire.specs.Tasks.{task_in, is_built}
+use Rattle.swarm_wire.specs.Results.{id_in}
+use Rattle.swarm_wire.specs.Counts.{count_in}
 
 -- the value that a body is, where it is UTF-8 and JSON
 abbrev pub reading : List ℕ → Option Data
 reading body = if is_utf8 body then read body else None
 
--- a task for the pool at place 0
-abbrev pub asked_task : NewTask → Asked
-asked_task task = record { place = 0; request = ask.New task; bytes = [] }
+-- a request that carries no bytes, to the pool at a place
+abbrev pub asked : ℕ → Request → Asked
+asked place request = record { place = place; request = request; bytes = [] }
 
 abbrev pub wire_fault : PropFault → WireFault
 wire_fault prop_fault.Memory = fault.Memory
 wire_fault (prop_fault.Broken field rule) = fault.BadField field rule
 
--- what isn't served is told only where no rule is broken
-abbrev pub as_asked : Data → Result NewTask PropFault → Result Asked WireFault
-as_asked d (Ok task) = if is_built d task then Ok (asked_task task) else Err fault.NotBuilt
-as_asked d (Err e) = Err (wire_fault e)
+abbrev pub unless_broken : {A : Type 0} → Result A PropFault → Result A WireFault
+unless_broken (Ok x) = Ok x
+unless_broken (Err e) = Err (wire_fault e)
 
-abbrev pub asked_in : Option Data → Result Asked WireFault
-asked_in None = Err fault.BadJson
-asked_in (Some d) = as_asked d (task_in d)
+abbrev pub or_no_pool : Option ℕ → Result ℕ WireFault
+or_no_pool None = Err fault.NoPool
+or_no_pool (Some place) = Ok place
+
+-- the place of the pool of a name
+abbrev pub pool_named : List PoolSettings → List ℕ → Result ℕ WireFault
+pool_named pools name = or_no_pool (place_of pools name)
+
+-- a task for the pool of its dimensions; what isn't served is told last
+unfoldable pub new_of : List PoolSettings → Data → Result Asked WireFault
+new_of pools d = do
+  task ← unless_broken (task_in d)
+  place ← pool_named pools (pool_of_task task)
+  if is_built d task then Ok (asked place (ask.New task)) else Err fault.NotBuilt
+
+-- the task of an id, where the settings have a pool at its place
+unfoldable pub result_at : List PoolSettings → ℕ → Result Asked WireFault
+result_at pools id =
+    if nat_lt (place_of_id id) (length pools)
+    then Ok (asked (place_of_id id) (ask.Result (task_of_id id) (try_of_id id)))
+    else Err fault.NoTask
+
+unfoldable pub result_of : List PoolSettings → Data → Result Asked WireFault
+result_of pools d = do
+  id ← unless_broken (id_in d)
+  result_at pools id
+
+unfoldable pub count_of : List PoolSettings → Data → Result Asked WireFault
+count_of pools d = do
+  fields ← unless_broken (count_in d)
+  place ← pool_named pools fields.0
+  Ok (asked place (ask.Count fields.1))
+
+abbrev pub object_asks : List PoolSettings → Route → Data → Result Asked WireFault
+object_asks pools route.NewTask d = new_of pools d
+object_asks pools route.GetResult d = result_of pools d
+object_asks pools route.CountTasks d = count_of pools d
+
+-- what is no object breaks a rule of no field
+unfoldable pub value_asks : List PoolSettings → Route → Data → Result Asked WireFault
+value_asks pools route d = if is_object d then object_asks pools route d else Err (fault.BadField [] WrongType)
+
+abbrev pub asked_in : List PoolSettings → Route → Option Data → Result Asked WireFault
+asked_in pools route None = Err fault.BadJson
+asked_in pools route (Some d) = value_asks pools route d
 
 -- what a body asks for, or why it asks for nothing
-unfoldable pub asked_of : List ℕ → Result Asked WireFault
-asked_of body = asked_in (reading body)
+unfoldable pub asked_of : Settings → Route → List ℕ → Result Asked WireFault
+asked_of settings route body = asked_in settings.pools route (reading body)
+
+-- what a function gave is what is asked for, but for want of memory
+abbrev pub Asks : {A : Type 0} → Result A WireFault → Result A WireFault → Type 0
+Asks (Ok x) wanted = wanted ≡ Ok x
+Asks (Err why) wanted = why ≢ fault.Memory → wanted ≡ Err why
+
+-- the pool at its place may be asked it
+abbrev pub FitsPool : List PoolSettings → Asked → Type 0
+FitsPool pools a = IsSomeAnd (slice_get pools a.place) (λ pool. IsTrue (fits pool a.request))

@@ -65,6 +65,10 @@ or_absent read absent (Some d) = read d
 unfoldable pub text_in : List ℕ → Data → Result (List ℕ) PropRule
 text_in key d = or_absent text_of (Ok []) (present key d)
 
+-- a text that must be there
+unfoldable pub required_text_in : List ℕ → Data → Result (List ℕ) PropRule
+required_text_in key d = or_absent text_of (Err Missing) (present key d)
+
 -- an absent number is 0
 unfoldable pub number_in : List ℕ → Data → Result ℤ PropRule
 number_in key d = or_absent number_of (Ok (pos 0)) (present key d)
@@ -85,6 +89,9 @@ object_in key d = or_absent object_of (Err Missing) (present key d)
 
 abbrev pub text_at : List ℕ → Data → Result (List ℕ) PropFault
 text_at key d = at key (text_in key d)
+
+abbrev pub required_text_at : List ℕ → Data → Result (List ℕ) PropFault
+required_text_at key d = at key (required_text_in key d)
 
 abbrev pub number_at : List ℕ → Data → Result ℤ PropFault
 number_at key d = at key (number_in key d)

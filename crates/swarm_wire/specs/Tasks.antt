@@ -1,11 +1,9 @@
 -- The request for a task in a body: its fields, in the order of their rules, and what isn't served.
-use Rattle.std.specs.Prelude.{ℕ, Bool, false, not, ◌&&◌, ◌||◌, List, [], ◌∷◌, is_some, decimal, Option, Some, None, if◌then◌else◌, Result, Ok, Err, codes}
+use Rattle.std.specs.Prelude.{ℕ, Bool, false, not, ◌&&◌, ◌||◌, List, [], ◌∷◌, is_some, decimal, Option, Some, None, Result, Ok, Err, codes}
 use Rattle.std.specs.List.{list_any}
 use Rattle.std.specs.Option.{option_map_or}
 use Rattle.serde_json.specs.Data.{Data}
-use Rattle.dimensions.specs.Alike.{same}
 use Rattle.task_props.specs.declared.prop_rule.PropRule.{PropRule}
-use Rattle.task_props.specs.declared.prop_rule.PropRule.TheVariants.{WrongType}
 use Rattle.task_props.specs.declared.prop_fault.PropFault.{PropFault}
 use Rattle.task_props.specs.declared.prop_fault.PropFault.TheVariants.{Broken}
 use Rattle.task_props.specs.declared.raw_task.RawTask.{RawTask}
@@ -13,10 +11,10 @@ use Rattle.task_props.specs.declared.raw_task.RawSlice.{RawSlice}
 use Rattle.task_props.specs.declared.raw_task.RawProperties.{RawProperties}
 use Rattle.task_props.specs.declared.new_task.NewTask.{NewTask}
 use Rattle.task_props.specs.Broken.{first_broken_task}
-use Rattle.task_props.specs.Checked.{is_served, pool_of_task}
+use Rattle.task_props.specs.Checked.{is_served}
 use Rattle.task_props.specs.Reading.{task_of}
 use Rattle.swarm_wire.specs.Readings.{at, inside, ◌>>=◌}
-use Rattle.swarm_wire.specs.Fields.{text_of, object_of, is_object, present, text_at, number_at, flag_at, list_in, object_at, each_at, unknown_key, unless_unknown}
+use Rattle.swarm_wire.specs.Fields.{text_of, object_of, present, text_at, number_at, flag_at, list_in, object_at, each_at, unknown_key, unless_unknown}
 
 -- a text of a command, at its place
 abbrev pub text_item : ℕ → Data → Result (List ℕ) PropFault
@@ -76,10 +74,6 @@ fields_of d = do
   slices ← each_at slice_item (codes "task_slices") d
   Ok (record { name = name; priority = priority; task_slices = slices })
 
--- the fields of a body; what is no object breaks a rule with no field
-unfoldable pub raw_task : Data → Result RawTask PropFault
-raw_task d = if is_object d then fields_of d else Err (Broken [] WrongType)
-
 abbrev pub unless_broken : NewTask → Option (List ℕ × PropRule) → Result NewTask PropFault
 unless_broken task None = Ok task
 unless_broken task (Some broken) = Err (Broken broken.0 broken.1)
@@ -91,7 +85,7 @@ checked raw = unless_broken (task_of raw) (first_broken_task raw)
 -- all fields are read before the other rules are tried
 unfoldable pub task_in : Data → Result NewTask PropFault
 task_in d = do
-  raw ← raw_task d
+  raw ← fields_of d
   checked raw
 
 -- ---- what isn't served
@@ -117,6 +111,6 @@ any_item test (Err rule) = false
 unfoldable pub has_unserved : Data → Bool
 has_unserved d = holds_any unserved_fields d || any_item is_unserved_slice (list_in (codes "task_slices") d)
 
--- one slice that waits, in the pool `default`, and no field that isn't served
+-- one slice that waits, and no field that isn't served
 unfoldable pub is_built : Data → NewTask → Bool
-is_built d task = not (has_unserved d) && (is_served task && same (pool_of_task task) (codes "default"))
+is_built d task = not (has_unserved d) && is_served task

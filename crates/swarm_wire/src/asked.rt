@@ -22,6 +22,10 @@ pub enum WireFault {
     /// The first broken rule, with the dotted path of its field. The path is empty where the body
     /// is no object.
     BadField { field: Text, rule: PropRule },
+    /// The settings have no pool of the name.
+    NoPool,
+    /// The settings have no pool at the place of the id.
+    NoTask,
     /// The task breaks no rule, and isn't served.
     NotBuilt,
 }

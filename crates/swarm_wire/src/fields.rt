@@ -2,7 +2,7 @@
 ghost use Rattle.std.specs.Prelude.{◌≡◌, map, option_map};
 ghost use Rattle.serde_json.specs.View.{view};
 ghost use Rattle.swarm_wire.specs.Readings.{Gives, Reads, GivesUnlessMemory};
-ghost use Rattle.swarm_wire.specs.Fields.{present as spec_present, number_of as spec_number_of, values_of as spec_values_of, object_of as spec_object_of, text_in as spec_text_in, number_in as spec_number_in, flag_in as spec_flag_in, list_in as spec_list_in, object_in as spec_object_in, text_at, number_at, flag_at, list_at, object_at};
+ghost use Rattle.swarm_wire.specs.Fields.{present as spec_present, number_of as spec_number_of, values_of as spec_values_of, object_of as spec_object_of, text_in as spec_text_in, required_text_in as spec_required_text_in, number_in as spec_number_in, flag_in as spec_flag_in, list_in as spec_list_in, object_in as spec_object_in, text_at, required_text_at, number_at, flag_at, list_at, object_at};
 
 use crate::faults::broken;
 use crate::numbers::text_number;
@@ -61,6 +61,16 @@ fn text_in<'v>(body: &'v Value, key: &str) -> Result<&'v str, PropRule>
     }
 }
 
+#[tactic(auto, unfolding(crate::specs::Fields::required_text_in))]
+fn required_text_in<'v>(body: &'v Value, key: &str) -> Result<&'v str, PropRule>
+    ensures { Gives (λ s. s.now) result (spec_required_text_in key.now (view body.now)) }
+{
+    match present(body, key) {
+        None => Err(PropRule::Missing),
+        Some(value) => value.as_str().ok_or(PropRule::WrongType),
+    }
+}
+
 #[tactic(auto, unfolding(crate::specs::Fields::number_in))]
 fn number_in(body: &Value, key: &str) -> Result<i128, PropRule>
     ensures { Gives (λ z. z) result (spec_number_in key.now (view body.now)) }
@@ -108,6 +118,20 @@ pub(crate) fn read_text(alloc: Global, body: &Value, key: &str) -> Result<Text, 
 {
     match text_in(body, key) {
         Ok(text) => Ok(Text::from_str(alloc, text)?),
+        Err(rule) => Err(broken(alloc, key, rule)),
+    }
+}
+
+/// A text that must be there.
+pub(crate) fn read_required_text<'v>(
+    alloc: Global,
+    body: &'v Value,
+    key: &str,
+) -> Result<&'v str, PropFault>
+    ensures { GivesUnlessMemory (λ s. s.now) result (required_text_at key.now (view body.now)) }
+{
+    match required_text_in(body, key) {
+        Ok(text) => Ok(text),
         Err(rule) => Err(broken(alloc, key, rule)),
     }
 }

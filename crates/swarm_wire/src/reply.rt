@@ -1,45 +1,25 @@
-ghost use Rattle.std.specs.Prelude.{◌≡◌, ◌<◌, IfOk, codes, string_bytes};
+ghost use Rattle.std.specs.Prelude.{◌≡◌, ◌<◌, IfOk, codes};
 ghost use Rattle.serde_json.specs.Data.{string};
 ghost use Rattle.serde_json.specs.View.{view};
 ghost use Rattle.task_props.specs.RuleNames.{rule_name};
-ghost use Rattle.swarm_wire.specs.Bodies.{state_name as spec_state_name, task_id as spec_task_id, unbuilt_name as spec_unbuilt_name, one_member as spec_one_member, two_members as spec_two_members, three_members as spec_three_members, refusal_data, reply_data, body_of, whole};
+ghost use Rattle.swarm_wire.specs.States.{state_name as spec_state_name};
+ghost use Rattle.swarm_wire.specs.Ids.{task_id as spec_task_id};
+ghost use Rattle.swarm_wire.specs.Views.{whole};
+ghost use Rattle.swarm_wire.specs.Bodies.{unbuilt_name as spec_unbuilt_name, one_member as spec_one_member, two_members as spec_two_members, three_members as spec_three_members, refusal_data, reply_data, body_of};
 
+use crate::ids::task_id;
+use crate::states::state_name;
+use crate::views::task_value;
 use dimensions::{Seq, Text};
 use serde_json::{Value, json};
 use std::alloc::{AllocError, Global};
 use swarm_model::{Reply, Rule, TaskState, Unbuilt};
 use task_props::PropRule;
 
-fn state_name(state: TaskState) -> &'static str
-    ensures { result.now ≡ spec_state_name state }
-{
-    match state {
-        TaskState::Pending => "PENDING",
-        TaskState::Running => "RUNNING",
-        TaskState::Expired => "EXPIRED",
-        TaskState::TimedOut => "TIMED_OUT",
-        TaskState::BotDied => "BOT_DIED",
-        TaskState::Canceled => "CANCELED",
-        TaskState::Completed => "COMPLETED",
-        TaskState::Killed => "KILLED",
-        TaskState::NoResource => "NO_RESOURCE",
-    }
-}
-
-#[tactic(auto, unfolding(crate::specs::Bodies::task_id))]
-fn task_id(alloc: Global, place: u32, task: u32) -> Result<String, AllocError>
-    requires { place < 4 }
-    ensures { IfOk result (λ id. string_bytes id ≡ spec_task_id place task) }
-{
-    let number = u64::from(place) * 262_144 + u64::from(task);
-    format!(in alloc; "{number:x}0")
-}
-
 fn unbuilt_name(what: Unbuilt) -> &'static str
     ensures { result.now ≡ spec_unbuilt_name what }
 {
     match what {
-        Unbuilt::Head => "head",
         Unbuilt::Task => "task",
     }
 }
@@ -82,8 +62,15 @@ fn refusal_value(alloc: Global, rule: &Rule) -> Result<Value, AllocError>
 {
     match rule {
         Rule::BadHead => code_alone(alloc, "bad_head"),
+        Rule::LengthRequired => code_alone(alloc, "length_required"),
+        Rule::TooLarge { limit } => limit_value(alloc, "too_large", *limit),
+        Rule::NoRoute => code_alone(alloc, "no_route"),
+        Rule::BadMethod => code_alone(alloc, "bad_method"),
         Rule::BadJson => code_alone(alloc, "bad_json"),
         Rule::BadField { field, rule } => field_value(alloc, "bad_field", field, *rule),
+        Rule::NoCaller => code_alone(alloc, "no_caller"),
+        Rule::NoPool => code_alone(alloc, "no_pool"),
+        Rule::NoTask => code_alone(alloc, "no_task"),
         Rule::PoolTasksFull { limit } => limit_value(alloc, "pool_tasks_full", *limit),
         Rule::LogFull => code_alone(alloc, "log_full"),
         Rule::FrontAhead { length } => length_value(alloc, "front_ahead", *length),
@@ -101,12 +88,20 @@ fn new_value(alloc: Global, place: u32, task: u32, state: TaskState) -> Result<V
     json!(in alloc; {"state": name, "task_id": id})
 }
 
+fn count_value(alloc: Global, count: u64) -> Result<Value, AllocError>
+    ensures { IfOk result (λ value. view value ≡ spec_one_member (codes "count") (whole count)) }
+{
+    json!(in alloc; {"count": count})
+}
+
 fn reply_value(alloc: Global, place: u32, reply: &Reply) -> Result<Value, AllocError>
     requires { place < 4 }
     ensures { IfOk result (λ value. view value ≡ reply_data place reply.now) }
 {
     match reply {
         Reply::New { task, state } => new_value(alloc, place, *task, *state),
+        Reply::Result(task) => task_value(alloc, place, task),
+        Reply::Count { count } => count_value(alloc, *count),
         Reply::No(rule) => refusal_value(alloc, rule),
     }
 }

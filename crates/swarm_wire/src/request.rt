@@ -1,35 +1,35 @@
-ghost use Rattle.std.specs.Prelude.{◌≡◌, ◌≢◌, IfOk, IfErr, IsTrue, IsSomeAnd, slice_get, true};
-ghost use Rattle.task_props.specs.Checked.{is_sound_task};
+ghost use Rattle.std.specs.Prelude.{◌≡◌, ◌≢◌, ◌≤◌, ◌<◌, IfOk, IfErr, IsTrue, IsSomeAnd, length, slice_get};
+ghost use Rattle.serde_json.specs.View.{view};
 ghost use Rattle.swarm_model.specs.Fits.{fits};
 ghost use Rattle.swarm_model.specs.Settings.{AreOpen};
-ghost use Rattle.swarm_wire.specs.Asking.{as_asked, asked_of};
-ghost use Rattle.swarm_wire.specs.Tasks.{task_in};
-ghost use Rattle.serde_json.specs.View.{view};
+ghost use Rattle.swarm_wire.specs.Asking.{Asks, FitsPool, new_of, object_asks, value_asks, asked_of};
 
 use crate::body::read_body;
+use crate::counts::ask_count;
+use crate::pools::place_of;
+use crate::results::ask_result;
 use crate::tasks::read_task;
 use crate::unserved::is_built;
-use crate::{Asked, WireFault};
-use dimensions::Seq;
+use crate::{Asked, Route, WireFault};
+use dimensions::{Seq, Text};
 use serde_json::Value;
 use std::alloc::Global;
-use swarm_model::{Request, Settings};
-use task_props::NewTask;
+use swarm_model::{PoolSettings, Request, Settings};
+use task_props::PropRule;
 
-fn asked_task(
-    alloc: Global,
-    settings: &Settings,
-    body: &Value,
-    task: NewTask,
-) -> Result<Asked, WireFault>
-    requires open_settings { AreOpen settings.now }
-    requires sound { is_sound_task task ≡ true }
-    ensures asks { result ≡ as_asked (view body.now) (Ok task) }
-    ensures fits { IfOk result (λ asked. IsSomeAnd (slice_get settings.now.pools asked.place) (λ pool. IsTrue (fits pool asked.request))) }
+#[tactic(auto, unfolding(crate::specs::Asking::new_of))]
+fn ask_new(alloc: Global, pools: &[PoolSettings], body: &Value) -> Result<Asked, WireFault>
+    requires few { length pools.now ≤ 4 }
+    ensures asks { Asks result (new_of pools.now (view body.now)) }
+    ensures fits { IfOk result (λ asked. FitsPool pools.now asked) }
 {
+    let task = read_task(alloc, body)?;
+    let Some(place) = place_of(pools, task.pool()) else {
+        return Err(WireFault::NoPool);
+    };
     if is_built(body, &task) {
         Ok(Asked {
-            place: 0,
+            place,
             request: Request::New(task),
             bytes: Seq::new(alloc),
         })
@@ -38,29 +38,60 @@ fn asked_task(
     }
 }
 
-fn read_value(alloc: Global, settings: &Settings, body: &Value) -> Result<Asked, WireFault>
-    requires { AreOpen settings.now }
-    ensures asks { IfOk result (λ asked. as_asked (view body.now) (task_in (view body.now)) ≡ Ok asked) }
-    ensures refused { IfErr result (λ fault. fault ≢ WireFault.Memory → as_asked (view body.now) (task_in (view body.now)) ≡ Err fault) }
-    ensures fits { IfOk result (λ asked. IsSomeAnd (slice_get settings.now.pools asked.place) (λ pool. IsTrue (fits pool asked.request))) }
+fn ask_object(
+    alloc: Global,
+    pools: &[PoolSettings],
+    route: Route,
+    body: &Value,
+) -> Result<Asked, WireFault>
+    requires few { length pools.now ≤ 4 }
+    ensures asks { Asks result (object_asks pools.now route (view body.now)) }
+    ensures fits { IfOk result (λ asked. FitsPool pools.now asked) }
 {
-    match read_task(alloc, body) {
-        Ok(task) => asked_task(alloc, settings, body, task),
-        Err(fault) => Err(WireFault::from(fault)),
+    match route {
+        Route::NewTask => ask_new(alloc, pools, body),
+        Route::GetResult => ask_result(alloc, pools, body),
+        Route::CountTasks => ask_count(alloc, pools, body),
     }
 }
 
-/// What a body asks for: a request to one of the pools of the settings.
-#[tactic(auto, unfolding(crate::specs::Asking::asked_of))]
-pub fn read_request(alloc: Global, settings: &Settings, body: &[u8]) -> Result<Asked, WireFault>
+#[tactic(auto, unfolding(crate::specs::Asking::value_asks))]
+fn ask_value(
+    alloc: Global,
+    pools: &[PoolSettings],
+    route: Route,
+    body: &Value,
+) -> Result<Asked, WireFault>
+    requires few { length pools.now ≤ 4 }
+    ensures asks { Asks result (value_asks pools.now route (view body.now)) }
+    ensures fits { IfOk result (λ asked. FitsPool pools.now asked) }
+{
+    if body.is_object() {
+        ask_object(alloc, pools, route, body)
+    } else {
+        Err(WireFault::BadField {
+            field: Text::new(alloc),
+            rule: PropRule::WrongType,
+        })
+    }
+}
+
+/// What the body of a call asks for: a request to one of the pools of the settings.
+#[tactic(auto, using(crate::proofs::Fitting::open_few), unfolding(crate::specs::Asking::asked_of))]
+pub fn read_request(
+    alloc: Global,
+    settings: &Settings,
+    route: Route,
+    body: &[u8],
+) -> Result<Asked, WireFault>
     requires { AreOpen settings.now }
-    ensures asks { IfOk result (λ asked. asked_of body.now ≡ Ok asked) }
-    ensures refused { IfErr result (λ fault. fault ≢ WireFault.Memory → asked_of body.now ≡ Err fault) }
+    ensures asks { IfOk result (λ asked. asked_of settings.now route body.now ≡ Ok asked) }
+    ensures refused { IfErr result (λ fault. fault ≢ WireFault.Memory → asked_of settings.now route body.now ≡ Err fault) }
     ensures fits { IfOk result (λ asked. IsSomeAnd (slice_get settings.now.pools asked.place) (λ pool. IsTrue (fits pool asked.request))) }
-    ensures place { IfOk result (λ asked. asked.place ≡ 0) }
+    ensures place { IfOk result (λ asked. asked.place < 4) }
 {
     match read_body(alloc, body)? {
-        Some(value) => read_value(alloc, settings, &value),
+        Some(value) => ask_value(alloc, settings.pools.as_slice(), route, &value),
         None => Err(WireFault::BadJson),
     }
 }

@@ -4,7 +4,7 @@ ghost use Rattle.serde_json.specs.View.{view};
 ghost use Rattle.task_props.specs.Checked.{is_sound_task};
 ghost use Rattle.swarm_wire.specs.Readings.{Reads, each_from};
 ghost use Rattle.swarm_wire.specs.Fields.{each_at, unknown_key as spec_unknown_key};
-ghost use Rattle.swarm_wire.specs.Tasks.{text_item, property_keys, pair_in, pair_item, properties_in, properties_at, slice_in, slice_item, fields_of, raw_task, checked, task_in};
+ghost use Rattle.swarm_wire.specs.Tasks.{text_item, property_keys, pair_in, pair_item, properties_in, properties_at, slice_in, slice_item, fields_of, checked, task_in};
 
 use crate::faults::{below, below_place, broken, broken_at};
 use crate::fields::{object_of, read_flag, read_list, read_number, read_object, read_text};
@@ -195,17 +195,6 @@ fn read_fields(alloc: Global, body: &Value) -> Result<RawTask, PropFault>
     })
 }
 
-#[tactic(auto, unfolding(crate::specs::Tasks::raw_task))]
-fn read_raw_task(alloc: Global, body: &Value) -> Result<RawTask, PropFault>
-    ensures { Reads result (raw_task (view body.now)) }
-{
-    if body.is_object() {
-        read_fields(alloc, body)
-    } else {
-        Err(broken(alloc, "", PropRule::WrongType))
-    }
-}
-
 #[tactic(auto, unfolding(crate::specs::Tasks::checked))]
 fn check(alloc: Global, raw: RawTask) -> Result<NewTask, PropFault>
     ensures exact { Reads result (checked raw) }
@@ -221,6 +210,6 @@ pub(crate) fn read_task(alloc: Global, body: &Value) -> Result<NewTask, PropFaul
     ensures exact { Reads result (task_in (view body.now)) }
     ensures sound { IfOk result (λ task. is_sound_task task ≡ true) }
 {
-    let raw = read_raw_task(alloc, body)?;
+    let raw = read_fields(alloc, body)?;
     check(alloc, raw)
 }

@@ -76,11 +76,11 @@ fn has_unserved(body: &Value) -> bool
     holds_any(body, &["bot_ping_tolerance_secs", "request_uuid"]) || has_unserved_slice(body)
 }
 
-/// Whether the task of a body is served: it has one slice, which waits, in the pool `default`, and
-/// the body has no field that isn't served.
+/// Whether the task of a body is served: it has one slice, which waits, and the body has no field
+/// that isn't served.
 #[tactic(auto, unfolding(crate::specs::Tasks::is_built))]
 pub(crate) fn is_built(body: &Value, task: &NewTask) -> bool
     ensures { result ≡ spec_is_built (view body.now) task.now }
 {
-    !has_unserved(body) && (task.is_served() && task.pool() == "default")
+    !has_unserved(body) && task.is_served()
 }

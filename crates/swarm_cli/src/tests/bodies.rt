@@ -633,7 +633,7 @@ fn lists_of_dimensions(rt: HostRuntime) -> Result<(), Fail> {
             "{}",
             Answer::Breaks("task_slices.0.properties.dimensions", "type"),
         ),
-        // No pool, two pools, a pool with alternatives, another pool.
+        // No pool, two pools, a pool with alternatives.
         (
             "[]",
             Answer::Breaks("task_slices.0.properties.dimensions", "pool"),
@@ -650,7 +650,6 @@ fn lists_of_dimensions(rt: HostRuntime) -> Result<(), Fail> {
             r#"[{"key":"pool","value":"default|other"}]"#,
             Answer::Breaks("task_slices.0.properties.dimensions", "pool"),
         ),
-        (r#"[{"key":"pool","value":"other"}]"#, Answer::NotBuilt),
         // Two ids, and no pool beside them.
         (
             r#"[{"key":"id","value":"a"},{"key":"pool","value":"default"},{"key":"id","value":"b"}]"#,

@@ -1,14 +1,12 @@
 use Rattle.std.proofs.Common.{take, map, sym, subst}
 use Rattle.httparse.specs.Spans.{header_bytes}
-use Rattle.httparse.specs.declared.spans.HeaderSpan.{HeaderSpan}
 use Rattle.request_head.specs.Fields.{named}
 use Rattle.request_head.specs.Judging.{IsFound}
-use Rattle.request_head.proofs.HeadLemmas.{named_more}
+use Rattle.request_head.proofs.HeadLemmas.{named_more, no_header}
 use Rattle.request_head.proofs.fields.find_field.Goals as goal
 
 pub loop-header-preserved : goal.loop-header-preserved
 loop-header-preserved c =
-    let none : HeaderSpan = record { name = record { start = 0; end = 0 }; value = record { start = 0; end = 0 } } in
     subst (λ vs. IsFound c.args.text.now vs c.with_header-found.result)
-    (sym (named_more c.args.text.now c.args.name.now c.args.headers.now c.loop-header.header-index none c.loop-header-test.true))
+    (sym (named_more c.args.text.now c.args.name.now c.args.headers.now c.loop-header.header-index no_header c.loop-header-test.true))
     (c.with_header-found.ensures (named c.args.name.now (map (header_bytes c.args.text.now) (take c.loop-header.header-index c.args.headers.now))) c.loop-header.invariant)

@@ -1,13 +1,11 @@
-use Rattle.std.proofs.Common.{sym, ◌∙◌}
-use Rattle.request_head.proofs.HeadLemmas.{whole_plain}
+use Rattle.request_head.proofs.HeadLemmas.{covers_whole, judged_head}
 use Rattle.request_head.proofs.judged.judge.Goals as goal
 
-pub returns-in-Some-plain_head : goal.returns-in-Some-plain_head
-returns-in-Some-plain_head c =
+pub returns-in-Some : goal.returns-in-Some
+returns-in-Some c =
     let w = c.in-Some.ensures in
-    (w.head, w.is_head, sym (whole_plain c.args.text.now c.whole_head.new.headers c.in-Some.head w) ∙ sym c.in-Some-plain_head.ensures)
-
-pub returns-in-None : goal.returns-in-None
-returns-in-None c =
-    let w = c.in-Some.ensures in
-    (w.head, w.is_head, sym (whole_plain c.args.text.now c.whole_head.new.headers c.in-Some.head w) ∙ sym c.in-None.ensures)
+    judged_head c.args.text.now c.judge_head.result (record {
+      head = w.head;
+      is_head = w.is_head;
+      due = c.judge_head.ensures w.head (covers_whole c.args.text.now c.whole_head.new.headers c.in-Some.head w);
+    })

@@ -1,43 +1,43 @@
-use Rattle.std.proofs.Common.{◌≡◌, refl, ◌∙◌, subst, Err}
-use Rattle.swarm_wire.specs.declared.asked.WireFault.TheVariants as fault
+use Rattle.std.proofs.Common.{refl, sym, ap, ◌∙◌, ◌≡◌, true, Some, ℕ, List, subst}
+use Rattle.request_head.specs.Says.{method_of, caller_of, after_of}
+use Rattle.swarm_model.specs.declared.rule.Rule.TheVariants as rule
+use Rattle.swarm_http.specs.declared.reply.Shown.TheVariants.{Refused}
+use Rattle.swarm_http.specs.declared.reply.Refusal.TheVariants.{NoRoute, BadMethod, NoCaller}
+use Rattle.swarm_http.specs.Meanings.{is_post, with_front}
+use Rattle.swarm_http.specs.Steps.{IsEarly}
 use Rattle.swarm_wire.specs.Asking.{asked_of}
-use Rattle.swarm_http.specs.Outcomes.{early}
-use Rattle.swarm_http.proofs.Serving.{HandsIn-nil}
+use Rattle.swarm_http.proofs.Asking.{no_route, bad_method, no_caller, body_left, body_asks, refused_early, body_refused}
 use Rattle.swarm_http.proofs.answer.answer_request.Goals as goal
 
-pub returns-in-Err-NotBuilt-clause-answers : goal.returns-in-Err-NotBuilt-clause-answers
-returns-in-Err-NotBuilt-clause-answers g c = λ body who held.
-    let refused = rw c.in-Err-NotBuilt.field-0-is at c.in-Err-NotBuilt.ensures.refused in
-    let items = rw c.in-Some-Some.is-1 at held.body_is in
-    let same : c.deref.result.now ≡ body = c.deref.ensures.value ∙ items in
-    record {
-      outcome = early fault.NotBuilt;
-      acts = (subst (λ l. asked_of l ≡ Err fault.NotBuilt) same (refused (λ e. cc)), refl);
-      moments = HandsIn-nil (g.C.Clock.ahead c.args.clock.now);
-      shown = refl;
-    }
+pub returns-in_default-clause-answers : goal.returns-in_default-clause-answers
+returns-in_default-clause-answers g c = λ body head held.
+    refused_early c.args.settings.now (g.D.Door.state c.args.door.now).numbers head body (g.C.Clock.ahead c.args.clock.now) (g.D.Door.state c.args.door.now).seen (Refused NoRoute) rule.NoRoute
+    (no_route c.args.settings.now head body (sym held.said.route ∙ c.in_default.is)) refl
 
-pub returns-in-Err-BadJson-clause-answers : goal.returns-in-Err-BadJson-clause-answers
-returns-in-Err-BadJson-clause-answers g c = λ body who held.
-    let refused = rw c.in-Err-BadJson.field-0-is at c.in-Err-BadJson.ensures.refused in
-    let items = rw c.in-Some-Some.is-1 at held.body_is in
-    let same : c.deref.result.now ≡ body = c.deref.ensures.value ∙ items in
-    record {
-      outcome = early fault.BadJson;
-      acts = (subst (λ l. asked_of l ≡ Err fault.BadJson) same (refused (λ e. cc)), refl);
-      moments = HandsIn-nil (g.C.Clock.ahead c.args.clock.now);
-      shown = refl;
-    }
+pub returns-then-not-is_post-clause-answers : goal.returns-then-not-is_post-clause-answers
+returns-then-not-is_post-clause-answers g c = λ body head held.
+    refused_early c.args.settings.now (g.D.Door.state c.args.door.now).numbers head body (g.C.Clock.ahead c.args.clock.now) (g.D.Door.state c.args.door.now).seen (Refused BadMethod) rule.BadMethod
+    (bad_method c.args.settings.now head body c.in-Some.route (sym held.said.route ∙ c.in-Some.is) (ap is_post (sym held.said.method) ∙ sym c.is_post.ensures ∙ c.if-not-is_post.true)) refl
 
-pub returns-in-Ok-field_refusal-clause-answers : goal.returns-in-Ok-field_refusal-clause-answers
-returns-in-Ok-field_refusal-clause-answers g c = λ body who held.
-    let why = fault.BadField c.in-Err-BadField.field c.in-Err-BadField.rule in
-    let refused = rw c.in-Err-BadField.field-0-is at c.in-Err-BadField.ensures.refused in
-    let items = rw c.in-Some-Some.is-1 at held.body_is in
-    let same : c.deref.result.now ≡ body = c.deref.ensures.value ∙ items in
-    record {
-      outcome = early why;
-      acts = (subst (λ l. asked_of l ≡ Err why) same (refused (λ e. cc)), refl);
-      moments = HandsIn-nil (g.C.Clock.ahead c.args.clock.now);
-      shown = c.in-Ok-field_refusal.ensures;
-    }
+pub returns-in-Unnamed-clause-answers : goal.returns-in-Unnamed-clause-answers
+returns-in-Unnamed-clause-answers g c = λ body head held.
+    refused_early c.args.settings.now (g.D.Door.state c.args.door.now).numbers head body (g.C.Clock.ahead c.args.clock.now) (g.D.Door.state c.args.door.now).seen (Refused NoCaller) rule.NoCaller
+    (no_caller c.args.settings.now head body c.in-Some.route (sym held.said.route ∙ c.in-Some.is) (ap is_post (sym held.said.method) ∙ sym c.is_post.ensures ∙ c.if-not-is_post.false) (rw c.in-Unnamed.is at held.said.who)) refl
+
+pub returns-in-Ok-clause-answers : goal.returns-in-Ok-clause-answers
+returns-in-Ok-clause-answers g c = λ body head held.
+    let posted : is_post (method_of head) ≡ true = ap is_post (sym held.said.method) ∙ sym c.is_post.ensures ∙ c.if-not-is_post.false in
+    let who : caller_of head ≡ Some c.in-Named.who = rw c.in-Named.is at held.said.who in
+    rw c.requires.settings at (c.call_door.ensures.answers head body held.said.after
+    (rw c.requires.settings (body_asks c.args.settings.now head body c.deref.result.now c.in-Some.route c.in-Named.who c.args.received.said.after c.in-Ok.asked
+    (sym held.said.route ∙ c.in-Some.is) posted who held.said.after (c.deref.ensures.value ∙ rw c.in-Some-body.is at held.body_is) c.in-Ok.ensures.asks)))
+
+pub returns-clause-answers : goal.returns-clause-answers
+returns-clause-answers g c = λ body head held.
+    let posted : is_post (method_of head) ≡ true = ap is_post (sym held.said.method) ∙ sym c.is_post.ensures ∙ c.if-not-is_post.false in
+    let who : caller_of head ≡ Some c.in-Named.who = rw c.in-Named.is at held.said.who in
+    let is : c.in-Some-body.body.items ≡ body = rw c.in-Some-body.is at held.body_is in
+    body_refused c.args.settings.now (g.D.Door.state c.args.door.now).numbers head body c.in-Named.who (g.C.Clock.ahead c.args.clock.now) (g.D.Door.state c.args.door.now).seen c.in-Err.shown
+    (with_front (after_of head) (asked_of c.args.settings.now c.in-Some.route body))
+    (body_left c.args.settings.now head body c.in-Some.route c.in-Named.who (sym held.said.route ∙ c.in-Some.is) posted who)
+    (subst (λ (b : List ℕ). IsEarly c.in-Err.shown (with_front (after_of head) (asked_of c.args.settings.now c.in-Some.route b))) (c.deref.ensures.value ∙ is) (rw held.said.after at c.in-Err.ensures.refused))

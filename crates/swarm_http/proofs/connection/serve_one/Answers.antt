@@ -1,8 +1,11 @@
-use Rattle.swarm_http.proofs.Serving.{goes_on, reply_cut, head_refused, refusal_cut, taking_ended}
+use Rattle.swarm_http.proofs.Serving.{goes_on, asked_last, reply_cut, head_refused, refusal_cut, taking_ended}
 use Rattle.swarm_http.proofs.connection.serve_one.Goals as goal
 
 pub returns-in-Ok-clause-step : goal.returns-in-Ok-clause-step
-returns-in-Ok-clause-step g c = let f = c.in-Ok.ensures in let w = f.sends in goes_on c.in-Asks.ensures c.answer_request-shown.ensures.answers w w.outcome f.flushed
+returns-in-Ok-clause-step g c = let f = c.in-Ok.ensures in let w = f.sends in asked_last c.in-Asks.ensures c.answer_request-shown.ensures.answers w w.outcome f.flushed c.if-closes.true
+
+pub returns-in-Ok-2-clause-step : goal.returns-in-Ok-2-clause-step
+returns-in-Ok-2-clause-step g c = let f = c.in-Ok-2.ensures in let w = f.sends in goes_on c.in-Asks.ensures c.answer_request-shown.ensures.answers w w.outcome f.flushed c.if-closes.false
 
 pub returns-in-Asks-clause-step : goal.returns-in-Asks-clause-step
 returns-in-Asks-clause-step g c = let w = c.in-Err.ensures.sends in reply_cut c.in-Asks.ensures c.answer_request-shown.ensures.answers w w.outcome

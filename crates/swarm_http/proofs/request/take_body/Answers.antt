@@ -9,7 +9,7 @@ returns-in-Ok-Whole g c =
     record {
       taken = r.taken;
       moves = r.moves;
-      outcome = received_whole says.1 r.outcome (record { body_is = refl; who_is = says.2 });
+      outcome = received_whole says.1 says.2 r.outcome (record { said = says.3; body_is = refl });
     }
 
 pub returns-in-Ok-Dropped : goal.returns-in-Ok-Dropped
@@ -19,15 +19,17 @@ returns-in-Ok-Dropped g c =
     record {
       taken = r.taken;
       moves = r.moves;
-      outcome = received_whole says.1 r.outcome.1 (record { body_is = tt; who_is = says.2 });
+      outcome = received_whole says.1 says.2 r.outcome.1 (record { said = says.3; body_is = tt });
     }
 
 pub returns-in-Ok-Ended : goal.returns-in-Ok-Ended
 returns-in-Ok-Ended g c =
     let r = rw c.in-Ok-Ended.field-0-is at c.in-Ok-Ended.ensures in
-    record { taken = r.taken; moves = r.moves; outcome = (part_cut c.requires.says.1 r.outcome.1, r.outcome.0) }
+    let says = c.requires.says in
+    record { taken = r.taken; moves = r.moves; outcome = (part_cut says.1 says.2 r.outcome.1, r.outcome.0) }
 
 pub returns-in-Err : goal.returns-in-Err
 returns-in-Err g c =
     let r = c.in-Err.ensures in
-    record { taken = r.taken; moves = r.moves; outcome = (r.outcome.0, inr (part_cut c.requires.says.1 r.outcome.1)) }
+    let says = c.requires.says in
+    record { taken = r.taken; moves = r.moves; outcome = (r.outcome.0, inr (part_cut says.1 says.2 r.outcome.1)) }

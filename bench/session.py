@@ -1,0 +1,89 @@
+#!/usr/bin/env python3
+"""Figures of `swarm session`: requests per second, and the greatest memory.
+
+Usage: bench/session.py [PROGRAM]
+
+Each line is one run of the program over one connection of pipelined requests from a file: what is
+asked, how many requests, seconds, requests per second, microseconds a request, and the greatest
+memory of the process in MiB, which is never less than the script's own, some 14. The replies are
+counted; a run that answers otherwise is an error. The program is built by the first
+`./swarm session`.
+"""
+import os
+import subprocess
+import sys
+import tempfile
+import time
+
+HERE = os.path.dirname(os.path.dirname(os.path.abspath(__file__)))
+NEW_TASK = (
+    b'{"task_slices":[{"expiration_secs":600,"wait_for_capacity":true,"properties":'
+    b'{"command":["true"],"dimensions":[{"key":"pool","value":"default"}]}}]}'
+)
+COUNT = b'{"pool":"default"}'
+
+
+def request(call, body):
+    return (
+        b"POST /prpc/swarming.v2.Tasks/%s HTTP/1.1\r\nX-Swarming-Caller: ana\r\n"
+        b"Content-Length: %d\r\n\r\n%s" % (call, len(body), body)
+    )
+
+
+def count_good(told):
+    """How many replies of status 200 stand in the file."""
+    mark, good, rest = b"HTTP/1.1 200 OK\r\n", 0, b""
+    while piece := told.read(65536):
+        rest += piece
+        good += rest.count(mark)
+        # What may be the front of a mark stays; no whole one does.
+        rest = rest[rest.rfind(mark) + 1 :] if mark in rest else rest
+        rest = rest[-(len(mark) - 1) :]
+    return good
+
+
+def run(program, parts):
+    """Seconds, the greatest memory in MiB, and the replies of status 200."""
+    with tempfile.TemporaryFile() as asked, tempfile.TemporaryFile() as told:
+        for text, times in parts:
+            for _ in range(times):
+                asked.write(text)
+        asked.seek(0)
+        begun = time.monotonic()
+        child = subprocess.Popen([program, "session"], stdin=asked, stdout=told)
+        _, status, usage = os.wait4(child.pid, 0)
+        seconds = time.monotonic() - begun
+        child.returncode = os.waitstatus_to_exitcode(status)
+        if child.returncode != 0:
+            sys.exit("%s ended with status %d" % (program, child.returncode))
+        told.seek(0)
+        return seconds, usage.ru_maxrss / 1024, count_good(told)
+
+
+def measure(program, name, rows, asked, count):
+    parts = [(request(b"NewTask", NEW_TASK), rows), (asked, count)]
+    seconds, memory, good = run(program, parts)
+    if good != rows + count:
+        sys.exit("%s: %d of %d requests were answered well" % (name, good, rows + count))
+    per_second = (rows + count) / seconds
+    print(
+        "%-32s %8d %8.3f s %10.0f /s %8.2f us %8.1f MiB"
+        % (name, rows + count, seconds, per_second, 1e6 / per_second, memory)
+    )
+
+
+def main():
+    program = sys.argv[1] if len(sys.argv) > 1 else os.path.join(HERE, "crates/swarm/out/swarm")
+    if not os.access(program, os.X_OK):
+        sys.exit("%s is not there: run ./swarm session first" % program)
+    for count in (1000, 8125, 16250, 32500, 65000):
+        measure(program, "CountTasks over 1 task", 1, request(b"CountTasks", COUNT), count)
+    for count in (1000, 8125, 16250, 32500, 65000):
+        measure(program, "CountTasks over 500 tasks", 500, request(b"CountTasks", COUNT), count)
+    for count in (1000, 8125, 16250, 32500, 65000):
+        measure(program, "NewTask", 0, request(b"NewTask", NEW_TASK), count)
+    measure(program, "GetResult of the first of 500", 500, request(b"GetResult", b'{"task_id":"10"}'), 65000)
+    measure(program, "GetResult of the last of 500", 500, request(b"GetResult", b'{"task_id":"1f40"}'), 65000)
+
+
+main()

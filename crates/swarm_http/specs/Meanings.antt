@@ -1,0 +1,84 @@
+-- What a request asks, or why it is refused before any pool is asked.
+use Rattle.std.specs.Prelude.{ℕ, Bool, true, false, List, Option, Some, None, Result, Ok, Err, codes}
+use Rattle.httparse.specs.Grammar.{RequestHead}
+use Rattle.request_head.specs.declared.method.Method.{Method}
+use Rattle.request_head.specs.declared.method.Method.TheVariants.{Get, Post, Put, Other}
+use Rattle.request_head.specs.declared.after.After.{After}
+use Rattle.request_head.specs.declared.after.After.TheVariants.{Absent, Front, Broken}
+use Rattle.request_head.specs.Says.{method_of, caller_of, after_of}
+use Rattle.task_props.specs.declared.prop_rule.PropRule.TheVariants.{Grammar}
+use Rattle.swarm_model.specs.declared.pool_settings.Settings.{Settings}
+use Rattle.swarm_model.specs.declared.rule.Rule.{Rule}
+use Rattle.swarm_model.specs.declared.rule.Rule.TheVariants as rule
+use Rattle.swarm_model.specs.declared.rule.Unbuilt.TheVariants as unbuilt
+use Rattle.swarm_wire.specs.declared.route.Route.{Route}
+use Rattle.swarm_wire.specs.declared.asked.Asked.{Asked}
+use Rattle.swarm_wire.specs.declared.asked.WireFault.{WireFault}
+use Rattle.swarm_wire.specs.declared.asked.WireFault.TheVariants as fault
+use Rattle.swarm_wire.specs.Routes.{route_of}
+use Rattle.swarm_wire.specs.Asking.{asked_of}
+
+-- the value, and what follows from it
+abbrev pub then : {A B : Type 0} → Result A Rule → (A → Result B Rule) → Result B Rule
+then (Ok value) next = next value
+then (Err why) next = Err why
+
+-- every route is one of POST
+abbrev pub is_post : Method → Bool
+is_post Post = true
+is_post Get = false
+is_post Put = false
+is_post Other = false
+
+-- the route of the target, by its method
+abbrev pub routed : Option Route → Method → Result Route Rule
+routed None method = Err rule.NoRoute
+routed (Some route) Post = Ok route
+routed (Some route) Get = Err rule.BadMethod
+routed (Some route) Put = Err rule.BadMethod
+routed (Some route) Other = Err rule.BadMethod
+
+abbrev pub called_by : Option (List ℕ) → Result (List ℕ) Rule
+called_by None = Err rule.NoCaller
+called_by (Some who) = Ok who
+
+-- the refusal of a front that is no number
+abbrev pub broken_front : Rule
+broken_front = rule.BadField (codes "X-Swarming-After") Grammar
+
+-- a front that is no number is told in place of what the pools say
+abbrev pub unless_broken : After → Result Asked Rule → Result Asked Rule
+unless_broken Absent asked = asked
+unless_broken (Front front) asked = asked
+unless_broken Broken asked = Err broken_front
+
+-- a fault of the body comes before a broken front, and that before what the pools say
+abbrev pub with_front : After → Result Asked WireFault → Result Asked Rule
+with_front after (Ok asked) = unless_broken after (Ok asked)
+with_front after (Err fault.Memory) = Err rule.WantOfMemory
+with_front after (Err fault.BadJson) = Err rule.BadJson
+with_front after (Err (fault.BadField field broken)) = Err (rule.BadField field broken)
+with_front after (Err fault.NoPool) = unless_broken after (Err rule.NoPool)
+with_front after (Err fault.NoTask) = unless_broken after (Err rule.NoTask)
+with_front after (Err fault.NotBuilt) = unless_broken after (Err (rule.NotBuilt unbuilt.Task))
+
+-- the front that the caller has seen
+abbrev pub front_of : After → Option ℕ
+front_of Absent = None
+front_of (Front front) = Some front
+front_of Broken = None
+
+-- a caller, and what it asks of a pool
+pub record Meant : Type 0 where
+  pub who : List ℕ
+  pub asked : Asked
+
+abbrev pub meant_by : List ℕ → Asked → Result Meant Rule
+meant_by who asked = Ok (record { who = who; asked = asked })
+
+-- what a request means: its route, its method, its caller, its body and its front are looked at in this order
+abbrev pub meaning : Settings → RequestHead → List ℕ → Result Meant Rule
+meaning settings head body =
+    then (routed (route_of head.target) (method_of head)) (λ route.
+    then (called_by (caller_of head)) (λ who.
+    then (with_front (after_of head) (asked_of settings route body)) (meant_by who)))
