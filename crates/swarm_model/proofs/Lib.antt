@@ -1,1 +1,4 @@
+pub mod Earliest
+pub mod Finds
 pub mod Following
+pub mod Sound

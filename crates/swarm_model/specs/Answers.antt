@@ -1,10 +1,10 @@
 -- The answer to each request, and the entry that it adds.
-use Rattle.std.specs.Prelude.{ℕ, ◌+◌, ◌==◌, List, length, Option, Some, None, nat_le}
+use Rattle.std.specs.Prelude.{ℕ, ◌+◌, ◌-◌, ◌==◌, List, length, Option, Some, None, nat_le}
 use Rattle.std.specs.List.{count_by}
 use Rattle.std.specs.Option.{option_map, option_and_then}
 use Rattle.task_props.specs.declared.new_task.NewTask.{NewTask}
 use Rattle.swarm_model.specs.declared.task_state.TaskState.{TaskState}
-use Rattle.swarm_model.specs.declared.task_state.TaskState.TheVariants.{Pending}
+use Rattle.swarm_model.specs.declared.task_state.TaskState.TheVariants.{Pending, NoResource}
 use Rattle.swarm_model.specs.declared.task_row.TaskRow.{TaskRow}
 use Rattle.swarm_model.specs.declared.pool_state.PoolState.{PoolState}
 use Rattle.swarm_model.specs.declared.entry.Entry.{Entry}
@@ -20,6 +20,7 @@ use Rattle.swarm_model.specs.declared.answer.Answer.{Answer}
 use Rattle.swarm_model.specs.declared.answer.Told.{Told}
 use Rattle.dimensions.specs.Choosing.{when}
 use Rattle.swarm_model.specs.Finding.{task_of, is_wanted}
+use Rattle.swarm_model.specs.Slices.{admit}
 use Rattle.swarm_model.specs.Views.{view_of}
 use Rattle.swarm_model.specs.Words.{◌otherwise◌}
 
@@ -33,13 +34,21 @@ refuses why = says (reply.No why)
 abbrev pub tasks_full : PoolState → Told
 tasks_full s = refuses (rule.PoolTasksFull s.settings.most_tasks)
 
--- the next task, which waits at its first slice
-abbrev pub accepted : PoolState → List ℕ → NewTask → Told
-accepted s who request =
+-- the next task, in this state and at this slice
+abbrev pub begins : PoolState → List ℕ → NewTask → TaskState → ℕ → Told
+begins s who request state slice =
     record {
-      reply = reply.New (length s.tasks + 1) Pending;
-      adds = Some (kind.New (length s.tasks + 1) who request Pending 0);
+      reply = reply.New (length s.tasks + 1) state;
+      adds = Some (kind.New (length s.tasks + 1) who request state slice);
     }
+
+-- a task waits at its first open slice, and ends at once where none is open
+abbrev pub accepted_at : PoolState → List ℕ → NewTask → Option ℕ → Told
+accepted_at s who request (Some place) = begins s who request Pending place
+accepted_at s who request None = begins s who request NoResource (length request.task_slices - 1)
+
+abbrev pub accepted : PoolState → List ℕ → NewTask → Told
+accepted s who request = accepted_at s who request (admit s request.task_slices 0)
 
 abbrev pub new_task : PoolState → List ℕ → NewTask → Told
 new_task s who request =

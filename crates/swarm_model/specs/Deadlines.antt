@@ -1,8 +1,80 @@
--- Which deadline comes next.
-use Rattle.std.specs.Prelude.{ℕ, Option, None}
+-- What runs out, and when.
+use Rattle.std.specs.Prelude.{ℕ, Bool, ◌+◌, ◌==◌, ◌&&◌, ◌||◌, nat_le, nat_lt, List, length, Option, Some, None, if◌then◌else◌}
+use Rattle.std.specs.List.{filter_map, fold}
+use Rattle.std.specs.Option.{option_map, option_map_or, option_and_then}
+use Rattle.task_props.specs.declared.slice.Slice.{Slice}
+use Rattle.swarm_model.specs.declared.task_state.TaskState.{TaskState}
+use Rattle.swarm_model.specs.declared.task_state.TaskState.TheVariants.{Pending, Expired, NoResource}
+use Rattle.swarm_model.specs.declared.task_row.TaskRow.{TaskRow}
 use Rattle.swarm_model.specs.declared.pool_state.PoolState.{PoolState}
+use Rattle.swarm_model.specs.declared.deadline.Cause.{Cause}
+use Rattle.swarm_model.specs.declared.deadline.Cause.TheVariants as cause
+use Rattle.swarm_model.specs.declared.deadline.Deadline.{Deadline}
 use Rattle.swarm_model.specs.declared.entry.Entry.{Entry}
+use Rattle.swarm_model.specs.declared.entry.EntryKind.{EntryKind}
+use Rattle.swarm_model.specs.declared.entry.EntryKind.TheVariants as kind
+use Rattle.swarm_model.specs.declared.entry.Outcome.{Outcome}
+use Rattle.swarm_model.specs.declared.entry.Outcome.TheVariants as outcome
+use Rattle.swarm_model.specs.Finding.{has_state, task_of}
+use Rattle.swarm_model.specs.Slices.{admit, current_slice}
 
--- the entry of the first deadline that has come by a moment; there is no kind of deadline yet
+-- the place of a cause among those of one moment
+abbrev pub rank : Cause → ℕ
+rank cause.Slice = 1
+
+-- the deadline of a slice to which a task came
+abbrev pub slice_limit : TaskRow → Slice → Deadline
+slice_limit task slice = record { moment = task.since + slice.expiration_secs; cause = cause.Slice; number = task.no }
+
+-- a task waits for a bot until its slice runs out
+abbrev pub slice_end : TaskRow → Option Deadline
+slice_end task = if has_state Pending task then option_map (slice_limit task) (current_slice task) else None
+
+abbrev pub deadlines : PoolState → List Deadline
+deadlines s = filter_map slice_end s.tasks
+
+-- by moment, then cause, then number
+abbrev pub is_earlier : Deadline → Deadline → Bool
+is_earlier a b =
+    nat_lt a.moment b.moment
+    || (a.moment == b.moment && (nat_lt (rank a.cause) (rank b.cause) || (rank a.cause == rank b.cause && nat_lt a.number b.number)))
+
+-- the earliest so far, where one more is looked at
+abbrev pub earlier : Option Deadline → Deadline → Deadline
+earlier None d = d
+earlier (Some best) d = if is_earlier d best then d else best
+
+abbrev pub sooner : Option Deadline → Deadline → Option Deadline
+sooner best d = Some (earlier best d)
+
+-- the earliest of all deadlines
+abbrev pub next_deadline : PoolState → Option Deadline
+next_deadline s = fold sooner None (deadlines s)
+
+-- a deadline has come at its very moment
+abbrev pub if_come : ℕ → Deadline → Option Deadline
+if_come moment d = if nat_le d.moment moment then Some d else None
+
+-- the earliest deadline, where it has come by a moment
+abbrev pub due : PoolState → ℕ → Option Deadline
+due s moment = option_and_then (if_come moment) (next_deadline s)
+
+-- how a task ends whose slice ran out, and no later one is open: after its last slice it is
+-- expired, and before it no bot could run the rest
+abbrev pub last_state : TaskRow → TaskState
+last_state task = if task.slice + 1 == length task.request.task_slices then Expired else NoResource
+
+-- what becomes of a task whose slice has run out
+abbrev pub next_of : PoolState → TaskRow → Outcome
+next_of s task = option_map_or outcome.Slice (admit s task.request.task_slices (task.slice + 1)) (outcome.Ended (last_state task))
+
+-- what the log says of a deadline
+abbrev pub settled : PoolState → Cause → ℕ → EntryKind
+settled s cause.Slice number = kind.Slice number (option_map_or (next_of s) (task_of s number) (outcome.Ended NoResource))
+
+abbrev pub entry_of : PoolState → ℕ → Deadline → Entry
+entry_of s pass d = record { moment = d.moment; pass = pass; kind = settled s d.cause d.number }
+
+-- the entry of the earliest deadline, where it has come by a moment
 abbrev pub due_entry : PoolState → ℕ → ℕ → Option Entry
-due_entry s moment pass = None
+due_entry s moment pass = option_map (entry_of s pass) (due s moment)

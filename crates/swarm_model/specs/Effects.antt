@@ -1,5 +1,5 @@
 -- What each entry of the log does to the pool.
-use Rattle.std.specs.Prelude.{ℕ, List, [], ◌∷◌, ◌++◌, Option, Some, None, if◌then◌else◌}
+use Rattle.std.specs.Prelude.{ℕ, ◌-◌, ◌==◌, List, [], ◌∷◌, ◌++◌, map, length, Option, Some, None, if◌then◌else◌}
 use Rattle.task_props.specs.declared.new_task.NewTask.{NewTask}
 use Rattle.swarm_model.specs.declared.task_state.TaskState.{TaskState}
 use Rattle.swarm_model.specs.declared.task_state.TaskState.TheVariants.{Pending}
@@ -9,6 +9,8 @@ use Rattle.swarm_model.specs.declared.pool_settings.PoolSettings.{PoolSettings}
 use Rattle.swarm_model.specs.declared.entry.Entry.{Entry}
 use Rattle.swarm_model.specs.declared.entry.EntryKind.{EntryKind}
 use Rattle.swarm_model.specs.declared.entry.EntryKind.TheVariants as kind
+use Rattle.swarm_model.specs.declared.entry.Outcome.{Outcome}
+use Rattle.swarm_model.specs.declared.entry.Outcome.TheVariants as outcome
 use Rattle.swarm_model.specs.Finding.{is_state}
 
 -- a pool before its first entry
@@ -35,8 +37,28 @@ new_row moment t who request state slice =
 
 -- the task rows that an entry adds
 abbrev pub added_tasks : ℕ → EntryKind → List TaskRow
+added_tasks moment (kind.Slice t to) = []
 added_tasks moment (kind.New t who request state slice) = new_row moment t who request state slice ∷ []
+
+-- the task comes to another slice, or ends at its last one
+abbrev pub moved : ℕ → Outcome → TaskRow → TaskRow
+moved moment (outcome.Slice place) task = record task { slice = place; since = moment }
+moved moment (outcome.Ended state) task =
+    record task { state = state; slice = length task.request.task_slices - 1; ended = Some moment }
+
+-- a row that is changed where it has the number
+abbrev pub change_at : ℕ → (TaskRow → TaskRow) → TaskRow → TaskRow
+change_at number change task = if task.no == number then change task else task
+
+-- the row of a task after an entry
+abbrev pub task_after : ℕ → EntryKind → TaskRow → TaskRow
+task_after moment (kind.Slice t to) task = change_at t (moved moment to) task
+task_after moment (kind.New t who request state slice) task = task
 
 -- the pool after an entry
 abbrev pub after : PoolState → Entry → PoolState
-after s entry = record s { last = entry.moment; tasks = s.tasks ++ added_tasks entry.moment entry.kind }
+after s entry =
+    record s {
+      last = entry.moment;
+      tasks = map (task_after entry.moment entry.kind) s.tasks ++ added_tasks entry.moment entry.kind;
+    }

@@ -1,5 +1,5 @@
 -- How much an entry weighs, and which request it stands for.
-use Rattle.std.specs.Prelude.{ℕ, ◌+◌, List, length, Option, Some, Bool, false}
+use Rattle.std.specs.Prelude.{ℕ, ◌+◌, List, length, Option, Some, None, Bool, true, false}
 use Rattle.std.specs.List.{sum_by}
 use Rattle.task_props.specs.declared.file.File.{File}
 use Rattle.task_props.specs.declared.cache.Cache.{Cache}
@@ -39,6 +39,7 @@ task_weight request = length request.name + (length request.request_uuid + sum_b
 
 -- the bytes of all texts in it, and 36 for each digest
 abbrev pub weight_of : EntryKind → ℕ
+weight_of (kind.Slice t to) = 0
 weight_of (kind.New t who request state slice) = length who + task_weight request
 
 abbrev pub weight : Entry → ℕ
@@ -51,8 +52,10 @@ pub record Asked : Type 0 where
 
 -- whether the entry is that of a deadline
 abbrev pub is_deadline : EntryKind → Bool
+is_deadline (kind.Slice t to) = true
 is_deadline (kind.New t who request state slice) = false
 
 -- the request for which an entry stands
 abbrev pub asks : PoolState → EntryKind → Option Asked
+asks s (kind.Slice t to) = None
 asks s (kind.New t who request state slice) = Some (record { who = who; request = ask.New request })

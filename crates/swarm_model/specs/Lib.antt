@@ -2,12 +2,14 @@ pub mod Words
 pub mod Settings
 pub mod Finding
 pub mod Fits
+pub mod Slices
 pub mod Views
 pub mod Answers
 pub mod Entries
 pub mod Effects
 pub mod Deadlines
 pub mod History
+pub mod Soundness
 pub mod Points
 pub mod Kept
 pub mod Examples

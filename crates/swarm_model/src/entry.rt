@@ -3,9 +3,23 @@ use dimensions::{Text, TryCopy};
 use std::alloc::{AllocError, Global};
 use task_props::NewTask;
 
+/// What becomes of a task whose slice has run out.
+#[derive(Clone, Copy, Debug, PartialEq, Eq)]
+pub enum Outcome {
+    /// It goes on at the slice of this place.
+    Slice(u32),
+    /// It ends in this state.
+    Ended(TaskState),
+}
+
 /// What happened to a pool. Tasks are named by their numbers.
 #[derive(Drop)]
 pub enum EntryKind {
+    /// The slice of a task ran out.
+    Slice {
+        t: u32,
+        to: Outcome,
+    },
     /// A task was accepted, in this state and at this slice.
     New {
         t: u32,
@@ -27,6 +41,7 @@ pub struct Entry {
 impl TryCopy for EntryKind {
     fn try_copy(&self, alloc: Global) -> Result<EntryKind, AllocError> {
         match self {
+            EntryKind::Slice { t, to } => Ok(EntryKind::Slice { t: *t, to: *to }),
             EntryKind::New {
                 t,
                 who,

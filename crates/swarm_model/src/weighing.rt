@@ -111,6 +111,7 @@ pub fn weight(entry: &Entry) -> u64
     ensures { result ≡ capped (weight entry.now) }
 {
     match &entry.kind {
+        EntryKind::Slice { .. } => 0,
         EntryKind::New { who, request, .. } => new_weight(who, request),
     }
 }

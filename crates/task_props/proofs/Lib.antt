@@ -1,1 +1,2 @@
 mod Unbroken
+pub mod Checked
