@@ -1,3 +1,4 @@
+pub mod Changed
 pub mod Earliest
 pub mod Finds
 pub mod Following

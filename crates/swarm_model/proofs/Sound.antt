@@ -21,10 +21,11 @@ use Rattle.swarm_model.specs.declared.entry.Outcome.TheVariants as outcome
 use Rattle.swarm_model.specs.Finding.{is_task, is_state, has_state, task_of}
 use Rattle.swarm_model.specs.Slices.{admit, current_slice}
 use Rattle.swarm_model.specs.Deadlines.{slice_limit, last_state, next_of}
-use Rattle.swarm_model.specs.Effects.{opening, moved, task_after, added_tasks, new_row, after}
+use Rattle.swarm_model.specs.Effects.{opening, no_of_task, moved, task_after, added_tasks, new_row, after}
 use Rattle.swarm_model.specs.Entries.{asks, is_deadline, Asked}
 use Rattle.swarm_model.specs.History.{replay, IsCaused, MayFollow, IsDue, IsAnswered}
-use Rattle.swarm_model.specs.Soundness.{AreNumbered, IsSoundTask, IsSound, StaysSound}
+use Rattle.swarm_model.specs.Numbers.{AreNumbered}
+use Rattle.swarm_model.specs.Soundness.{IsSoundTask, IsSound, StaysSound}
 use Rattle.swarm_model.proofs.Earliest.{IsAhead, ahead_of_due, ahead_of_none}
 use Rattle.swarm_model.proofs.Finds.{Finds, finds, admit_within}
 
@@ -35,13 +36,13 @@ no_after m (kind.Slice t (outcome.Slice place)) x = cond_both (x.no == t) _ x (�
 no_after m (kind.Slice t (outcome.Ended state)) x = cond_both (x.no == t) _ x (λ (y : TaskRow). y.no ≡ x.no) (λ e. refl) (λ e. refl)
 no_after m (kind.New t who request state slice) x = refl
 
-numbered_after : (m : ℕ) (k : EntryKind) (number : ℕ) (xs added : List TaskRow) → AreNumbered number xs → AreNumbered (number + length xs) added →
-    AreNumbered number (map (task_after m k) xs ++ added)
-numbered_after m k number [] added counts more = subst (λ (n : ℕ). AreNumbered n added) (omega arith) more
+numbered_after : (m : ℕ) (k : EntryKind) (number : ℕ) (xs added : List TaskRow) → AreNumbered no_of_task number xs → AreNumbered no_of_task (number + length xs) added →
+    AreNumbered no_of_task number (map (task_after m k) xs ++ added)
+numbered_after m k number [] added counts more = subst (λ (n : ℕ). AreNumbered no_of_task n added) (omega arith) more
 numbered_after m k number (x ∷ xs) added counts more =
-    (no_after m k x ∙ counts.0, numbered_after m k (number + 1) xs added counts.1 (subst (λ (n : ℕ). AreNumbered n added) (omega arith) more))
+    (no_after m k x ∙ counts.0, numbered_after m k (number + 1) xs added counts.1 (subst (λ (n : ℕ). AreNumbered no_of_task n added) (omega arith) more))
 
-numbers_from : (number : ℕ) (xs : List TaskRow) → AreNumbered number xs → All (λ x. number ≤ x.no) xs
+numbers_from : (number : ℕ) (xs : List TaskRow) → AreNumbered no_of_task number xs → All (λ x. number ≤ x.no) xs
 numbers_from number [] counts = All-nil (λ (x : TaskRow). number ≤ x.no)
 numbers_from number (x ∷ xs) counts =
     let rest = numbers_from (number + 1) xs counts.1 in
@@ -49,7 +50,7 @@ numbers_from number (x ∷ xs) counts =
     All-cons (λ (y : TaskRow). number ≤ y.no) x xs (omega (arith, here)) (λ k d low. let r = rest k d low in omega (arith, r))
 
 -- the task of a number is the row that has it
-found : (number : ℕ) (xs : List TaskRow) → AreNumbered number xs → All (λ x. find (is_task x.no) xs ≡ Some x) xs
+found : (number : ℕ) (xs : List TaskRow) → AreNumbered no_of_task number xs → All (λ x. find (is_task x.no) xs ≡ Some x) xs
 found number [] counts = All-nil (λ (x : TaskRow). find (is_task x.no) [] ≡ Some x)
 found number (x ∷ xs) counts =
     let rest = found (number + 1) xs counts.1 in
@@ -140,7 +141,7 @@ module _ (s : PoolState) (m : ℕ) (before : s.last ≤ m) where
         ahead = ahead_from m (new_row m t who request state slice) (omega arith);
       }) (All-nil (IsSoundTask m))
 
-  added_numbered : (k : EntryKind) → Finds s k → AreNumbered (1 + length s.tasks) (added_tasks m k)
+  added_numbered : (k : EntryKind) → Finds s k → AreNumbered no_of_task (1 + length s.tasks) (added_tasks m k)
   added_numbered (kind.Slice t to) has = tt
   added_numbered (kind.New t who request state slice) has = (let next = has.next in omega (arith, next), tt)
 

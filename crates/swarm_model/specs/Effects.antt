@@ -1,5 +1,5 @@
 -- What each entry of the log does to the pool.
-use Rattle.std.specs.Prelude.{ℕ, ◌-◌, ◌==◌, List, [], ◌∷◌, ◌++◌, map, length, Option, Some, None, if◌then◌else◌}
+use Rattle.std.specs.Prelude.{ℕ, ◌-◌, List, [], ◌∷◌, ◌++◌, map, length, Option, Some, None, if◌then◌else◌}
 use Rattle.task_props.specs.declared.new_task.NewTask.{NewTask}
 use Rattle.swarm_model.specs.declared.task_state.TaskState.{TaskState}
 use Rattle.swarm_model.specs.declared.task_state.TaskState.TheVariants.{Pending}
@@ -12,6 +12,7 @@ use Rattle.swarm_model.specs.declared.entry.EntryKind.TheVariants as kind
 use Rattle.swarm_model.specs.declared.entry.Outcome.{Outcome}
 use Rattle.swarm_model.specs.declared.entry.Outcome.TheVariants as outcome
 use Rattle.swarm_model.specs.Finding.{is_state}
+use Rattle.swarm_model.specs.Numbers.{change_at}
 
 -- a pool before its first entry
 abbrev pub opening : PoolSettings → PoolState
@@ -46,13 +47,12 @@ moved moment (outcome.Slice place) task = record task { slice = place; since = m
 moved moment (outcome.Ended state) task =
     record task { state = state; slice = length task.request.task_slices - 1; ended = Some moment }
 
--- a row that is changed where it has the number
-abbrev pub change_at : ℕ → (TaskRow → TaskRow) → TaskRow → TaskRow
-change_at number change task = if task.no == number then change task else task
+abbrev pub no_of_task : TaskRow → ℕ
+no_of_task task = task.no
 
 -- the row of a task after an entry
 abbrev pub task_after : ℕ → EntryKind → TaskRow → TaskRow
-task_after moment (kind.Slice t to) task = change_at t (moved moment to) task
+task_after moment (kind.Slice t to) task = change_at no_of_task t (moved moment to) task
 task_after moment (kind.New t who request state slice) task = task
 
 -- the pool after an entry

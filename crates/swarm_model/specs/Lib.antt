@@ -1,5 +1,6 @@
 pub mod Words
 pub mod Settings
+pub mod Numbers
 pub mod Finding
 pub mod Fits
 pub mod Slices

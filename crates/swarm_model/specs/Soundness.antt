@@ -1,5 +1,5 @@
 -- What holds of every pool that a log leads to.
-use Rattle.std.specs.Prelude.{◌≡◌, ℕ, ◌+◌, ◌^◌, ◌≤◌, ◌<◌, IsTrue, IfSome, List, [], ◌∷◌, length, ⊤}
+use Rattle.std.specs.Prelude.{ℕ, ◌^◌, ◌≤◌, ◌<◌, IsTrue, IfSome, List, length}
 use Rattle.std.specs.List.{All}
 use Rattle.task_props.specs.Checked.{is_checked}
 use Rattle.swarm_model.specs.declared.pool_settings.PoolSettings.{PoolSettings}
@@ -7,13 +7,9 @@ use Rattle.swarm_model.specs.declared.task_row.TaskRow.{TaskRow}
 use Rattle.swarm_model.specs.declared.pool_state.PoolState.{PoolState}
 use Rattle.swarm_model.specs.declared.entry.Entry.{Entry}
 use Rattle.swarm_model.specs.Deadlines.{slice_end}
-use Rattle.swarm_model.specs.Effects.{opening}
+use Rattle.swarm_model.specs.Numbers.{AreNumbered}
+use Rattle.swarm_model.specs.Effects.{opening, no_of_task}
 use Rattle.swarm_model.specs.History.{replay, IsCaused}
-
--- the tasks have the numbers from this one on
-abbrev pub AreNumbered : ℕ → List TaskRow → Type 0
-AreNumbered number [] = ⊤
-AreNumbered number (task ∷ tasks) = (task.no ≡ number) × AreNumbered (number + 1) tasks
 
 -- a row holds a checked request and a place of its slices; what began lies behind the last moment,
 -- and what is to end does not
@@ -25,7 +21,7 @@ pub record IsSoundTask (last : ℕ) (task : TaskRow) : Type 0 where
 
 pub record IsSound (s : PoolState) : Type 0 where
   pub last : s.last ≤ 2 ^ 40
-  pub numbered : AreNumbered 1 s.tasks
+  pub numbered : AreNumbered no_of_task 1 s.tasks
   pub tasks : All (IsSoundTask s.last) s.tasks
 
 -- each entry keeps a pool sound

@@ -6,6 +6,7 @@
 //! neither the table nor its proof. The crate stands on `swarm_model`.
 #![tactic(auto)]
 
+mod admitting;
 mod look_ups;
 mod new_tasks;
 mod reading;

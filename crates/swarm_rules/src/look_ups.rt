@@ -2,9 +2,13 @@ ghost use Rattle.std.specs.Prelude.{◌≡◌, length};
 ghost use Rattle.std.specs.List.{count_by};
 ghost use Rattle.std.specs.Option.{option_copied};
 ghost use Rattle.swarm_model.specs.Finding.{task_of, is_wanted};
+ghost use Rattle.swarm_model.specs.Slices.{capable};
+ghost use Rattle.swarm_model.specs.Deadlines.{next_deadline};
+ghost use Rattle.swarm_model.specs.Soundness.{IsSound};
 
+use dimensions::DimSet;
 use std::sync::ledger::Ledger;
-use swarm_model::{PoolSettings, Steps, TaskRow, TaskState};
+use swarm_model::{Deadline, PoolSettings, Steps, TaskRow, TaskState};
 
 /// What the rules ask of a pool's rows.
 pub trait LookUps {
@@ -12,6 +16,10 @@ pub trait LookUps {
 
     /// The state that the rows stand for.
     ghost state: { Self → PoolState };
+
+    /// The rows are those that a log leads to. It only tells.
+    fn sound(&self)
+        ensures { IsSound (state self.now) };
 
     fn settings(&self) -> &PoolSettings
         ensures { result.now ≡ (state self.now).settings };
@@ -25,4 +33,12 @@ pub trait LookUps {
 
     fn task_of<L: Ledger>(&self, number: u32, steps: &mut Steps<L>) -> Option<&TaskRow>
         ensures { option_copied result ≡ task_of (state self.now) number };
+
+    /// Whether a bot that may take work, busy or not, has these dimensions.
+    fn capable(&self, dims: &DimSet) -> bool
+        ensures { result ≡ capable (state self.now) dims.now };
+
+    /// The earliest of all deadlines.
+    fn next_deadline(&self) -> Option<Deadline>
+        ensures { result ≡ next_deadline (state self.now) };
 }

@@ -1,8 +1,9 @@
-ghost use Rattle.std.specs.Prelude.{◌≡◌, ◌+◌, ◌<◌, ◌^◌, length, nat_le, IfOk};
+ghost use Rattle.std.specs.Prelude.{◌≡◌, ◌+◌, ◌<◌, ◌≤◌, ◌^◌, length, nat_le, IfOk};
 ghost use Rattle.dimensions.specs.Choosing.{when};
-ghost use Rattle.swarm_model.specs.Answers.{new_task, accepted, tasks_full};
+ghost use Rattle.swarm_model.specs.Answers.{new_task, begins, accepted, tasks_full};
 
 use crate::LookUps;
+use crate::admitting::admit;
 use dimensions::{Text, TryCopy};
 use std::alloc::{AllocError, Global};
 use swarm_model::{EntryKind, Reply, Rule, TaskState, Told};
@@ -23,32 +24,52 @@ fn full_told<P: LookUps>(pool: &P) -> Option<Told>
     }
 }
 
-fn accepted<P: LookUps>(
+/// The next task, in this state and at this slice.
+fn begins<P: LookUps>(
     alloc: Global,
     pool: &P,
     who: &Text,
     request: &NewTask,
+    state: TaskState,
+    slice: u32,
 ) -> Result<Told, AllocError>
     requires { length (P.state pool.now).tasks < (P.state pool.now).settings.most_tasks }
-    ensures { IfOk result (λ told. told ≡ accepted (P.state pool.now) who.now request.now) }
+    ensures { IfOk result (λ told. told ≡ begins (P.state pool.now) who.now request.now state slice) }
 {
     let _most = pool.settings().most_tasks;
     let task = pool.task_count() as u32 + 1;
     let who = who.try_copy(alloc)?;
     let request = request.try_copy(alloc)?;
     Ok(Told {
-        reply: Reply::New {
-            task,
-            state: TaskState::Pending,
-        },
+        reply: Reply::New { task, state },
         adds: Some(EntryKind::New {
             t: task,
             who,
             request,
-            state: TaskState::Pending,
-            slice: 0,
+            state,
+            slice,
         }),
     })
+}
+
+fn accepted<P: LookUps>(
+    alloc: Global,
+    pool: &P,
+    who: &Text,
+    request: &NewTask,
+) -> Result<Told, AllocError>
+    requires room { length (P.state pool.now).tasks < (P.state pool.now).settings.most_tasks }
+    requires few { length request.now.task_slices ≤ 8 }
+    ensures { IfOk result (λ told. told ≡ accepted (P.state pool.now) who.now request.now) }
+{
+    let slices = request.task_slices.as_slice();
+    match admit(pool, slices, 0) {
+        Some(place) => begins(alloc, pool, who, request, TaskState::Pending, place as u32),
+        None => {
+            let last = slices.len().saturating_sub(1) as u32;
+            begins(alloc, pool, who, request, TaskState::NoResource, last)
+        }
+    }
 }
 
 /// What a caller is told who asks for a new task.
@@ -58,6 +79,7 @@ pub fn new_task<P: LookUps>(
     who: &Text,
     request: &NewTask,
 ) -> Result<Told, AllocError>
+    requires { length request.now.task_slices ≤ 8 }
     ensures { IfOk result (λ told. told ≡ new_task (P.state pool.now) who.now request.now) }
 {
     if let Some(told) = full_told(pool) {

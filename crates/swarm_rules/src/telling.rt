@@ -1,4 +1,5 @@
-ghost use Rattle.std.specs.Prelude.{◌≡◌, IfOk};
+ghost use Rattle.std.specs.Prelude.{◌≡◌, IfOk, IsTrue};
+ghost use Rattle.swarm_model.specs.Fits.{fits};
 ghost use Rattle.swarm_model.specs.Answers.{tell};
 
 use crate::LookUps;
@@ -18,6 +19,7 @@ pub fn tell<P: LookUps, L: Ledger>(
     request: &Request,
     steps: &mut Steps<L>,
 ) -> Result<Told, AllocError>
+    requires { IsTrue (fits (P.state pool.now).settings request.now) }
     ensures { IfOk result (λ told. told ≡ tell (P.state pool.now) who.now moment request.now) }
 {
     match request {
