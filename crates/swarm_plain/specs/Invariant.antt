@@ -1,7 +1,7 @@
 -- What a list pool keeps, and what holds of it.
-use Rattle.std.specs.Prelude.{◌≡◌, ℕ, ◌<◌, [], ◌∷◌, IsTrue, IfSome, vec_len, vec_capacity}
+use Rattle.std.specs.Prelude.{◌≡◌, ℕ, ◌<◌, [], IsTrue, IfSome, vec_len, vec_capacity}
 use Rattle.std.specs.List.{sum_by}
-use Rattle.std.specs.Option.{option_map}
+use Rattle.std.specs.Option.{option_map, option_to_list}
 use Rattle.swarm_model.specs.Settings.{keeps_rules}
 use Rattle.swarm_model.specs.Effects.{opening, added_tasks}
 use Rattle.swarm_model.specs.Entries.{weight}
@@ -14,7 +14,7 @@ use Rattle.swarm_plain.specs.Inside.{state_of}
 
 -- what lies ready is what the entry does, and each list has room for one more
 pub record IsReady (rows : Rows) (log_size log_room : ℕ) (ready : Ready) : Type 0 where
-  pub adds : added_tasks ready.entry.moment ready.entry.kind ≡ ready.task ∷ []
+  pub adds : added_tasks ready.entry.moment ready.entry.kind ≡ option_to_list ready.task
   pub weighs : ready.weight ≡ weight ready.entry
   pub tasks : vec_len rows.tasks < vec_capacity rows.tasks
   pub log : log_size < log_room

@@ -5,6 +5,7 @@
 //! every faster machine is held against.
 #![tactic(auto)]
 
+mod deadlines;
 mod list_pool;
 mod rows;
 mod scans;

@@ -1,30 +1,31 @@
 ghost use Rattle.std.specs.Prelude.{◌≡◌, ◌≤◌, ◌<◌, ◌+◌, ◌++◌, ◌∷◌, [], length, vec_len, vec_capacity, IfOk};
-ghost use Rattle.std.specs.Option.{option_map};
+ghost use Rattle.std.specs.Option.{option_map, option_to_list};
 ghost use Rattle.swarm_model.specs.Answers.{entry_at};
 ghost use Rattle.swarm_model.specs.Effects.{new_row, end_at, added_tasks};
 ghost use Rattle.swarm_plain.specs.Inside.{MakesReady};
 
-use crate::rows::Rows;
+use crate::deadlines::next_slice_end;
+use crate::rows::{Rows, push};
 use crate::scans;
 use content_store::Filled;
-use dimensions::{Text, TryCopy};
+use dimensions::{DimSet, Text, TryCopy};
 use sha2::{Digest as Hash, Sha256};
 use std::alloc::{AllocError, Global};
 use std::marker::Model;
 use std::mem;
 use std::sync::ledger::Ledger;
 use swarm_model::{
-    Answer, BlobRow, BotRow, Entry, EntryKind, Machine, PoolSettings, Request, ReserveFault, Steps,
+    Answer, BlobRow, BotRow, Deadline, Entry, EntryKind, Machine, PoolSettings, Request, ReserveFault, Steps,
     TaskRow, TaskState, Told, weight,
 };
 use swarm_rules::{LookUps, due_entry, tell};
 use task_props::{Digest, NewTask};
 
-/// What lies ready for an entry: its copy, the row that it adds, and its weight.
+/// What lies ready for an entry: its copy, the row that it adds, if any, and its weight.
 #[derive(Drop)]
 pub(crate) struct Ready {
     pub entry: Entry,
-    pub task: TaskRow,
+    pub task: Option<TaskRow>,
     pub weight: u64,
 }
 
@@ -60,13 +61,36 @@ fn entry_of(moment: u64, pass: u32, adds: Option<EntryKind>) -> Option<Entry>
     }
 }
 
-fn push<T: Drop>(rows: &mut Vec<T>, row: T)
-    requires { vec_len rows.old < vec_capacity rows.old }
-    ensures { rows.new.items ≡ rows.old.items ++ row ∷ [] }
-{
-    match rows.push(row) {
-        Ok(()) => {}
-        Err(_) => unreachable!(),
+impl LookUps for ListPool {
+    ghost state = { λ p. p.pool };
+
+    fn sound(&self) {
+        let _rows = &self.rows;
+    }
+
+    fn settings(&self) -> &PoolSettings {
+        &self.rows.settings
+    }
+
+    fn task_count(&self) -> usize {
+        self.rows.tasks.len()
+    }
+
+    fn count(&self, wanted: Option<TaskState>) -> u64 {
+        scans::count_wanted(self.rows.tasks.as_slice(), wanted)
+    }
+
+    fn task_of<L: Ledger>(&self, number: u32, steps: &mut Steps<L>) -> Option<&TaskRow> {
+        steps.tick();
+        scans::task_of(self.rows.tasks.as_slice(), number)
+    }
+
+    fn capable(&self, dims: &DimSet) -> bool {
+        scans::capable(self.rows.bots.as_slice(), dims)
+    }
+
+    fn next_deadline(&self) -> Option<Deadline> {
+        next_slice_end(self.rows.tasks.as_slice())
     }
 }
 
@@ -82,6 +106,7 @@ impl Machine for ListPool {
                 settings,
                 last: 0,
                 tasks: Vec::new(alloc),
+                bots: Vec::new(alloc),
             },
             log: Vec::new(alloc),
             weight: 0,
@@ -90,7 +115,7 @@ impl Machine for ListPool {
     }
 
     fn due<L: Ledger>(&self, moment: u64, pass: u32, steps: &mut Steps<L>) -> Option<Entry> {
-        due_entry(&self.rows, moment, pass, steps)
+        due_entry(self, moment, pass, steps)
     }
 
     fn answer<L: Ledger>(
@@ -101,7 +126,7 @@ impl Machine for ListPool {
         request: &Request,
         steps: &mut Steps<L>,
     ) -> Result<Answer, AllocError> {
-        let Told { reply, adds } = tell(self.alloc, &self.rows, who, moment, request, steps)?;
+        let Told { reply, adds } = tell(self.alloc, self, who, moment, request, steps)?;
         Ok(Answer {
             reply,
             entry: entry_of(moment, pass, adds),
@@ -138,8 +163,7 @@ impl Machine for ListPool {
                     weight,
                 } = ready;
                 drop(copy);
-                self.rows.last = entry.moment;
-                push(&mut self.rows.tasks, task);
+                self.rows.apply(&entry, task);
                 let _most = self.rows.settings.most_weight;
                 self.weight += weight;
                 push(&mut self.log, entry);
@@ -190,7 +214,7 @@ impl Machine for ListPool {
     }
 
     fn task<L: Ledger>(&self, no: u32, steps: &mut Steps<L>) -> Option<&TaskRow> {
-        self.rows.task_of(no, steps)
+        self.task_of(no, steps)
     }
 
     fn bot(&self, _no: u32) -> Option<&BotRow> {
@@ -234,17 +258,26 @@ fn end_at(state: TaskState, moment: u64) -> Option<u64>
     }
 }
 
-fn added_task(alloc: Global, entry: &Entry) -> Result<TaskRow, AllocError>
-    ensures { IfOk result (λ row. added_tasks entry.now.moment entry.now.kind ≡ row ∷ []) }
+fn added_task(alloc: Global, entry: &Entry) -> Result<Option<TaskRow>, AllocError>
+    ensures { IfOk result (λ row. added_tasks entry.now.moment entry.now.kind ≡ option_to_list row) }
 {
     match &entry.kind {
+        EntryKind::Slice { .. } => Ok(None),
         EntryKind::New {
             t,
             who,
             request,
             state,
             slice,
-        } => new_row(alloc, entry.moment, *t, who, request, *state, *slice),
+        } => Ok(Some(new_row(
+            alloc,
+            entry.moment,
+            *t,
+            who,
+            request,
+            *state,
+            *slice,
+        )?)),
     }
 }
 

@@ -1,10 +1,12 @@
 ghost use Rattle.std.specs.Prelude.{◌≡◌, map};
 ghost use Rattle.swarm_model.specs.History.{states};
-ghost use Rattle.std.specs.List.{find, count_by};
+ghost use Rattle.std.specs.List.{find, count_by, list_any};
 ghost use Rattle.std.specs.Option.{option_copied};
 ghost use Rattle.swarm_model.specs.Finding.{place_of, is_task, has_state, is_wanted};
+ghost use Rattle.swarm_model.specs.Slices.{is_fit, could_run};
 
-use swarm_model::{TaskRow, TaskState};
+use dimensions::DimSet;
+use swarm_model::{BotRow, TaskRow, TaskState};
 
 fn is_task(number: u32, task: &TaskRow) -> bool
     ensures { result ≡ is_task number task.now }
@@ -35,7 +37,7 @@ fn place_of(state: TaskState) -> u8
     }
 }
 
-fn has_state(state: TaskState, task: &TaskRow) -> bool
+pub(crate) fn has_state(state: TaskState, task: &TaskRow) -> bool
     ensures { result ≡ has_state state task.now }
 {
     place_of(task.state) == place_of(state)
@@ -79,4 +81,24 @@ pub(crate) fn tally(tasks: &[TaskRow]) -> [u64; 9]
         count_in(tasks, TaskState::Killed),
         count_in(tasks, TaskState::NoResource),
     ]
+}
+
+/// Whether the bot may take work, now or once it is done with what it runs.
+fn is_fit(bot: &BotRow) -> bool
+    ensures { result ≡ is_fit bot.now }
+{
+    !bot.dead && bot.quarantined.as_str().is_empty() && !bot.terminating
+}
+
+fn could_run(dims: &DimSet, bot: &BotRow) -> bool
+    ensures { result ≡ could_run dims.now bot.now }
+{
+    is_fit(bot) && dims.matches(&bot.dims)
+}
+
+/// Whether some fit bot, busy or not, has the dimensions.
+pub(crate) fn capable(bots: &[BotRow], dims: &DimSet) -> bool
+    ensures { result ≡ list_any (could_run dims.now) bots.now }
+{
+    bots.iter().any(|bot| could_run(dims, bot))
 }
