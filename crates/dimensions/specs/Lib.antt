@@ -1,5 +1,5 @@
 pub mod Alike
-pub mod Matching
 pub mod Choosing
+pub mod Matching
 pub mod Order
 pub mod Rules

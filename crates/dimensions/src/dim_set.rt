@@ -1,9 +1,10 @@
 ghost use Rattle.std.specs.Prelude.{◌≡◌, ◌∷◌, IfOk, IfSome, IfNone, IsOkUnless, IsSorted, IsPermutation, true};
+ghost use Rattle.dimensions.specs.Matching.{matches};
 ghost use Rattle.dimensions.specs.Order.{pair_cmp, sorted_pairs};
 ghost use Rattle.dimensions.specs.Rules.{first_broken, are_checked, pool_of};
 
 use crate::try_copy::copy_all;
-use crate::{DimFault, DimRule, Seq, Text, TryCopy, pair_rules};
+use crate::{BotDims, DimFault, DimRule, Seq, Text, TryCopy, matching, pair_rules};
 use std::alloc::{AllocError, Global};
 use std::marker::Model;
 
@@ -57,6 +58,15 @@ impl DimSet {
         ensures { result ≡ are_checked self.now }
     {
         DimSet::broken(self.pairs()).is_none() && pair_rules::is_rising(self.pairs())
+    }
+
+    /// Whether a bot of these dimensions may run the task: it has what every pair asks for.
+    pub fn matches(&self, bot: &BotDims) -> bool
+        ensures { result ≡ matches bot.now self.now }
+    {
+        self.pairs()
+            .iter()
+            .all(|pair| matching::holds(bot.pairs(), pair))
     }
 
     /// The value of the key `pool`, or the empty text where there is none.

@@ -10,6 +10,7 @@ mod bot_dims;
 mod dim_fault;
 mod dim_set;
 pub mod examples;
+mod matching;
 mod pair_rules;
 mod seq;
 mod text;

@@ -60,7 +60,7 @@ fn is_spaced(text: &[u8]) -> bool
 }
 
 /// Whether a byte parts two alternatives.
-fn is_bar(byte: u8) -> bool
+pub(crate) fn is_bar(byte: u8) -> bool
     ensures { result ≡ is_bar byte }
 {
     byte == b'|'
