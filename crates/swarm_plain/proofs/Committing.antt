@@ -4,8 +4,7 @@ use Rattle.std.specs.Prelude.{IfSome}
 use Rattle.std.specs.Option.{option_map}
 use Rattle.swarm_model.specs.declared.entry.Entry.{Entry}
 use Rattle.swarm_model.specs.declared.pool_state.PoolState.{PoolState}
-use Rattle.swarm_model.specs.declared.task_row.TaskRow.{TaskRow}
-use Rattle.swarm_model.specs.Effects.{after, added_tasks}
+use Rattle.swarm_model.specs.Effects.{after}
 use Rattle.swarm_model.specs.History.{replay}
 use Rattle.swarm_plain.specs.declared.list_pool.Ready.{Ready}
 
@@ -20,9 +19,6 @@ replay_push : (s : PoolState) (log : List Entry) (entry : Entry) → replay s (l
 replay_push s [] entry = refl
 replay_push s (e ∷ log) entry = replay_push (after s e) log entry
 
-pub replayed_more : (s old : PoolState) (log more : List Entry) (entry : Entry) (row : TaskRow) (tasks : List TaskRow)
-    → old ≡ replay s log → more ≡ log ++ entry ∷ [] → added_tasks entry.moment entry.kind ≡ row ∷ [] → tasks ≡ old.tasks ++ row ∷ []
-    → record old { last = entry.moment; tasks = tasks } ≡ replay s more
-replayed_more s old log more entry row tasks is grown adds pushed =
-    ap (λ (t : List TaskRow). record old { last = entry.moment; tasks = t }) (pushed ∙ ap (λ (a : List TaskRow). old.tasks ++ a) (sym adds))
-    ∙ ap (λ (o : PoolState). after o entry) is ∙ sym (replay_push s log entry) ∙ ap (replay s) (sym grown)
+pub replayed_more : (s old new : PoolState) (log more : List Entry) (entry : Entry) → old ≡ replay s log → more ≡ log ++ entry ∷ [] → new ≡ after old entry → new ≡ replay s more
+replayed_more s old new log more entry is grown changed =
+    changed ∙ ap (λ (o : PoolState). after o entry) is ∙ sym (replay_push s log entry) ∙ ap (replay s) (sym grown)

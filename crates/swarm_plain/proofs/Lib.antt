@@ -1,3 +1,4 @@
 pub mod Legality
 pub mod Committing
 mod Folding
+mod Holding

@@ -15,8 +15,8 @@ use std::marker::Model;
 use std::mem;
 use std::sync::ledger::Ledger;
 use swarm_model::{
-    Answer, BlobRow, BotRow, Deadline, Entry, EntryKind, Machine, PoolSettings, Request, ReserveFault, Steps,
-    TaskRow, TaskState, Told, weight,
+    Answer, BlobRow, BotRow, Deadline, Entry, EntryKind, Machine, PoolSettings, Request,
+    ReserveFault, Steps, TaskRow, TaskState, Told, weight,
 };
 use swarm_rules::{LookUps, due_entry, tell};
 use task_props::{Digest, NewTask};
@@ -217,9 +217,8 @@ impl Machine for ListPool {
         self.task_of(no, steps)
     }
 
-    fn bot(&self, _no: u32) -> Option<&BotRow> {
-        let _rows = &self.rows;
-        None
+    fn bot(&self, no: u32) -> Option<&BotRow> {
+        scans::bot_of(self.rows.bots.as_slice(), no)
     }
 }
 
@@ -269,15 +268,7 @@ fn added_task(alloc: Global, entry: &Entry) -> Result<Option<TaskRow>, AllocErro
             request,
             state,
             slice,
-        } => Ok(Some(new_row(
-            alloc,
-            entry.moment,
-            *t,
-            who,
-            request,
-            *state,
-            *slice,
-        )?)),
+        } => Ok(Some(new_row(alloc, entry.moment, *t, who, request, *state, *slice)?)),
     }
 }
 

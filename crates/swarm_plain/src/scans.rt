@@ -2,7 +2,7 @@ ghost use Rattle.std.specs.Prelude.{◌≡◌, map};
 ghost use Rattle.swarm_model.specs.History.{states};
 ghost use Rattle.std.specs.List.{find, count_by, list_any};
 ghost use Rattle.std.specs.Option.{option_copied};
-ghost use Rattle.swarm_model.specs.Finding.{place_of, is_task, has_state, is_wanted};
+ghost use Rattle.swarm_model.specs.Finding.{place_of, is_task, is_bot, has_state, is_wanted};
 ghost use Rattle.swarm_model.specs.Slices.{is_fit, could_run};
 
 use dimensions::DimSet;
@@ -94,6 +94,19 @@ fn could_run(dims: &DimSet, bot: &BotRow) -> bool
     ensures { result ≡ could_run dims.now bot.now }
 {
     is_fit(bot) && dims.matches(&bot.dims)
+}
+
+fn is_bot(number: u32, bot: &BotRow) -> bool
+    ensures { result ≡ is_bot number bot.now }
+{
+    bot.no == number
+}
+
+/// The row of the bot of this number.
+pub(crate) fn bot_of(bots: &[BotRow], number: u32) -> Option<&BotRow>
+    ensures { option_copied result ≡ find (is_bot number) bots.now }
+{
+    bots.iter().find(|bot| is_bot(number, bot))
 }
 
 /// Whether some fit bot, busy or not, has the dimensions.

@@ -1,22 +1,23 @@
 -- The log goes on by an entry that may follow it, and the rows by what it does.
-use Rattle.std.proofs.Common.{◌∷◌, [], arith, sym, ap, ◌∙◌, vec_len, vec_capacity}
-use Rattle.swarm_model.specs.Effects.{opening}
-use Rattle.swarm_model.specs.Entries.{weight}
-use Rattle.swarm_plain.specs.Inside.{state_of}
-use Rattle.swarm_plain.specs.Invariant.{IsReady}
+use Rattle.std.proofs.Common.{◌≡◌, ◌∷◌, [], arith, sym, ap, ◌∙◌, subst, vec_len, vec_capacity}
 use Rattle.std.specs.List.{sum_by}
 use Rattle.std.proofs.lemmas.List.Sums.{sum_by-append}
+use Rattle.swarm_model.specs.Effects.{opening}
+use Rattle.swarm_model.specs.declared.pool_settings.PoolSettings.{PoolSettings}
+use Rattle.swarm_model.specs.Entries.{weight}
+use Rattle.swarm_model.specs.History.{replay}
+use Rattle.swarm_plain.specs.Inside.{state_of}
+use Rattle.swarm_plain.specs.Invariant.{IsReady}
 use Rattle.swarm_plain.proofs.Legality.{rooms, legal_more}
 use Rattle.swarm_plain.proofs.Committing.{ready_is, of_ready, replayed_more}
+use Rattle.swarm_plain.proofs.Holding.{kept_sound, all_few}
 use Rattle.swarm_plain.proofs.list_pool.ListPoolMachine.commit.Goals as goal
 
-pub overflow_add-self : goal.overflow_add-self
-overflow_add-self c =
-    let is = sym c.take.ensures.value ∙ c.in-Some.is in
-    let same = ready_is c.self.inside.ready c.in-Some.ready c.args.entry is (ap (λ k. k.ready) c.self.view_is ∙ c.requires.ready) in
-    let made = of_ready (IsReady c.self.inside.rows (vec_len c.self.inside.log) (vec_capacity c.self.inside.log)) c.self.inside.ready c.in-Some.ready is c.self.invariant.prepared in
-    let room = rooms c.self.inside.rows.settings c.self.inside.log.items c.args.entry (rw (← c.self.view_is) at c.requires.room) in
-    omega (arith, room.light, made.weighs, ap weight same, c.self.invariant.weighs)
+pub apply-requires-clause-numbered : goal.apply-requires-clause-numbered
+apply-requires-clause-numbered c = (kept_sound c.self.inside c.self.invariant).numbered
+
+pub apply-requires-clause-few : goal.apply-requires-clause-few
+apply-requires-clause-few c = all_few (state_of c.self.inside.rows) (kept_sound c.self.inside c.self.invariant)
 
 pub invariant_of-self : goal.invariant_of-self
 invariant_of-self c =
@@ -25,11 +26,13 @@ invariant_of-self c =
     let made = of_ready (IsReady c.self.inside.rows (vec_len c.self.inside.log) (vec_capacity c.self.inside.log)) c.self.inside.ready c.in-Some.ready is c.self.invariant.prepared in
     let room = rooms c.self.inside.rows.settings c.self.inside.log.items c.args.entry (rw (← c.self.view_is) at c.requires.room) in
     let follows = rw c.self.invariant.replayed at (rw (← c.self.view_is) at c.requires.follows) in
+    let settings = c.apply.ensures.settings in
     record {
-      rules = c.self.invariant.rules;
-      replayed = replayed_more (opening c.self.inside.rows.settings) (state_of c.self.inside.rows) c.self.inside.log.items c.push-in-Some.new.rows.items c.args.entry c.in-Some.ready.task c.push.new.rows.items
-          c.self.invariant.replayed c.push-in-Some.ensures (rw same at made.adds) c.push.ensures;
-      legal = rw c.push-in-Some.ensures (legal_more (opening c.self.inside.rows.settings) c.self.inside.log.items c.args.entry c.self.invariant.legal follows room);
-      weighs = omega (arith, sum_by-append weight c.self.inside.log.items (c.args.entry ∷ []), ap (sum_by weight) c.push-in-Some.ensures, made.weighs, ap weight same, c.self.invariant.weighs);
+      rules = rw settings c.self.invariant.rules;
+      replayed = subst (λ (p : PoolSettings). state_of c.apply.new.self ≡ replay (opening p) c.push.new.rows.items) (sym settings)
+          (replayed_more (opening c.self.inside.rows.settings) (state_of c.self.inside.rows) (state_of c.apply.new.self) c.self.inside.log.items c.push.new.rows.items c.args.entry
+          c.self.invariant.replayed c.push.ensures c.apply.ensures.state);
+      legal = rw (settings, c.push.ensures) (legal_more (opening c.self.inside.rows.settings) c.self.inside.log.items c.args.entry c.self.invariant.legal follows room);
+      weighs = omega (arith, sum_by-append weight c.self.inside.log.items (c.args.entry ∷ []), ap (sum_by weight) c.push.ensures, made.weighs, ap weight same, c.self.invariant.weighs);
       prepared = rw c.take.ensures.after tt;
     }

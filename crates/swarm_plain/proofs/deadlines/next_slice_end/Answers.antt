@@ -1,0 +1,10 @@
+-- One task more is looked at.
+use Rattle.std.proofs.Common.{None}
+use Rattle.swarm_model.specs.Deadlines.{sooner, slice_end}
+use Rattle.swarm_plain.proofs.Folding.{fold-filter_map_more}
+use Rattle.swarm_plain.proofs.deadlines.next_slice_end.Goals as goal
+
+pub loop-task-preserved : goal.loop-task-preserved
+loop-task-preserved c =
+    let step = fold-filter_map_more sooner slice_end None c.args.tasks.now c.loop-task.task-index c.task-item.result c.loop-task-test.true c.task-item.is in
+    rw (step, ← c.slice_end.ensures, ← c.loop-task.invariant) c.sooner_of-soonest.ensures
