@@ -3,13 +3,11 @@ use Rattle.std.proofs.Common.{◌≡◌, ℕ, ◌+◌, ◌≤◌, List, [], ◌�
 use Rattle.std.specs.Prelude.{◌||◌}
 use Rattle.std.specs.List.{count_by, list_any}
 use Rattle.std.proofs.lemmas.List.{append-nil, append_assoc}
-use Rattle.std.proofs.lemmas.List.Sums.{sum_by-append, sum_by-cons}
+use Rattle.std.proofs.lemmas.List.Sums.{sum_by-append}
 use Rattle.dimensions.specs.declared.dim_fault.DimRule.{DimRule}
 use Rattle.dimensions.proofs.Choosing.{none-first, none-other, option_map-none}
+use Rattle.dimensions.proofs.Tests.{count-cons, or-first, or-other}
 use Rattle.dimensions.specs.Rules.{first_at, at_place}
-
-pub count-cons : {X : Type 0} (k : X → Bool) (x : X) (xs : List X) → count_by k (x ∷ xs) ≡ cond (k x) 1 0 + count_by k xs
-count-cons k x xs = sum_by-cons (λ y. cond (k y) 1 0) x xs
 
 none_of : (t u : Bool) (m n : ℕ) → m ≡ cond t 1 0 + n → (t || u) ≡ false → (u ≡ false → n ≡ 0) → m ≡ 0
 none_of true u m n e h f = absurd (cc)
@@ -46,17 +44,9 @@ own_only false u m n o p e h few own f = absurd (cc)
 pub any-before : {X : Type 0} (k : X → Bool) (xs : List X) (x : X) (ys : List X) → k x ≡ true → count_by k (xs ++ x ∷ ys) ≤ 1 → list_any k xs ≡ false
 any-before k xs x ys own few = own_only (k x) (list_any k xs) _ _ _ _ (count-append k xs (x ∷ ys)) (count-cons k x ys) few own (any-none k xs)
 
-pub or-first : (t u : Bool) → (t || u) ≡ false → t ≡ false
-or-first true u h = absurd (cc)
-or-first false u h = refl
-
-pub or-other : (t u : Bool) → (t || u) ≡ false → u ≡ false
-or-other true u h = absurd (cc)
-or-other false u h = h
-
-module _ (rule_of : List (List ℕ × List ℕ) → List ℕ × List ℕ → Option DimRule) where
+module _ {X : Type 0} (rule_of : List X → X → Option DimRule) where
   -- where a rule forbids a second one that passes, at most one passes
-  pub count-le_one : (k : List ℕ × List ℕ → Bool) → ((earlier : List (List ℕ × List ℕ)) (pair : List ℕ × List ℕ) → rule_of earlier pair ≡ None → k pair ≡ true → list_any k earlier ≡ false) → (earlier pairs : List (List ℕ × List ℕ)) → count_by k earlier ≤ 1 → first_at rule_of earlier pairs ≡ None → count_by k (earlier ++ pairs) ≤ 1
+  pub count-le_one : (k : X → Bool) → ((earlier : List X) (pair : X) → rule_of earlier pair ≡ None → k pair ≡ true → list_any k earlier ≡ false) → (earlier pairs : List X) → count_by k earlier ≤ 1 → first_at rule_of earlier pairs ≡ None → count_by k (earlier ++ pairs) ≤ 1
   count-le_one k forbids earlier [] few none = rw append-nil few
   count-le_one k forbids earlier (pair ∷ pairs) few none =
       let here : rule_of earlier pair ≡ None = option_map-none (at_place (length earlier)) (rule_of earlier pair) (none-first _ _ none) in
@@ -64,14 +54,14 @@ module _ (rule_of : List (List ℕ × List ℕ) → List ℕ × List ℕ → Opt
       rw append_assoc at (count-le_one k forbids (earlier ++ pair ∷ []) pairs next (none-other _ _ none))
 
   -- where a rule forbids what passes, none passes
-  pub list_any-forbidden : (k : List ℕ × List ℕ → Bool) → ((earlier : List (List ℕ × List ℕ)) (pair : List ℕ × List ℕ) → rule_of earlier pair ≡ None → k pair ≡ false) → (earlier pairs : List (List ℕ × List ℕ)) → first_at rule_of earlier pairs ≡ None → list_any k pairs ≡ false
+  pub list_any-forbidden : (k : X → Bool) → ((earlier : List X) (pair : X) → rule_of earlier pair ≡ None → k pair ≡ false) → (earlier pairs : List X) → first_at rule_of earlier pairs ≡ None → list_any k pairs ≡ false
   list_any-forbidden k forbids earlier [] none = refl
   list_any-forbidden k forbids earlier (pair ∷ pairs) none =
       let here : rule_of earlier pair ≡ None = option_map-none (at_place (length earlier)) (rule_of earlier pair) (none-first _ _ none) in
       rw (forbids earlier pair here) (list_any-forbidden k forbids (earlier ++ pair ∷ []) pairs (none-other _ _ none))
 
   -- where no pair is forbidden by itself, and none stands a second time, no rule is broken
-  pub first_at-none : (bad : List ℕ × List ℕ → Bool) (k : List ℕ × List ℕ → List ℕ × List ℕ → Bool) → ((earlier : List (List ℕ × List ℕ)) (pair : List ℕ × List ℕ) → bad pair ≡ false → (k pair pair ≡ true → list_any (k pair) earlier ≡ false) → rule_of earlier pair ≡ None) → (earlier pairs : List (List ℕ × List ℕ)) → list_any bad pairs ≡ false → ((q : List ℕ × List ℕ) → count_by (k q) (earlier ++ pairs) ≤ 1) → first_at rule_of earlier pairs ≡ None
+  pub first_at-none : (bad : X → Bool) (k : X → X → Bool) → ((earlier : List X) (pair : X) → bad pair ≡ false → (k pair pair ≡ true → list_any (k pair) earlier ≡ false) → rule_of earlier pair ≡ None) → (earlier pairs : List X) → list_any bad pairs ≡ false → ((q : X) → count_by (k q) (earlier ++ pairs) ≤ 1) → first_at rule_of earlier pairs ≡ None
   first_at-none bad k allows earlier [] fine few = refl
   first_at-none bad k allows earlier (pair ∷ pairs) fine few =
       let here : rule_of earlier pair ≡ None = allows earlier pair (or-first _ _ fine) (λ own. any-before (k pair) earlier pair pairs own (few pair)) in

@@ -1,5 +1,7 @@
 pub mod Choosing
 mod Counting
+mod Orders
 mod Rising
 mod Sorting
+mod Tests
 mod Unbroken

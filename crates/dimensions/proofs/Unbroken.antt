@@ -2,20 +2,30 @@
 use Rattle.std.proofs.Common.{◌≡◌, ℕ, ◌≤◌, List, [], ◌∷◌, length, Bool, true, false, not, cond, Option, None, Some, refl, sym, ◌∙◌, ap, arith}
 use Rattle.std.specs.Prelude.{◌||◌, ◌&&◌, nat_lt, is_none, IsPermutation, IsSorted}
 use Rattle.std.specs.List.{count_by, list_any}
+use Rattle.std.specs.Cmp.{IsEquivalence, on_equiv, and_equiv, both_tied}
+use Rattle.std.specs.Cmp.Lexicographic.{nat_list_eq_equiv, texts_ties}
+use Rattle.std.specs.Ordering.{is_eq}
 use Rattle.std.proofs.lemmas.List.Sorted.{length_permutation, list_any-IsPermutation, sum_by-IsPermutation}
 use Rattle.std.proofs.lemmas.Map.Steps.{list_any_congr}
 use Rattle.dimensions.specs.declared.dim_fault.DimRule.TheVariants as dim_rule
 use Rattle.dimensions.specs.Alike.{same_pair}
-use Rattle.dimensions.specs.Order.{pair_cmp, is_rising, sorted_pairs}
+use Rattle.dimensions.specs.Order.{text_cmp, pair_cmp, is_below, is_rising, sorted_pairs}
 use Rattle.dimensions.specs.Choosing.{when, ◌or_else◌}
 use Rattle.dimensions.specs.Rules.{is_key, is_value, has_empty_alternative, has_bar, is_pool, is_id, pair_rule, pool_rule, id_rule, first_at, first_broken, are_checked}
 use Rattle.dimensions.proofs.Choosing.{when-none, none-first, none-other, none-both}
 use Rattle.dimensions.proofs.Counting.{count-le_one, list_any-forbidden, first_at-none}
-use Rattle.dimensions.proofs.Sorting.{sorted_pairs-is}
-use Rattle.dimensions.proofs.Rising.{pair_equiv, is_rising-sorted}
+use Rattle.dimensions.proofs.Orders.{pair_total}
+use Rattle.dimensions.proofs.Sorting.{sorted_by-rising}
+use Rattle.dimensions.proofs.Rising.{below-by_cmp, rising-IsSortedBy}
 
 abbrev Pair : Type 0
 Pair = List ℕ × List ℕ
+
+pair_equiv : IsEquivalence same_pair
+pair_equiv = and_equiv (on_equiv (λ (p : Pair). p.0) nat_list_eq_equiv) (on_equiv (λ (p : Pair). p.1) nat_list_eq_equiv)
+
+same_pair-tied : (a b : Pair) → same_pair a b ≡ is_eq (pair_cmp a b)
+same_pair-tied a b = both_tied _ _ (text_cmp a.0 b.0) (text_cmp a.1 b.1) (texts_ties a.0 b.0) (texts_ties a.1 b.1)
 
 -- a pair that breaks a rule by itself
 abbrev is_unfit : Pair → Bool
@@ -134,26 +144,15 @@ sound-IsPermutation xs ys moved s = record {
 pub first_broken-IsPermutation : (xs ys : List Pair) → IsPermutation xs ys → first_broken xs ≡ None → first_broken ys ≡ None
 first_broken-IsPermutation xs ys moved none = none_from ys (sound-IsPermutation xs ys moved (sound_from xs none))
 
-pub apart-from_none : (pairs : List Pair) → first_broken pairs ≡ None → (q : Pair) → count_by (same_pair q) pairs ≤ 1
+apart-from_none : (pairs : List Pair) → first_broken pairs ≡ None → (q : Pair) → count_by (same_pair q) pairs ≤ 1
 apart-from_none pairs none = (sound_from pairs none).apart
 
 -- the sorted pairs of a list in which no rule is broken
 pub are_checked-sorted : (xs ys : List Pair) → first_broken xs ≡ None → IsPermutation xs ys → IsSorted pair_cmp ys → are_checked ys ≡ true
 are_checked-sorted xs ys none moved up =
     let unbroken = first_broken-IsPermutation xs ys moved none in
-    let rises = is_rising-sorted ys up (apart-from_none ys unbroken) in
+    let rises = rising-IsSortedBy is_below same_pair pair_equiv.refl (λ a b h k. below-by_cmp pair_total a b h (sym (same_pair-tied a b) ∙ k)) ys up (apart-from_none ys unbroken) in
     rw unbroken rises
-
--- the sorted pairs are the one way to sort them
-pub sorted_pairs-from : (xs ys : List Pair) → first_broken xs ≡ None → IsPermutation xs ys → IsSorted pair_cmp ys → ys ≡ sorted_pairs xs
-sorted_pairs-from xs ys none moved up =
-    let apart = apart-from_none xs none in
-    let rises = is_rising-sorted ys up (apart-from_none ys (first_broken-IsPermutation xs ys moved none)) in
-    sorted_pairs-is xs ys apart (λ q. count-IsPermutation (same_pair q) xs ys moved) rises
-
-none_of : {A : Type 0} (o : Option A) (t : Bool) → (is_none o && t) ≡ true → o ≡ None
-none_of None t h = refl
-none_of (Some a) t h = absurd (cc)
 
 rises_of : {A : Type 0} (o : Option A) (t : Bool) → (is_none o && t) ≡ true → t ≡ true
 rises_of None t h = h
@@ -161,6 +160,4 @@ rises_of (Some a) t h = absurd (cc)
 
 -- checked pairs are sorted already
 pub sorted_pairs-checked : (pairs : List Pair) → are_checked pairs ≡ true → sorted_pairs pairs ≡ pairs
-sorted_pairs-checked pairs h =
-    let none = none_of (first_broken pairs) (is_rising pairs) h in
-    sym (sorted_pairs-is pairs pairs (apart-from_none pairs none) (λ q. refl) (rises_of (first_broken pairs) (is_rising pairs) h))
+sorted_pairs-checked pairs h = sorted_by-rising is_below pairs (rises_of (first_broken pairs) (is_rising pairs) h)

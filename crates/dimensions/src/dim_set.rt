@@ -3,7 +3,7 @@ ghost use Rattle.dimensions.specs.Matching.{matches};
 ghost use Rattle.dimensions.specs.Order.{pair_cmp, sorted_pairs};
 ghost use Rattle.dimensions.specs.Rules.{first_broken, are_checked, pool_of};
 
-use crate::try_copy::copy_all;
+use crate::try_copy::sorted_copies;
 use crate::{BotDims, DimFault, DimRule, Seq, Text, TryCopy, matching, pair_rules};
 use std::alloc::{AllocError, Global};
 use std::marker::Model;
@@ -89,15 +89,6 @@ impl DimSet {
     {
         self.sorted.as_slice()
     }
-}
-
-fn sorted_copies(alloc: Global, pairs: &[(Text, Text)]) -> Result<Vec<(Text, Text)>, AllocError>
-    ensures sorted { IfOk result (λ copies. IsSorted pair_cmp copies.items) }
-    ensures same { IfOk result (λ copies. IsPermutation pairs.now copies.items) }
-{
-    let mut copies = copy_all(alloc, pairs)?;
-    copies.sort()?;
-    Ok(copies)
 }
 
 impl PartialEq for DimSet {

@@ -7,10 +7,12 @@
 #![tactic(auto)]
 
 mod bot_dims;
+mod bot_rules;
 mod dim_fault;
 mod dim_set;
 pub mod examples;
 mod matching;
+mod pair_rule;
 mod pair_rules;
 mod seq;
 mod text;

@@ -9,19 +9,19 @@ ghost use Rattle.dimensions.specs.Rules.{alternatives};
 use crate::pair_rules::is_bar;
 use crate::{Seq, Text};
 
-fn is_of_key(key: &Text, pair: &(Text, Seq<Text>)) -> bool
+pub(crate) fn is_of_key(key: &str, pair: &(Text, Seq<Text>)) -> bool
     ensures { result ≡ is_of_key key.now pair.now }
 {
-    pair.0 == *key
+    pair.0.as_str() == key
 }
 
-fn pair_of<'a>(bot: &'a [(Text, Seq<Text>)], key: &Text) -> Option<&'a (Text, Seq<Text>)>
+fn pair_of<'a>(bot: &'a [(Text, Seq<Text>)], key: &str) -> Option<&'a (Text, Seq<Text>)>
     ensures { option_copied result ≡ find (is_of_key key.now) bot.now }
 {
     bot.iter().find(|pair| is_of_key(key, pair))
 }
 
-fn values_of<'a>(bot: &'a [(Text, Seq<Text>)], key: &Text) -> &'a [Text]
+fn values_of<'a>(bot: &'a [(Text, Seq<Text>)], key: &str) -> &'a [Text]
     ensures { result.now ≡ values_of bot.now key.now }
 {
     match pair_of(bot, key) {
@@ -36,7 +36,7 @@ fn is_same(text: &[u8], value: &Text) -> bool
     text == value.as_str().as_bytes()
 }
 
-fn has_value(values: &[Text], text: &[u8]) -> bool
+pub(crate) fn has_value(values: &[Text], text: &[u8]) -> bool
     ensures { result ≡ has_value values.now text.now }
 {
     values.iter().any(|value| is_same(text, value))
@@ -53,5 +53,5 @@ fn has_one_of(values: &[Text], value: &[u8]) -> bool
 pub(crate) fn holds(bot: &[(Text, Seq<Text>)], pair: &(Text, Text)) -> bool
     ensures { result ≡ holds bot.now pair.now }
 {
-    has_one_of(values_of(bot, &pair.0), pair.1.as_str().as_bytes())
+    has_one_of(values_of(bot, pair.0.as_str()), pair.1.as_str().as_bytes())
 }

@@ -7,6 +7,7 @@ ghost use Rattle.dimensions.specs.Alike.{same_pair};
 ghost use Rattle.dimensions.specs.Order.{is_rising};
 ghost use Rattle.dimensions.specs.Rules.{pool_of, is_key_byte, begins_with_digit, has_length_to, is_key, is_spaced, is_space, is_empty, is_value, has_empty_alternative, has_bar, is_bar, is_pool, is_id, pair_rule, pool_rule, id_rule, first_at, first_broken, alternatives, at_place};
 
+use crate::pair_rule::{PairRule, first_at};
 use crate::{DimRule, Text};
 
 const MOST_PAIRS: usize = 32;
@@ -26,7 +27,7 @@ fn begins_with_digit(text: &str) -> bool
     }
 }
 
-fn has_length_to(most: usize, text: &str) -> bool
+pub(crate) fn has_length_to(most: usize, text: &str) -> bool
     ensures { result ≡ has_length_to most text.now }
 {
     1 <= text.len() && text.len() <= most
@@ -38,7 +39,7 @@ fn has_key_bytes(key: &str) -> bool
     key.as_bytes().iter().all(|byte| is_key_byte(*byte))
 }
 
-fn is_key(key: &str) -> bool
+pub(crate) fn is_key(key: &str) -> bool
     ensures { result ≡ is_key key.now }
 {
     has_length_to(64, key) && has_key_bytes(key) && !begins_with_digit(key)
@@ -53,7 +54,7 @@ fn is_space(byte: Option<&u8>) -> bool
     }
 }
 
-fn is_spaced(text: &[u8]) -> bool
+pub(crate) fn is_spaced(text: &[u8]) -> bool
     ensures { result ≡ is_spaced text.now }
 {
     is_space(text.first()) || is_space(text.last())
@@ -82,7 +83,7 @@ fn has_empty_alternative(value: &[u8]) -> bool
         .any(|part| part.is_empty())
 }
 
-fn has_control(value: &[u8]) -> bool
+pub(crate) fn has_control(value: &[u8]) -> bool
     ensures { result ≡ list_any is_ascii_control value.now }
 {
     value.iter().any(|byte| byte.is_ascii_control())
@@ -96,7 +97,7 @@ fn is_value(value: &str) -> bool
         && !has_spaced_alternative(value.as_bytes())
 }
 
-fn has_bar(value: &str) -> bool
+pub(crate) fn has_bar(value: &str) -> bool
     ensures { result ≡ has_bar value.now }
 {
     value.as_bytes().iter().any(|byte| is_bar(*byte))
@@ -132,17 +133,6 @@ fn has_id(pairs: &[(Text, Text)]) -> bool
     pairs.iter().any(|pair| is_id(pair))
 }
 
-/// A rule on a pair, and on those that stand before it.
-trait PairRule {
-    ghost use Rattle.std.specs.Prelude.{List, ℕ, Option};
-    ghost use Rattle.dimensions.specs.declared.dim_fault.DimRule.{DimRule};
-
-    ghost rule_of: { List (List ℕ × List ℕ) → List ℕ × List ℕ → Option DimRule };
-
-    fn broken(earlier: &[(Text, Text)], pair: &(Text, Text)) -> Option<DimRule>
-        ensures { result ≡ rule_of earlier.now pair.now };
-}
-
 struct EachPair;
 
 struct OnePool;
@@ -150,9 +140,11 @@ struct OnePool;
 struct OneId;
 
 impl PairRule for EachPair {
-    ghost rule_of = { pair_rule };
+    type Pair = (Text, Text);
 
-    fn broken(earlier: &[(Text, Text)], pair: &(Text, Text)) -> Option<DimRule> {
+    ghost rule_of = { λ _. pair_rule };
+
+    fn broken(&self, earlier: &[(Text, Text)], pair: &(Text, Text)) -> Option<DimRule> {
         if !is_key(pair.0.as_str()) {
             return Some(DimRule::BadKey);
         }
@@ -170,9 +162,11 @@ impl PairRule for EachPair {
 }
 
 impl PairRule for OnePool {
-    ghost rule_of = { pool_rule };
+    type Pair = (Text, Text);
 
-    fn broken(earlier: &[(Text, Text)], pair: &(Text, Text)) -> Option<DimRule> {
+    ghost rule_of = { λ _. pool_rule };
+
+    fn broken(&self, earlier: &[(Text, Text)], pair: &(Text, Text)) -> Option<DimRule> {
         if is_pool(pair) && (has_bar(pair.1.as_str()) || has_pool(earlier)) {
             Some(DimRule::Pool)
         } else {
@@ -182,28 +176,17 @@ impl PairRule for OnePool {
 }
 
 impl PairRule for OneId {
-    ghost rule_of = { id_rule };
+    type Pair = (Text, Text);
 
-    fn broken(earlier: &[(Text, Text)], pair: &(Text, Text)) -> Option<DimRule> {
+    ghost rule_of = { λ _. id_rule };
+
+    fn broken(&self, earlier: &[(Text, Text)], pair: &(Text, Text)) -> Option<DimRule> {
         if is_id(pair) && has_id(earlier) {
             Some(DimRule::Id)
         } else {
             None
         }
     }
-}
-
-/// The first pair that breaks the rule.
-fn first_at<R: PairRule>(pairs: &[(Text, Text)]) -> Option<(DimRule, u32)>
-    requires { length pairs.now ≤ 32 }
-    ensures { result ≡ first_at R.rule_of [] pairs.now }
-{
-    for place in 0..pairs.len() {
-        if let Some(rule) = R::broken(&pairs[..place], &pairs[place]) {
-            return Some((rule, place as u32));
-        }
-    }
-    None
 }
 
 /// The first broken rule, with the place of the pair.
@@ -213,16 +196,16 @@ pub(crate) fn first_broken(pairs: &[(Text, Text)]) -> Option<(DimRule, u32)>
     if pairs.len() > MOST_PAIRS {
         return Some((DimRule::TooMany, 32));
     }
-    if let Some(broken) = first_at::<EachPair>(pairs) {
+    if let Some(broken) = first_at(&EachPair, pairs) {
         return Some(broken);
     }
-    if let Some(broken) = first_at::<OnePool>(pairs) {
+    if let Some(broken) = first_at(&OnePool, pairs) {
         return Some(broken);
     }
     if !has_pool(pairs) {
         return Some((DimRule::Pool, pairs.len() as u32));
     }
-    first_at::<OneId>(pairs)
+    first_at(&OneId, pairs)
 }
 
 /// Whether each pair is below the next, by key, then value.
