@@ -1,5 +1,5 @@
--- The first rule that a request for a task breaks, in the order of its fields.
-use Rattle.std.specs.Prelude.{◌≡◌, ℕ, ◌+◌, List, [], ◌∷◌, length, Option, Some, None, ⊤}
+-- The first rule that a request for a task breaks: in the order of its fields, then by its slices as a whole.
+use Rattle.std.specs.Prelude.{◌≡◌, ℕ, ◌+◌, List, [], ◌∷◌, length, map, Option, Some, None, ⊤}
 use Rattle.std.specs.Option.{option_map}
 use Rattle.dimensions.specs.declared.text.Text.{Text}
 use Rattle.dimensions.specs.Choosing.{◌or_else◌}
@@ -14,6 +14,8 @@ use Rattle.task_props.specs.declared.raw_task.RawTask.{RawTask}
 use Rattle.task_props.specs.declared.raw_task.RawSlice.{RawSlice}
 use Rattle.task_props.specs.Fields.{task_path}
 use Rattle.task_props.specs.FieldRules.{name_rule, priority_rule, expiration_rule, count_rule, broken_at, broken_command, broken_dimensions}
+use Rattle.task_props.specs.Reading.{slice_of}
+use Rattle.task_props.specs.Slices.{slices_rule}
 
 -- by a slice
 abbrev pub broken_slice : RawSlice → Option (SliceField × PropRule)
@@ -40,9 +42,13 @@ first_broken_field raw =
 abbrev pub with_path : TaskField × PropRule → Text × PropRule
 with_path broken = (task_path broken.0, broken.1)
 
+-- by the slices as a whole, where each is in order
+abbrev pub broken_slices : RawTask → Option (TaskField × PropRule)
+broken_slices raw = option_map (broken_at task_field.TaskSlices) (slices_rule (map slice_of raw.task_slices))
+
 -- the path of the field, and the rule
 abbrev pub first_broken_task : RawTask → Option (Text × PropRule)
-first_broken_task raw = option_map with_path (first_broken_field raw)
+first_broken_task raw = option_map with_path (first_broken_field raw or_else broken_slices raw)
 
 -- a fault tells the broken rule, or want of memory
 abbrev pub IsFaultOf : Option (Text × PropRule) → PropFault → Type 0

@@ -1,12 +1,13 @@
 -- Which tasks have been checked.
-use Rattle.std.specs.Prelude.{pos, Bool, not, ◌&&◌, ◌==◌, List, [], ◌∷◌, length, is_none}
+use Rattle.std.specs.Prelude.{pos, Bool, not, ◌&&◌, ◌==◌, List, length, is_none}
 use Rattle.std.specs.List.{list_all}
 use Rattle.dimensions.specs.declared.text.Text.{Text}
-use Rattle.dimensions.specs.Rules.{are_checked, pool_of}
+use Rattle.dimensions.specs.Rules.{are_checked}
 use Rattle.task_props.specs.declared.properties.Properties.{Properties}
 use Rattle.task_props.specs.declared.slice.Slice.{Slice}
 use Rattle.task_props.specs.declared.new_task.NewTask.{NewTask}
 use Rattle.task_props.specs.FieldRules.{name_rule, priority_rule, expiration_rule, count_rule, broken_command}
+use Rattle.task_props.specs.Slices.{pool_of_slices, slices_rule}
 
 abbrev pub is_empty : {A : Type 0} → List A → Bool
 is_empty list = length list == 0
@@ -32,30 +33,17 @@ are_sound properties =
 abbrev pub is_sound_slice : Slice → Bool
 is_sound_slice slice = is_none (expiration_rule (pos slice.expiration_secs)) && are_sound slice.properties
 
--- no rule on a field is broken
-abbrev pub is_sound_task : NewTask → Bool
-is_sound_task task =
+-- no rule is broken, neither on a field nor on the slices as a whole
+abbrev pub is_checked : NewTask → Bool
+is_checked task =
     is_none (name_rule task.name)
     && is_none (priority_rule (pos task.priority))
     && task.bot_ping_tolerance_secs == 1200
     && is_empty task.request_uuid
     && is_none (count_rule 8 (length task.task_slices))
     && list_all is_sound_slice task.task_slices
-
-abbrev pub waits : Slice → Bool
-waits slice = slice.wait_for_capacity
-
--- of one slice that waits, as all tasks are by now
-abbrev pub is_served : NewTask → Bool
-is_served task = length task.task_slices == 1 && list_all waits task.task_slices
-
-abbrev pub is_checked : NewTask → Bool
-is_checked task = is_sound_task task && is_served task
+    && is_none (slices_rule task.task_slices)
 
 -- the pool of the first slice
-abbrev pub pool_of_slices : List Slice → Text
-pool_of_slices [] = []
-pool_of_slices (slice ∷ slices) = pool_of slice.properties.dimensions
-
 abbrev pub pool_of_task : NewTask → Text
 pool_of_task task = pool_of_slices task.task_slices

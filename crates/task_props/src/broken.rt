@@ -1,15 +1,15 @@
 //! The first rule that a request breaks.
-ghost use Rattle.std.specs.Prelude.{◌≡◌, ◌≤◌, length, IfOk};
-ghost use Rattle.task_props.specs.Broken.{broken_slice, first_broken_slice, first_broken_field};
+ghost use Rattle.std.specs.Prelude.{◌≡◌, ◌≤◌, length, Some};
+ghost use Rattle.task_props.specs.Broken.{broken_slice, first_broken_slice, first_broken_field, IsFaultOf};
 ghost use Rattle.task_props.specs.Fields.{task_path};
 
 use crate::field_rules::{
     MOST_SLICES, broken_command, broken_dimensions, count_rule, expiration_rule, name_rule,
     priority_rule,
 };
-use crate::{PropRule, RawSlice, RawTask, SliceField, TaskField};
+use crate::{PropFault, PropRule, RawSlice, RawTask, SliceField, TaskField};
 use dimensions::Text;
-use std::alloc::{AllocError, Global};
+use std::alloc::Global;
 
 fn broken_slice(slice: &RawSlice) -> Option<(SliceField, PropRule)>
     ensures { result ≡ broken_slice slice.now }
@@ -58,9 +58,15 @@ pub(crate) fn first_broken_field(raw: &RawTask) -> Option<(TaskField, PropRule)>
     first_broken_slice(raw.task_slices.as_slice())
 }
 
-/// The dotted path of a field.
-pub(crate) fn path_of(alloc: Global, field: TaskField) -> Result<Text, AllocError>
-    ensures { IfOk result (λ path. path ≡ task_path field) }
+/// A rule that is broken at a field, whose dotted path wants memory.
+pub(crate) fn fault_at(alloc: Global, field: TaskField, rule: PropRule) -> PropFault
+    ensures { IsFaultOf (Some (task_path field, rule)) result }
 {
-    Ok(Text::from_string(format!(in alloc; "{field}")?))
+    match format!(in alloc; "{field}") {
+        Ok(path) => PropFault::Broken {
+            field: Text::from_string(path),
+            rule,
+        },
+        Err(_) => PropFault::Memory,
+    }
 }

@@ -1,7 +1,7 @@
 //! What a task is: its properties, its slices and the request for it.
 //!
 //! Every type here is plain data that contracts see field by field. A [`NewTask`] is a request
-//! whose fields have been checked; `is_checked` of `specs/Checked.antt` says which those are.
+//! that has been checked; `is_checked` of `specs/Checked.antt` says which those are.
 //! The crate stands on `dimensions`.
 #![tactic(auto)]
 
@@ -17,6 +17,7 @@ mod properties;
 mod raw_task;
 mod reading;
 mod slice;
+mod slices;
 mod task_field;
 
 pub use cache::Cache;

@@ -1,12 +1,13 @@
-use crate::broken::{first_broken_field, path_of};
-use crate::field_rules::{HIGHEST_PRIORITY, MOST_SLICES, count_rule, name_rule, priority_rule};
-use crate::reading::{natural, read_slices};
-use crate::{PropFault, RawTask, Slice};
+use crate::broken::{fault_at, first_broken_field};
+use crate::field_rules::{MOST_SLICES, count_rule, name_rule, priority_rule};
+use crate::reading::read_task;
+use crate::slices::{pool_of, slices_rule};
+use crate::{PropFault, RawTask, Slice, TaskField};
 use dimensions::{Seq, Text, TryCopy};
 use std::alloc::{AllocError, Global};
 
 /// The seconds of silence after which a bot is taken for dead, where a request names none.
-const ABSENT_TOLERANCE_SECS: u32 = 1200;
+pub(crate) const ABSENT_TOLERANCE_SECS: u32 = 1200;
 
 /// A request for a task, after `swarming.v2.NewTaskRequest`. Lower priority numbers run first.
 #[derive(Debug, PartialEq, Drop)]
@@ -22,32 +23,30 @@ impl NewTask {
     ghost use Rattle.std.specs.Prelude.{◌≡◌, IfOk, IfErr, OnOk, None, true};
     ghost use Rattle.std.specs.List.{list_all};
     ghost use Rattle.task_props.specs.Broken.{first_broken_task, IsFaultOf};
-    ghost use Rattle.task_props.specs.Checked.{is_sound_task, is_sound_slice, waits, is_served, is_checked, pool_of_task};
+    ghost use Rattle.task_props.specs.Checked.{is_sound_slice, is_checked, pool_of_task};
     ghost use Rattle.task_props.specs.Reading.{task_of};
 
-    /// The task that the fields mean, where no rule is broken, or else the first broken rule.
+    /// The task that the fields mean, where no rule is broken, or else the first broken rule. The
+    /// slices as a whole come last.
     pub fn check(alloc: Global, raw: RawTask) -> Result<NewTask, PropFault>
         ensures unbroken { OnOk result (first_broken_task raw ≡ None) }
         ensures value { IfOk result (λ task. task ≡ task_of raw) }
-        ensures sound { IfOk result (λ task. is_sound_task task ≡ true) }
+        ensures checked { IfOk result (λ task. is_checked task ≡ true) }
         ensures broken { IfErr result (IsFaultOf (first_broken_task raw)) }
     {
         if let Some((field, rule)) = first_broken_field(&raw) {
-            let field = path_of(alloc, field)?;
-            return Err(PropFault::Broken { field, rule });
+            return Err(fault_at(alloc, field, rule));
         }
-        Ok(NewTask {
-            name: raw.name,
-            priority: natural(0, HIGHEST_PRIORITY, raw.priority),
-            bot_ping_tolerance_secs: ABSENT_TOLERANCE_SECS,
-            request_uuid: Text::new(alloc),
-            task_slices: read_slices(alloc, raw.task_slices)?,
-        })
+        let task = read_task(alloc, raw)?;
+        match slices_rule(task.task_slices.as_slice()) {
+            Some(rule) => Err(fault_at(alloc, TaskField::TaskSlices, rule)),
+            None => Ok(task),
+        }
     }
 
-    /// Whether no rule on a field is broken.
-    pub fn is_sound(&self) -> bool
-        ensures { result ≡ is_sound_task self.now }
+    /// Whether no rule is broken, neither on a field nor on the slices as a whole.
+    pub fn is_checked(&self) -> bool
+        ensures { result ≡ is_checked self.now }
     {
         name_rule(self.name.as_str()).is_none()
             && priority_rule(self.priority as i128).is_none()
@@ -55,6 +54,7 @@ impl NewTask {
             && self.request_uuid.as_str().is_empty()
             && count_rule(MOST_SLICES, self.task_slices.as_slice().len()).is_none()
             && self.has_sound_slices()
+            && slices_rule(self.task_slices.as_slice()).is_none()
     }
 
     fn has_sound_slices(&self) -> bool
@@ -66,37 +66,11 @@ impl NewTask {
             .all(|slice| slice.is_sound())
     }
 
-    /// Whether the task has one slice, which waits.
-    pub fn is_served(&self) -> bool
-        ensures { result ≡ is_served self.now }
-    {
-        self.task_slices.as_slice().len() == 1 && self.has_waiting_slices()
-    }
-
-    fn has_waiting_slices(&self) -> bool
-        ensures { result ≡ list_all waits self.now.task_slices }
-    {
-        self.task_slices
-            .as_slice()
-            .iter()
-            .all(|slice| slice.wait_for_capacity)
-    }
-
-    /// Whether the task is sound and of a shape that is served.
-    pub fn is_checked(&self) -> bool
-        ensures { result ≡ is_checked self.now }
-    {
-        self.is_sound() && self.is_served()
-    }
-
     /// The pool of the first slice, or the empty text where there is none.
     pub fn pool(&self) -> &str
         ensures { result.now ≡ pool_of_task self.now }
     {
-        match self.task_slices.as_slice().first() {
-            Some(slice) => slice.properties.dimensions.pool(),
-            None => "",
-        }
+        pool_of(self.task_slices.as_slice())
     }
 }
 
@@ -115,35 +89,43 @@ impl TryCopy for NewTask {
 #[cfg(test)]
 mod tests {
     use super::*;
-    use crate::{PropRule, RawProperties, RawSlice};
+    use crate::{RawProperties, RawSlice};
     use std::test::Fail;
 
-    fn raw(alloc: Global, value: &str) -> Result<RawTask, AllocError> {
-        let command = vec![in alloc; Text::from_str(alloc, "true")?]?;
-        let pool = (
-            Text::from_str(alloc, "pool")?,
-            Text::from_str(alloc, "default")?,
-        );
-        let os = (Text::from_str(alloc, "os")?, Text::from_str(alloc, value)?);
-        let slice = RawSlice {
-            expiration_secs: 600,
-            wait_for_capacity: true,
-            properties: RawProperties {
-                command: Seq::from_vec(command),
-                dimensions: Seq::from_vec(vec![in alloc; pool, os]?),
-            },
-        };
+    fn pair(alloc: Global, key: &str, value: &str) -> Result<(Text, Text), AllocError> {
+        Ok((Text::from_str(alloc, key)?, Text::from_str(alloc, value)?))
+    }
+
+    /// A task with a slice for each of these pairs of pool and os. Only the first slice waits.
+    fn raw(alloc: Global, slices: &[(&str, &str)]) -> Result<RawTask, Fail> {
+        let mut task_slices = Vec::new(alloc);
+        let mut expiration_secs = 600;
+        for (pool, os) in slices {
+            let pairs = vec![in alloc; pair(alloc, "pool", *pool)?, pair(alloc, "os", *os)?]?;
+            task_slices.push(RawSlice {
+                expiration_secs,
+                wait_for_capacity: expiration_secs == 600,
+                properties: RawProperties {
+                    command: Seq::from_vec(vec![in alloc; Text::from_str(alloc, "true")?]?),
+                    dimensions: Seq::from_vec(pairs),
+                },
+            })?;
+            expiration_secs = 60;
+        }
         Ok(RawTask {
             name: Text::new(alloc),
             priority: 255,
-            task_slices: Seq::from_vec(vec![in alloc; slice]?),
+            task_slices: Seq::from_vec(task_slices),
         })
     }
 
     #[test]
     fn checks_and_copies(rt: HostRuntime) -> Result<(), Fail> {
         let alloc = rt.alloc();
-        let task = NewTask::check(alloc, raw(alloc, "Linux|Mac")?)?;
+        let task = NewTask::check(
+            alloc,
+            raw(alloc, &[("default", "Linux|Mac"), ("default", "Linux")])?,
+        )?;
         assert!(rt; task.is_checked());
         assert_eq!(rt; task.priority, 255);
         assert_eq!(rt; task.pool(), "default");
@@ -151,21 +133,42 @@ mod tests {
         Ok(())
     }
 
-    fn told(checked: Result<NewTask, PropFault>) -> Option<(Text, PropRule)> {
+    fn told(alloc: Global, checked: Result<NewTask, PropFault>) -> Result<String, Fail> {
         match checked {
-            Err(PropFault::Broken { field, rule }) => Some((field, rule)),
-            _ => None,
+            Ok(_) => Ok(String::from_str(alloc, "checked")?),
+            Err(PropFault::Memory) => Ok(String::from_str(alloc, "memory")?),
+            Err(PropFault::Broken { field, rule }) => {
+                let path = field.as_str();
+                let name = rule.name();
+                Ok(format!(in alloc; "{path} {name}")?)
+            }
         }
     }
 
     #[test]
-    fn tells_the_path_of_a_broken_rule(rt: HostRuntime) -> Result<(), Fail> {
+    fn tells_the_first_broken_rule(rt: HostRuntime) -> Result<(), Fail> {
         let alloc = rt.alloc();
-        let fault = told(NewTask::check(alloc, raw(alloc, "a||b")?));
-        let (field, rule) = fault.ok_or("a rule is broken")?;
-        assert!(rt; field == Text::from_str(alloc, "task_slices.0.properties.dimensions.1")?);
-        assert_eq!(rt; rule, PropRule::Alternative);
-        assert_eq!(rt; rule.name(), "alternative");
+        for (slices, wanted) in [
+            (
+                [("default", "Mac"), ("default", "a||b"), ("other", "Mac")],
+                "task_slices.1.properties.dimensions.1 alternative",
+            ),
+            (
+                [("default", "Mac"), ("other", "Mac"), ("default", "Mac")],
+                "task_slices repeated",
+            ),
+            (
+                [("default", "Mac"), ("other", "Mac"), ("default", "Linux")],
+                "task_slices pool",
+            ),
+            (
+                [("default", "Mac"), ("default", "Linux"), ("default", "Win")],
+                "checked",
+            ),
+        ] {
+            let checked = NewTask::check(alloc, raw(alloc, &slices)?);
+            assert_eq!(rt; told(alloc, checked)?.as_str(), wanted);
+        }
         Ok(())
     }
 }

@@ -1,20 +1,22 @@
 //! The task that an unbroken request means.
-ghost use Rattle.std.specs.Prelude.{◌≡◌, None, IfOk, map, true};
+ghost use Rattle.std.specs.Prelude.{◌≡◌, None, IfOk, is_none, map, true};
 ghost use Rattle.std.specs.List.{All, list_all};
 ghost use Rattle.dimensions.specs.Rules.{are_checked};
-ghost use Rattle.task_props.specs.Broken.{broken_slice};
-ghost use Rattle.task_props.specs.Checked.{is_sound_slice};
+ghost use Rattle.task_props.specs.Broken.{broken_slice, first_broken_field};
+ghost use Rattle.task_props.specs.Checked.{is_sound_slice, is_checked};
 ghost use Rattle.task_props.specs.FieldRules.{range_rule, broken_command, broken_dimensions};
-ghost use Rattle.task_props.specs.Reading.{natural, properties_of, slice_of};
+ghost use Rattle.task_props.specs.Reading.{natural, properties_of, slice_of, task_of};
+ghost use Rattle.task_props.specs.Slices.{slices_rule};
 
-use crate::field_rules::LONGEST_EXPIRATION_SECS;
+use crate::field_rules::{HIGHEST_PRIORITY, LONGEST_EXPIRATION_SECS};
+use crate::new_task::ABSENT_TOLERANCE_SECS;
 use crate::properties::ABSENT_GRACE_SECS;
-use crate::{Properties, RawProperties, RawSlice, Slice};
-use dimensions::{DimSet, Seq};
+use crate::{NewTask, Properties, RawProperties, RawSlice, RawTask, Slice};
+use dimensions::{DimSet, Seq, Text};
 use std::alloc::{AllocError, Global};
 
 /// A number that keeps its range.
-pub(crate) fn natural(low: u32, high: u32, number: i128) -> u32
+fn natural(low: u32, high: u32, number: i128) -> u32
     requires { range_rule low high number ≡ None }
     ensures { result ≡ natural number }
 {
@@ -57,7 +59,7 @@ fn read_slice(alloc: Global, raw: RawSlice) -> Result<Slice, AllocError>
     })
 }
 
-pub(crate) fn read_slices(alloc: Global, raw: Seq<RawSlice>) -> Result<Seq<Slice>, AllocError>
+fn read_slices(alloc: Global, raw: Seq<RawSlice>) -> Result<Seq<Slice>, AllocError>
     requires { All (λ slice. broken_slice slice ≡ None) raw }
     ensures value { IfOk result (λ slices. slices ≡ map slice_of raw) }
     ensures sound { IfOk result (λ slices. list_all is_sound_slice slices ≡ true) }
@@ -67,4 +69,19 @@ pub(crate) fn read_slices(alloc: Global, raw: Seq<RawSlice>) -> Result<Seq<Slice
         slices.push(read_slice(alloc, slice)?)?;
     }
     Ok(Seq::from_vec(slices))
+}
+
+/// The task of fields that break no rule. Its slices as a whole may break one.
+pub(crate) fn read_task(alloc: Global, raw: RawTask) -> Result<NewTask, AllocError>
+    requires { first_broken_field raw ≡ None }
+    ensures value { IfOk result (λ task. task ≡ task_of raw) }
+    ensures sound { IfOk result (λ task. is_checked task ≡ is_none (slices_rule task.task_slices)) }
+{
+    Ok(NewTask {
+        name: raw.name,
+        priority: natural(0, HIGHEST_PRIORITY, raw.priority),
+        bot_ping_tolerance_secs: ABSENT_TOLERANCE_SECS,
+        request_uuid: Text::new(alloc),
+        task_slices: read_slices(alloc, raw.task_slices)?,
+    })
 }
