@@ -1,39 +1,29 @@
 -- The points of a log that nobody shares.
-use Rattle.std.proofs.Common.{◌≡◌, ℕ, ◌≤◌, ◌^◌, Bool, true, false, List, [], ◌∷◌, ◌++◌, length, refl, Option, Some, None, subst, sym, ap, ◌∙◌, append-nil, lit≤}
+use Rattle.std.proofs.Common.{◌≡◌, ℕ, Bool, true, false, List, [], ◌++◌, length, refl, Option, Some, None, subst, sym, ap, ◌∙◌, append-nil}
 use Rattle.std.specs.Prelude.{IsSomeAnd}
-use Rattle.std.specs.Bool.{MatchBool}
-use Rattle.std.specs.Option.{option_to_list}
+use Rattle.std.specs.Bool.{OnTrue}
+use Rattle.std.specs.Option.{option_or, option_to_list}
+use Rattle.std.proofs.lemmas.List.{append_assoc}
+use Rattle.std.proofs.lemmas.List.Sums.{fold-append}
 use Rattle.swarm_model.specs.declared.pool_state.PoolState.{PoolState}
 use Rattle.swarm_model.specs.declared.entry.Entry.{Entry}
 use Rattle.swarm_model.specs.declared.request.Request.{Request}
 use Rattle.swarm_model.specs.declared.reply.Reply.{Reply}
 use Rattle.swarm_model.specs.declared.reply.Reply.TheVariants as reply
 use Rattle.swarm_model.specs.declared.rule.Rule.TheVariants as rule
-use Rattle.swarm_model.specs.declared.answer.Answer.{Answer}
 use Rattle.swarm_model.specs.Answers.{answer}
+use Rattle.swarm_model.specs.Deadlines.{due_entry}
 use Rattle.swarm_model.specs.Effects.{opening, after}
-use Rattle.swarm_model.specs.History.{replay, IsCaused, IsLegal, has_room, moment_of}
-use Rattle.swarm_model.specs.Points.{is_ahead, IsEarly, IsServed, IsPoint, IsStopped}
+use Rattle.swarm_model.specs.History.{replay, IsLegal, moment_of}
+use Rattle.swarm_model.specs.Points.{is_ahead, IsPoint, IsStopped, LacksRoom, next_entry}
 use Rattle.swarm_model.specs.Kept.{Kept, IsHistory}
+use Rattle.swarm_model.specs.Soundness.{IsSound}
+use Rattle.swarm_model.proofs.Sound.{sound_always}
+use Rattle.swarm_history.specs.Settling.{Settles, Responds}
 
-caused_bound : (s : PoolState) (log : List Entry) → IsCaused s log → s.last ≤ 2 ^ 40 → (replay s log).last ≤ 2 ^ 40
-caused_bound s [] caused low = low
-caused_bound s (e ∷ log) caused low = caused_bound (after s e) log caused.1 caused.0.not_late
-
--- no entry is later than 2^40
-pub last_bound : (kept : Kept) → IsHistory kept → kept.pool.last ≤ 2 ^ 40
-last_bound kept h = subst (λ (s : PoolState). s.last ≤ 2 ^ 40) (sym h.replayed) (caused_bound (opening kept.pool.settings) kept.log h.legal.caused (lit≤ tt))
-
-abbrev Acts : PoolState → ℕ → List ℕ → ℕ → Option ℕ → Request → Option Entry → Reply → List Entry → Type 0
-Acts start pass who moment ahead request own answered log =
-    MatchBool (is_ahead (length log) ahead) (IsEarly (length log) [] own answered)
-    (IsServed (replay start log) pass who (moment_of (replay start log) moment) request [] own answered)
-
-by_ahead : (b : Bool) (P Q : Type 0) → b ≡ true → P → MatchBool b P Q
-by_ahead b P Q e p = rw e p
-
-by_not_ahead : (b : Bool) (P Q : Type 0) → b ≡ false → Q → MatchBool b P Q
-by_not_ahead b P Q e q = rw e q
+-- what a machine keeps is sound
+pub sound_history : (kept : Kept) → IsHistory kept → IsSound kept.pool
+sound_history kept h = subst IsSound (sym h.replayed) (sound_always kept.pool.settings kept.log h.legal.caused)
 
 -- a call of one who has seen more than there is
 pub early_point : (start : PoolState) (pass : ℕ) (log : List Entry) (who : List ℕ) (moment : ℕ) (ahead : Option ℕ) (request : Request) →
@@ -46,69 +36,64 @@ early_point start pass log who moment ahead request legal is =
       legal = legal;
       parts = sym (append-nil log);
       by_others = tt;
-      acts = subst (Acts start pass who moment ahead request None (reply.No (rule.FrontAhead (length log)))) (sym (append-nil log))
-          (by_ahead (is_ahead (length log) ahead) _ _ is (record { reply = refl; settled_is = refl; own_is = refl }));
+      acts = rw (append-nil log, is) (record { reply = refl; settled_is = refl; own_is = refl });
     }
 
--- a call that is answered, with or without an entry of its own
-pub served_point : (start : PoolState) (pass : ℕ) (old new : List Entry) (who : List ℕ) (moment : ℕ) (ahead : Option ℕ) (request : Request) (at : ℕ) (s : PoolState) (told : Answer) →
-    IsLegal start new → new ≡ old ++ option_to_list told.entry → is_ahead (length old) ahead ≡ false → s ≡ replay start old → at ≡ moment_of s moment →
-    told ≡ answer s who at pass request → IsPoint start pass old new who moment ahead request told.reply
-served_point start pass old new who moment ahead request at s told legal grows is state moments answers =
-    let at_is : at ≡ moment_of (replay start old) moment = moments ∙ ap (λ (p : PoolState). moment_of p moment) state in
-    let told_is : told ≡ answer (replay start old) who (moment_of (replay start old) moment) pass request =
-    answers ∙ ap (λ (p : PoolState). answer p who at pass request) state ∙ ap (λ (m : ℕ). answer (replay start old) who m pass request) at_is in
-    record {
-      others = [];
-      settled = [];
-      own = told.entry;
-      legal = legal;
-      parts = grows;
-      by_others = tt;
-      acts = subst (Acts start pass who moment ahead request told.entry told.reply) (sym (append-nil old))
-          (by_not_ahead (is_ahead (length old) ahead) _ _ is (record {
-            due_first = tt;
-            nothing_due = refl;
-            reply = ap (λ (a : Answer). a.reply) (sym told_is);
-            entry = ap (λ (a : Answer). a.entry) (sym told_is);
-          }));
-    }
+-- an entry that is due comes before the request's own
+pub due_next : (full : Bool) (P : Entry → Type 0) (due own : Option Entry) → OnTrue full (IsSomeAnd due P) → OnTrue full (IsSomeAnd (option_or due own) P)
+due_next false P due own h = tt
+due_next true P None own h = absurd h
+due_next true P (Some e) own h = h
 
--- a call that stopped and left the log
-pub stopped_here : (start : PoolState) (pass : ℕ) (old new : List Entry) (who : List ℕ) (moment : ℕ) (ahead : Option ℕ) (request : Request) →
-    IsLegal start old → new ≡ old → is_ahead (length old) ahead ≡ false → IsStopped start pass old new who moment ahead request false
-stopped_here start pass old new who moment ahead request legal same is =
-    record {
-      others = [];
-      settled = [];
-      legal = subst (IsLegal start) (sym same) legal;
-      parts = same ∙ sym (append-nil old);
-      by_others = tt;
-      not_ahead = ap (λ (l : List Entry). is_ahead (length l) ahead) (append-nil old) ∙ is;
-      due_first = tt;
-      full = tt;
-    }
+-- where nothing is due the request's own comes
+pub own_next : (full : Bool) (P : Entry → Type 0) (due own : Option Entry) → due ≡ None → OnTrue full (IsSomeAnd own P) → OnTrue full (IsSomeAnd (option_or due own) P)
+own_next full P due own none h = rw none h
 
--- a call that stopped since the log has no room for the request's own entry
-pub full_here : (start : PoolState) (pass : ℕ) (old new : List Entry) (who : List ℕ) (moment : ℕ) (ahead : Option ℕ) (request : Request) (at : ℕ) (s : PoolState) (told : Answer) (entry : Entry) →
-    IsLegal start old → new ≡ old → is_ahead (length old) ahead ≡ false → s ≡ replay start old → at ≡ moment_of s moment →
-    told ≡ answer s who at pass request → told.entry ≡ Some entry → has_room start.settings old entry ≡ false →
-    IsStopped start pass old new who moment ahead request true
-full_here start pass old new who moment ahead request at s told entry legal same is state moments answers adds full =
-    let rows : s ≡ replay start new = state ∙ ap (replay start) (sym same) in
-    let here : s ≡ replay start (old ++ []) = state ∙ ap (replay start) (sym (append-nil old)) in
-    let at_is : at ≡ moment_of (replay start (old ++ [])) moment = moments ∙ ap (λ (p : PoolState). moment_of p moment) here in
-    let next : (answer (replay start new) who (moment_of (replay start (old ++ [])) moment) pass request).entry ≡ Some entry =
-    ap (λ (m : ℕ). (answer (replay start new) who m pass request).entry) (sym at_is)
-    ∙ ap (λ (p : PoolState). (answer p who at pass request).entry) (sym rows) ∙ ap (λ (a : Answer). a.entry) (sym answers) ∙ adds in
-    record {
-      others = [];
-      settled = [];
-      legal = subst (IsLegal start) (sym same) legal;
-      parts = same ∙ sym (append-nil old);
-      by_others = tt;
-      not_ahead = ap (λ (l : List Entry). is_ahead (length l) ahead) (append-nil old) ∙ is;
-      due_first = tt;
-      full = subst (λ (o : Option Entry). IsSomeAnd o (λ e. has_room start.settings new e ≡ false)) (sym next)
-          (subst (λ (l : List Entry). has_room start.settings l entry ≡ false) (sym same) full);
-    }
+-- A call that settled what was due by a moment, in part or whole.
+module _ (pass : ℕ) (who : List ℕ) (moment : ℕ) (ahead : Option ℕ) (request : Request) (at : ℕ) (old mid : Kept) (history : IsHistory old)
+    (behind : is_ahead (length old.log) ahead ≡ false) (reckoned : at ≡ moment_of old.pool moment) (s : Settles pass at old mid) where
+  abbrev start : PoolState
+  start = opening old.pool.settings
+
+  moment_is : at ≡ moment_of (replay start old.log) moment
+  moment_is = reckoned ∙ ap (λ (p : PoolState). moment_of p moment) history.replayed
+
+  -- the rows are those of the log
+  rows : mid.pool ≡ replay start mid.log
+  rows = s.history.replayed ∙ ap (λ x. replay (opening x) mid.log) s.settings
+
+  rows_settled : mid.pool ≡ replay (replay start old.log) s.settled
+  rows_settled = rows ∙ ap (replay start) s.log ∙ fold-append after start old.log s.settled
+
+  pub settled_point : (new : Kept) → due_entry mid.pool at pass ≡ None → (answered : Reply) → Responds pass who at request mid new answered →
+      IsPoint start pass old.log new.log who moment ahead request answered
+  settled_point new none answered a =
+      record {
+        others = [];
+        settled = s.settled;
+        own = (answer mid.pool who at pass request).entry;
+        legal = subst (λ x. IsLegal (opening x) new.log) (a.settings ∙ s.settings) a.history.legal;
+        parts = a.log ∙ ap (λ (l : List Entry). l ++ option_to_list (answer mid.pool who at pass request).entry) s.log ∙ append_assoc old.log s.settled _;
+        by_others = tt;
+        acts = rw (append-nil old.log, behind, ← moment_is) (record {
+          due_first = s.due_first;
+          nothing_due = rw (← rows_settled) none;
+          reply = rw (← rows_settled) a.reply;
+          entry = rw (← rows_settled) refl;
+        });
+      }
+
+  -- it stopped where an entry was to be added
+  pub settled_stop : (log : List Entry) (full : Bool) → log ≡ mid.log → OnTrue full (LacksRoom mid.pool mid.log (next_entry mid.pool pass who at request)) →
+      IsStopped start pass old.log log who moment ahead request full
+  settled_stop log full same lacks =
+      record {
+        others = [];
+        settled = s.settled;
+        legal = rw same (subst (λ x. IsLegal (opening x) mid.log) s.settings s.history.legal);
+        parts = same ∙ s.log;
+        by_others = tt;
+        not_ahead = rw (append-nil old.log) behind;
+        due_first = rw (append-nil old.log, ← moment_is) s.due_first;
+        full = rw (append-nil old.log, ← moment_is, same, ← rows, ← s.settings) lacks;
+      }

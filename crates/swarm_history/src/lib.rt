@@ -9,6 +9,7 @@
 mod door;
 mod plain_door;
 mod serving;
+mod settling;
 
 pub use door::{Answered, CallFault, Door};
 pub use plain_door::PlainDoor;

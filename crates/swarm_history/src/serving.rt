@@ -1,18 +1,21 @@
-ghost use Rattle.std.specs.Prelude.{◌≡◌, ◌≤◌, ◌<◌, ◌^◌, None, IsTrue, IfOk, IfErr};
+ghost use Rattle.std.specs.Prelude.{◌≡◌, ◌≤◌, ◌<◌, ◌^◌, None, IsTrue, IfOk, IfErr, OnErr};
+ghost use Rattle.std.specs.Bool.{OnTrue};
 ghost use Rattle.swarm_model.specs.Fits.{fits};
 ghost use Rattle.swarm_model.specs.Answers.{answer};
 ghost use Rattle.swarm_model.specs.Deadlines.{due_entry};
 ghost use Rattle.swarm_model.specs.Effects.{opening};
-ghost use Rattle.swarm_model.specs.History.{moment_of};
-ghost use Rattle.swarm_model.specs.Points.{IsPoint, IsStopped, is_ahead};
+ghost use Rattle.swarm_model.specs.Kept.{IsHistory};
+ghost use Rattle.swarm_model.specs.Points.{IsPoint, IsStopped, LacksRoom, is_ahead};
 ghost use Rattle.swarm_history.specs.Doors.{is_log_full};
+ghost use Rattle.swarm_history.specs.Settling.{Stays, Responds};
 
 use crate::CallFault;
+use crate::settling::{add, settle};
 use dimensions::Text;
 use std::alloc::AllocError;
 use std::marker::Brand;
 use std::sync::ledger::{Blank, Ledger};
-use swarm_model::{Answer, Machine, Reply, Request, ReserveFault, Rule, Steps};
+use swarm_model::{Answer, Machine, Reply, Request, Rule, Steps};
 
 /// The greatest moment of an entry.
 const MOST_MOMENT: u64 = 1 << 40;
@@ -48,7 +51,42 @@ fn answer_uncounted<M: Machine, L: Ledger>(
     machine.answer(who, moment, pass, request, &mut steps)
 }
 
-/// Answers a request at the end of the machine's log. Where it stops, the log stays.
+/// Answers a request where nothing is due. Where it stops, the log stays.
+fn respond<M: Machine>(
+    machine: &mut M,
+    pass: u32,
+    moment: u64,
+    who: &Text,
+    request: &Request,
+) -> Result<Reply, CallFault>
+    requires fits { IsTrue (fits (M.kept machine.old).pool.settings request.now) }
+    requires history { IsHistory (M.kept machine.old) }
+    requires not_before { (M.kept machine.old).pool.last ≤ moment }
+    requires not_late { moment ≤ 2 ^ 40 }
+    requires nothing_due { due_entry (M.kept machine.old).pool moment pass ≡ None }
+    ensures answers { IfOk result (Responds pass who.now moment request.now (M.kept machine.old) (M.kept machine.new)) }
+    ensures stays { OnErr result (Stays (M.kept machine.old) (M.kept machine.new)) }
+    ensures full { IfErr result (λ f. OnTrue (is_log_full f) (LacksRoom (M.kept machine.old).pool (M.kept machine.old).log (answer (M.kept machine.old).pool who.now moment pass request.now).entry)) }
+{
+    let Ok(answer) = answer_uncounted::<M, Brand>(
+        machine,
+        who,
+        moment,
+        pass,
+        request,
+        Blank::new(1),
+    ) else {
+        return Err(CallFault::Memory);
+    };
+    let Answer { reply, entry } = answer;
+    if let Some(entry) = entry {
+        add(machine, entry)?;
+    }
+    Ok(reply)
+}
+
+/// Settles what is due, and answers a request at the end of the machine's log. Where it stops, no
+/// entry of the request's own is added.
 pub(crate) fn serve<M: Machine>(
     machine: &mut M,
     pass: u32,
@@ -67,26 +105,6 @@ pub(crate) fn serve<M: Machine>(
         return Ok(Reply::No(Rule::FrontAhead { length }));
     }
     let moment = machine.last().max(moment.min(MOST_MOMENT));
-    let Ok(answer) = answer_uncounted::<M, Brand>(
-        machine,
-        who,
-        moment,
-        pass,
-        request,
-        Blank::new(1),
-    ) else {
-        return Err(CallFault::Memory);
-    };
-    let Answer { reply, entry } = answer;
-    let Some(entry) = entry else {
-        return Ok(reply);
-    };
-    match machine.reserve(&entry) {
-        Ok(()) => {}
-        Err(ReserveFault::Memory) => return Err(CallFault::Memory),
-        Err(ReserveFault::LogFull) => return Err(CallFault::LogFull),
-    }
-    machine.commit(entry, None);
-    let _length = machine.length();
-    Ok(reply)
+    settle(machine, pass, moment)?;
+    respond(machine, pass, moment, who, request)
 }

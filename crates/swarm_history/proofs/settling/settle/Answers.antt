@@ -1,0 +1,12 @@
+-- An entry that is due may follow.
+use Rattle.swarm_model.proofs.Following.{due_follows}
+use Rattle.swarm_history.proofs.OwnPoints.{sound_history}
+use Rattle.swarm_history.proofs.settling.settle.Goals as goal
+
+pub add-requires : goal.add-requires
+add-requires g c =
+    let k = g.M.Machine.kept c.loop-entry.machine in
+    record {
+      follows = due_follows k.pool c.args.moment c.args.pass c.in-Some.entry (sound_history k c.loop-entry.invariant.history)
+          c.requires.not_late (cc);
+    }
