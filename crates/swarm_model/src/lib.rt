@@ -35,7 +35,10 @@ pub use bot_row::BotRow;
 pub use changing::{Change, Row, change_row};
 pub use deadline::{Cause, Deadline};
 pub use entry::{Entry, EntryKind, Outcome};
-pub use examples::{one_task_is_pending, one_task_weighs_18, two_tasks_in_a_row};
+pub use examples::{
+    begins_with_an_open_slice, no_resource_after_a_slice, no_resource_at_once, one_task_is_pending,
+    one_task_weighs_18, slices_run_out_in_turn, two_tasks_in_a_row,
+};
 pub use fitting::fits;
 pub use laws::stays_sound;
 pub use machine::{Machine, ReserveFault};
