@@ -102,6 +102,19 @@ fn sorted_pairs(
     Ok(copies)
 }
 
+impl PartialEq for BotDims {
+    ghost use Rattle.std.specs.Cmp.Lexicographic.{pointwise, lists_per};
+    ghost use Rattle.dimensions.specs.Alike.{same_values, same_values_laws};
+
+    ghost eq = { pointwise same_values };
+
+    ghost laws = { lists_per same_values_laws };
+
+    fn eq(&self, other: &BotDims) -> bool {
+        self.sorted == other.sorted
+    }
+}
+
 #[cfg(test)]
 mod tests {
     use super::*;

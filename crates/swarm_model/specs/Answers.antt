@@ -1,26 +1,36 @@
 -- The answer to each request, and the entry that it adds.
-use Rattle.std.specs.Prelude.{ℕ, ◌+◌, ◌-◌, ◌==◌, List, length, Option, Some, None, nat_le}
-use Rattle.std.specs.List.{count_by}
-use Rattle.std.specs.Option.{option_map, option_and_then}
+use Rattle.std.specs.Prelude.{ℕ, Bool, true, false, ◌+◌, ◌-◌, ◌^◌, ◌==◌, ◌&&◌, ◌||◌, not, min, List, length, Option, Some, None, is_some, is_none, nat_le, if◌then◌else◌}
+use Rattle.std.specs.List.{count_by, find}
+use Rattle.std.specs.Option.{option_map, option_map_or, option_and_then}
+use Rattle.dimensions.specs.declared.text.Text.{Text}
+use Rattle.dimensions.specs.declared.bot_dims.BotDims.{BotDims}
+use Rattle.dimensions.specs.Alike.{same, same_dims}
+use Rattle.dimensions.specs.Choosing.{when, ◌or_else◌}
+use Rattle.dimensions.specs.Rules.{is_empty}
+use Rattle.task_props.specs.declared.slice.Slice.{Slice}
 use Rattle.task_props.specs.declared.new_task.NewTask.{NewTask}
 use Rattle.swarm_model.specs.declared.task_state.TaskState.{TaskState}
 use Rattle.swarm_model.specs.declared.task_state.TaskState.TheVariants.{Pending, NoResource}
+use Rattle.swarm_model.specs.declared.attempt.Attempt.{Attempt}
 use Rattle.swarm_model.specs.declared.task_row.TaskRow.{TaskRow}
+use Rattle.swarm_model.specs.declared.bot_row.BotRow.{BotRow}
 use Rattle.swarm_model.specs.declared.pool_state.PoolState.{PoolState}
 use Rattle.swarm_model.specs.declared.entry.Entry.{Entry}
 use Rattle.swarm_model.specs.declared.entry.EntryKind.{EntryKind}
 use Rattle.swarm_model.specs.declared.entry.EntryKind.TheVariants as kind
+use Rattle.swarm_model.specs.declared.entry.EventKind.{EventKind}
 use Rattle.swarm_model.specs.declared.request.Request.{Request}
 use Rattle.swarm_model.specs.declared.request.Request.TheVariants as ask
+use Rattle.swarm_model.specs.declared.rule.Unfit.{Unfit}
+use Rattle.swarm_model.specs.declared.rule.Unfit.TheVariants as unfit
 use Rattle.swarm_model.specs.declared.rule.Rule.{Rule}
 use Rattle.swarm_model.specs.declared.rule.Rule.TheVariants as rule
 use Rattle.swarm_model.specs.declared.reply.Reply.{Reply}
 use Rattle.swarm_model.specs.declared.reply.Reply.TheVariants as reply
 use Rattle.swarm_model.specs.declared.answer.Answer.{Answer}
 use Rattle.swarm_model.specs.declared.answer.Told.{Told}
-use Rattle.dimensions.specs.Choosing.{when}
-use Rattle.swarm_model.specs.Finding.{task_of, is_wanted}
-use Rattle.swarm_model.specs.Slices.{admit}
+use Rattle.swarm_model.specs.Finding.{task_of, bot_named, is_final, is_wanted}
+use Rattle.swarm_model.specs.Slices.{admit, current_slice, first}
 use Rattle.swarm_model.specs.Views.{view_of}
 use Rattle.swarm_model.specs.Words.{◌otherwise◌}
 
@@ -39,7 +49,7 @@ abbrev pub begins : PoolState → List ℕ → NewTask → TaskState → ℕ →
 begins s who request state slice =
     record {
       reply = reply.New (length s.tasks + 1) state;
-      adds = Some (kind.New (length s.tasks + 1) who request state slice);
+      adds = Some (kind.New (length s.tasks + 1) who request state slice None);
     }
 
 -- a task waits at its first open slice, and ends at once where none is open
@@ -60,25 +70,142 @@ abbrev pub with : {A : Type 0} → Option A → Rule → (A → Told) → Told
 with None why next = refuses why
 with (Some value) why next = next value
 
--- the task itself; no task has had a try yet
+abbrev pub has_try : ℕ → Option Attempt → Bool
+has_try try_no attempt = option_map_or (λ a. a.try_no == try_no) attempt false
+
+-- the task itself, or where it has that try
 abbrev pub if_named : ℕ → TaskRow → Option TaskRow
-if_named try_no task = when (try_no == 0) task
+if_named try_no task = when (try_no == 0 || has_try try_no task.attempt) task
 
 -- the task, where it has the try that the number names
 abbrev pub named_task : PoolState → ℕ → ℕ → Option TaskRow
 named_task s number try_no = option_and_then (if_named try_no) (task_of s number)
 
-abbrev pub result_of : TaskRow → Told
-result_of task = says (reply.Result (view_of task))
+abbrev pub result_of : PoolState → TaskRow → Told
+result_of s task = says (reply.Result (view_of s task))
 
 abbrev pub count_tasks : PoolState → Option TaskState → Told
 count_tasks s state = says (reply.Count (count_by (is_wanted state) s.tasks))
 
+-- ---- bots
+
+abbrev pub answers : Reply → EntryKind → Told
+answers answer entry = record { reply = answer; adds = Some entry }
+
+-- a bot that is known: a new session begins anew
+abbrev pub greet : List ℕ → List ℕ → BotDims → List ℕ → BotRow → Told
+greet name session dims quarantined bot =
+    if same bot.session session
+    then answers (reply.Shaken name) (kind.Contact bot.no)
+    else answers (reply.Shaken name) (kind.Handshake bot.no name session dims quarantined)
+
+abbrev pub bots_full : PoolState → Told
+bots_full s = refuses (rule.PoolBotsFull s.settings.most_bots)
+
+abbrev pub handshake : PoolState → List ℕ → List ℕ → BotDims → List ℕ → Told
+handshake s name session dims quarantined =
+    option_map (greet name session dims quarantined) (bot_named s name)
+    otherwise when (nat_le s.settings.most_bots (length s.bots)) (bots_full s)
+    otherwise answers (reply.Shaken name) (kind.Handshake (length s.bots + 1) name session dims quarantined)
+
+-- the task that a bot runs
+abbrev pub run_on : PoolState → BotRow → Option TaskRow
+run_on s bot = option_and_then (task_of s) bot.task
+
+abbrev pub try_of : TaskRow → ℕ
+try_of task = option_map_or (λ attempt. attempt.try_no) task.attempt 0
+
+abbrev pub busy : TaskRow → Told
+busy task = refuses (rule.BotBusy task.no (try_of task))
+
+-- the seconds of a bot's next nap
+abbrev pub nap : BotRow → ℕ
+nap bot = min 60 (2 ^ min bot.streak 6)
+
+-- what an entry holds of a value: nothing where it is as it was
+abbrev pub dims_unless : BotDims → BotDims → Option BotDims
+dims_unless old new = if same_dims old new then None else Some new
+
+abbrev pub text_unless : List ℕ → List ℕ → Option Text
+text_unless old new = if same old new then None else Some new
+
+abbrev pub polls : BotRow → BotDims → List ℕ → Bool → Reply → Told
+polls bot dims quarantined hint answer =
+    answers answer (kind.Poll bot.no (dims_unless bot.dims dims) (text_unless bot.quarantined quarantined) hint)
+
+abbrev pub poll : PoolState → BotDims → List ℕ → BotRow → Told
+poll s dims quarantined bot =
+    when bot.dead (refuses (rule.BotUnfit unfit.Dead))
+    otherwise option_map busy (run_on s bot)
+    otherwise when bot.terminating (polls bot dims quarantined false reply.Terminate)
+    otherwise when (not (is_empty quarantined)) (polls bot dims quarantined false (reply.Sleep (nap bot)))
+    otherwise when (is_some (first s dims)) (polls bot dims quarantined true reply.ClaimHint)
+    otherwise polls bot dims quarantined false (reply.Sleep (nap bot))
+
+abbrev pub is_claim : ℕ → List ℕ → Attempt → Bool
+is_claim bot claim attempt = attempt.bot == bot && same attempt.claim claim
+
+abbrev pub is_claimed : ℕ → List ℕ → TaskRow → Bool
+is_claimed bot claim task = option_map_or (is_claim bot claim) task.attempt false
+
+-- the task that the bot claimed under this id
+abbrev pub claimed : PoolState → ℕ → List ℕ → Option TaskRow
+claimed s bot claim = find (is_claimed bot claim) s.tasks
+
+abbrev pub run_from : TaskRow → Slice → Reply
+run_from task slice = reply.Run task.no 1 task.slice task.request.bot_ping_tolerance_secs slice.properties
+
+-- the run of the current slice
+abbrev pub run : TaskRow → Reply
+run task = option_map_or (run_from task) (current_slice task) reply.Skip
+
+abbrev pub claim_again : BotRow → TaskRow → Told
+claim_again bot task =
+    if is_final task.state
+    then refuses (rule.ClaimOver task.no (try_of task) task.state)
+    else answers (run task) (kind.Contact bot.no)
+
+-- why a bot gets no work
+abbrev pub unfit_of : BotRow → Option Unfit
+unfit_of bot =
+    when bot.dead unfit.Dead
+    or_else when (not (is_empty bot.quarantined)) unfit.Quarantined
+    or_else when bot.terminating unfit.Terminating
+
+abbrev pub unfit_told : Unfit → Told
+unfit_told why = refuses (rule.BotUnfit why)
+
+abbrev pub claims : BotRow → List ℕ → TaskRow → Told
+claims bot id task = answers (run task) (kind.Claim bot.no task.no id)
+
+abbrev pub claim : PoolState → List ℕ → BotRow → Told
+claim s id bot =
+    option_map (claim_again bot) (claimed s bot.no id)
+    otherwise option_map unfit_told (unfit_of bot)
+    otherwise option_map busy (run_on s bot)
+    otherwise option_map (claims bot id) (first s bot.dims)
+    otherwise answers reply.Skip (kind.Contact bot.no)
+
+abbrev pub event : EventKind → List ℕ → BotRow → Told
+event which message bot =
+    when (bot.dead && is_none bot.task) (unfit_told unfit.Dead)
+    otherwise answers reply.Noted (kind.Event bot.no which message)
+
+abbrev pub terminate : BotRow → Told
+terminate bot = if bot.terminating then says reply.Terminating else answers reply.Terminating (kind.Terminate bot.no)
+
+-- ---- all requests
+
 -- what a caller is told at a moment
 abbrev pub tell : PoolState → List ℕ → ℕ → Request → Told
 tell s who moment (ask.New request) = new_task s who request
-tell s who moment (ask.Result task try_no) = with (named_task s task try_no) rule.NoTask result_of
+tell s who moment (ask.Result task try_no) = with (named_task s task try_no) rule.NoTask (result_of s)
 tell s who moment (ask.Count state) = count_tasks s state
+tell s who moment (ask.Handshake bot session dims quarantined) = handshake s bot session dims quarantined
+tell s who moment (ask.Poll bot dims quarantined) = with (bot_named s bot) rule.NoBot (poll s dims quarantined)
+tell s who moment (ask.Claim bot id) = with (bot_named s bot) rule.NoBot (claim s id)
+tell s who moment (ask.Event bot which message) = with (bot_named s bot) rule.NoBot (event which message)
+tell s who moment (ask.Terminate bot) = with (bot_named s bot) rule.NoBot terminate
 
 abbrev pub entry_at : ℕ → ℕ → EntryKind → Entry
 entry_at moment pass kind = record { moment = moment; pass = pass; kind = kind }

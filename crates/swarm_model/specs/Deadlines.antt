@@ -1,11 +1,12 @@
 -- What runs out, and when.
-use Rattle.std.specs.Prelude.{ℕ, Bool, ◌+◌, ◌==◌, ◌&&◌, ◌||◌, nat_le, nat_lt, List, length, Option, Some, None, if◌then◌else◌}
+use Rattle.std.specs.Prelude.{ℕ, Bool, ◌+◌, ◌==◌, ◌&&◌, ◌||◌, nat_le, nat_lt, List, ◌++◌, length, Option, Some, None, if◌then◌else◌}
 use Rattle.std.specs.List.{filter_map, fold}
 use Rattle.std.specs.Option.{option_map, option_map_or, option_and_then}
 use Rattle.task_props.specs.declared.slice.Slice.{Slice}
 use Rattle.swarm_model.specs.declared.task_state.TaskState.{TaskState}
-use Rattle.swarm_model.specs.declared.task_state.TaskState.TheVariants.{Pending, Expired, NoResource}
+use Rattle.swarm_model.specs.declared.task_state.TaskState.TheVariants.{Pending, Running, Expired, NoResource}
 use Rattle.swarm_model.specs.declared.task_row.TaskRow.{TaskRow}
+use Rattle.swarm_model.specs.declared.bot_row.BotRow.{BotRow}
 use Rattle.swarm_model.specs.declared.pool_state.PoolState.{PoolState}
 use Rattle.swarm_model.specs.declared.deadline.Cause.{Cause}
 use Rattle.swarm_model.specs.declared.deadline.Cause.TheVariants as cause
@@ -15,12 +16,14 @@ use Rattle.swarm_model.specs.declared.entry.EntryKind.{EntryKind}
 use Rattle.swarm_model.specs.declared.entry.EntryKind.TheVariants as kind
 use Rattle.swarm_model.specs.declared.entry.Outcome.{Outcome}
 use Rattle.swarm_model.specs.declared.entry.Outcome.TheVariants as outcome
-use Rattle.swarm_model.specs.Finding.{has_state, task_of}
+use Rattle.swarm_model.specs.Finding.{has_state, task_of, bot_of}
 use Rattle.swarm_model.specs.Slices.{admit, current_slice}
 
 -- the place of a cause among those of one moment
 abbrev pub rank : Cause → ℕ
 rank cause.Slice = 1
+rank cause.Silence = 2
+rank cause.Bot = 3
 
 -- the deadline of a slice to which a task came
 abbrev pub slice_limit : TaskRow → Slice → Deadline
@@ -30,8 +33,24 @@ slice_limit task slice = record { moment = task.since + slice.expiration_secs; c
 abbrev pub slice_end : TaskRow → Option Deadline
 slice_end task = if has_state Pending task then option_map (slice_limit task) (current_slice task) else None
 
+-- the bot of a run
+abbrev pub runner_of : PoolState → TaskRow → Option BotRow
+runner_of s task = option_and_then (λ attempt. bot_of s attempt.bot) task.attempt
+
+-- the deadline of a run whose bot keeps silent
+abbrev pub silence_limit : TaskRow → BotRow → Deadline
+silence_limit task bot = record { moment = bot.contact + task.request.bot_ping_tolerance_secs; cause = cause.Silence; number = task.no }
+
+abbrev pub silence_end : PoolState → TaskRow → Option Deadline
+silence_end s task = if has_state Running task then option_map (silence_limit task) (runner_of s task) else None
+
+-- a bot that isn't heard counts as dead in the end
+abbrev pub bot_end : PoolState → BotRow → Option Deadline
+bot_end s bot =
+    if bot.dead then None else Some (record { moment = bot.contact + s.settings.death_timeout_secs; cause = cause.Bot; number = bot.no })
+
 abbrev pub deadlines : PoolState → List Deadline
-deadlines s = filter_map slice_end s.tasks
+deadlines s = filter_map slice_end s.tasks ++ (filter_map (silence_end s) s.tasks ++ filter_map (bot_end s) s.bots)
 
 -- by moment, then cause, then number
 abbrev pub is_earlier : Deadline → Deadline → Bool
@@ -71,6 +90,8 @@ next_of s task = option_map_or outcome.Slice (admit s task.request.task_slices (
 -- what the log says of a deadline
 abbrev pub settled : PoolState → Cause → ℕ → EntryKind
 settled s cause.Slice number = kind.Slice number (option_map_or (next_of s) (task_of s number) (outcome.Ended NoResource))
+settled s cause.Silence number = kind.Silence number
+settled s cause.Bot number = kind.Dead number
 
 abbrev pub entry_of : PoolState → ℕ → Deadline → Entry
 entry_of s pass d = record { moment = d.moment; pass = pass; kind = settled s d.cause d.number }

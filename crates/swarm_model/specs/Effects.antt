@@ -1,30 +1,48 @@
--- What each entry of the log does to the pool.
-use Rattle.std.specs.Prelude.{ℕ, ◌-◌, List, [], ◌∷◌, ◌++◌, map, length, Option, Some, None, if◌then◌else◌}
+-- What each entry of the log does to the pool, row by row.
+use Rattle.std.specs.Prelude.{ℕ, Bool, true, false, ◌+◌, ◌-◌, ◌==◌, ◌&&◌, ◌||◌, not, min, List, [], ◌∷◌, ◌++◌, map, length, Option, Some, None, is_some, unwrap_or, if◌then◌else◌}
+use Rattle.std.specs.List.{filter}
+use Rattle.std.specs.Option.{option_map, option_map_or, option_and_then}
+use Rattle.dimensions.specs.declared.text.Text.{Text}
+use Rattle.dimensions.specs.declared.bot_dims.BotDims.{BotDims}
+use Rattle.dimensions.specs.Alike.{same}
 use Rattle.task_props.specs.declared.new_task.NewTask.{NewTask}
 use Rattle.swarm_model.specs.declared.task_state.TaskState.{TaskState}
-use Rattle.swarm_model.specs.declared.task_state.TaskState.TheVariants.{Pending}
+use Rattle.swarm_model.specs.declared.task_state.TaskState.TheVariants.{Pending, Running, TimedOut, BotDied, Canceled, Completed, Killed}
+use Rattle.swarm_model.specs.declared.attempt.Attempt.{Attempt}
+use Rattle.swarm_model.specs.declared.attempt.Chunk.{Chunk}
+use Rattle.swarm_model.specs.declared.attempt.Last.{Last}
 use Rattle.swarm_model.specs.declared.task_row.TaskRow.{TaskRow}
+use Rattle.swarm_model.specs.declared.bot_row.BotRow.{BotRow}
+use Rattle.swarm_model.specs.declared.blob_row.BlobRow.{BlobRow}
 use Rattle.swarm_model.specs.declared.pool_state.PoolState.{PoolState}
 use Rattle.swarm_model.specs.declared.pool_settings.PoolSettings.{PoolSettings}
 use Rattle.swarm_model.specs.declared.entry.Entry.{Entry}
 use Rattle.swarm_model.specs.declared.entry.EntryKind.{EntryKind}
 use Rattle.swarm_model.specs.declared.entry.EntryKind.TheVariants as kind
+use Rattle.swarm_model.specs.declared.entry.EventKind.{EventKind}
+use Rattle.swarm_model.specs.declared.entry.EventKind.TheVariants as event
 use Rattle.swarm_model.specs.declared.entry.Outcome.{Outcome}
 use Rattle.swarm_model.specs.declared.entry.Outcome.TheVariants as outcome
-use Rattle.swarm_model.specs.Finding.{is_state}
+use Rattle.swarm_model.specs.Finding.{is_state, task_of, bot_of, blob_of}
 use Rattle.swarm_model.specs.Numbers.{change_at}
+use Rattle.swarm_model.specs.Region.{least_place, units_of}
 
 -- a pool before its first entry
 abbrev pub opening : PoolSettings → PoolState
 opening settings = record { settings = settings; last = 0; tasks = []; bots = []; blobs = []; placed = 0 }
+
+-- ---- tasks
+
+abbrev pub no_of_task : TaskRow → ℕ
+no_of_task task = task.no
 
 -- the moment at which a task ends that is accepted in a state
 abbrev pub end_at : TaskState → ℕ → Option ℕ
 end_at state moment = if is_state state Pending then None else Some moment
 
 -- the row of a task that is accepted
-abbrev pub new_row : ℕ → ℕ → List ℕ → NewTask → TaskState → ℕ → TaskRow
-new_row moment t who request state slice =
+abbrev pub new_row : ℕ → ℕ → List ℕ → NewTask → TaskState → ℕ → Option ℕ → TaskRow
+new_row moment t who request state slice from =
     record {
       no = t;
       creator = who;
@@ -33,13 +51,10 @@ new_row moment t who request state slice =
       state = state;
       slice = slice;
       since = moment;
+      attempt = None;
+      source = from;
       ended = end_at state moment;
     }
-
--- the task rows that an entry adds
-abbrev pub added_tasks : ℕ → EntryKind → List TaskRow
-added_tasks moment (kind.Slice t to) = []
-added_tasks moment (kind.New t who request state slice) = new_row moment t who request state slice ∷ []
 
 -- the task comes to another slice, or ends at its last one
 abbrev pub moved : ℕ → Outcome → TaskRow → TaskRow
@@ -47,18 +62,262 @@ moved moment (outcome.Slice place) task = record task { slice = place; since = m
 moved moment (outcome.Ended state) task =
     record task { state = state; slice = length task.request.task_slices - 1; ended = Some moment }
 
-abbrev pub no_of_task : TaskRow → ℕ
-no_of_task task = task.no
+-- the state in which a run ends: killed, where it was asked to stop
+abbrev pub end_state : Option Attempt → TaskState → TaskState
+end_state None state = state
+end_state (Some attempt) state = if attempt.kill then Killed else state
+
+-- the run ends without a last update
+abbrev pub lost : ℕ → TaskRow → TaskRow
+lost moment task = record task { state = end_state task.attempt BotDied; ended = Some moment }
+
+abbrev pub canceled : ℕ → TaskRow → TaskRow
+canceled moment task = record task { state = Canceled; ended = Some moment }
+
+abbrev pub killed : Attempt → Attempt
+killed attempt = record attempt { kill = true }
+
+-- the run is asked to stop
+abbrev pub kill_marked : TaskRow → TaskRow
+kill_marked task = record task { attempt = option_map killed task.attempt }
+
+-- a bot begins the task
+abbrev pub begun : ℕ → ℕ → List ℕ → TaskRow → TaskRow
+begun moment bot claim task =
+    record task {
+      state = Running;
+      attempt = Some (record {
+        try_no = 1;
+        bot = bot;
+        claim = claim;
+        begun = moment;
+        kill = false;
+        chunks = [];
+        length = 0;
+        last = None;
+        last_chunk = None;
+      });
+    }
+
+-- the chunk of an update, where it goes on from the output that is kept
+abbrev pub fresh_chunk : Option Attempt → Option Chunk → Option Chunk
+fresh_chunk None chunk = None
+fresh_chunk (Some attempt) None = None
+fresh_chunk (Some attempt) (Some chunk) = if chunk.start == attempt.length then Some chunk else None
+
+abbrev pub longer : Chunk → Attempt → Attempt
+longer chunk attempt = record attempt { chunks = attempt.chunks ++ chunk ∷ []; length = attempt.length + chunk.size }
+
+-- the output of the run goes on by a chunk
+abbrev pub lengthened : Chunk → TaskRow → TaskRow
+lengthened chunk task = record task { attempt = option_map (longer chunk) task.attempt }
+
+-- the state that a last update reports
+abbrev pub reported : Last → TaskState
+reported last = if last.hard_timeout || last.io_timeout then TimedOut else Completed
+
+abbrev pub closed : Option Chunk → Last → Attempt → Attempt
+closed chunk last attempt = record attempt { last = Some last; last_chunk = chunk }
+
+-- the run ends with a last update
+abbrev pub finished : ℕ → Option Chunk → Last → TaskRow → TaskRow
+finished moment chunk last task =
+    record task {
+      state = end_state task.attempt (reported last);
+      attempt = option_map (closed chunk last) task.attempt;
+      ended = Some moment;
+    }
+
+-- a change of the row that has the number, where there is a number or a value
+abbrev pub if_some : {A R : Type 0} → (A → R → R) → Option A → R → R
+if_some change None row = row
+if_some change (Some value) row = change value row
+
+abbrev pub task_at : ℕ → (TaskRow → TaskRow) → TaskRow → TaskRow
+task_at number change task = change_at no_of_task number change task
+
+-- the task that a bot runs is lost
+abbrev pub lost_at : ℕ → ℕ → TaskRow → TaskRow
+lost_at moment number task = task_at number (lost moment) task
+
+abbrev pub run_of_bot : PoolState → ℕ → Option ℕ
+run_of_bot s number = option_and_then (λ bot. bot.task) (bot_of s number)
+
+abbrev pub attempt_of : PoolState → ℕ → Option Attempt
+attempt_of s number = option_and_then (λ task. task.attempt) (task_of s number)
+
+abbrev pub chunk_at : ℕ → Chunk → TaskRow → TaskRow
+chunk_at number chunk task = task_at number (lengthened chunk) task
+
+abbrev pub finished_at : ℕ → ℕ → Option Chunk → Last → TaskRow → TaskRow
+finished_at moment number chunk last task = task_at number (finished moment chunk last) task
 
 -- the row of a task after an entry
-abbrev pub task_after : ℕ → EntryKind → TaskRow → TaskRow
-task_after moment (kind.Slice t to) task = change_at no_of_task t (moved moment to) task
-task_after moment (kind.New t who request state slice) task = task
+abbrev pub task_after : PoolState → ℕ → EntryKind → TaskRow → TaskRow
+task_after s moment (kind.Slice t to) task = task_at t (moved moment to) task
+task_after s moment (kind.Silence t) task = task_at t (lost moment) task
+task_after s moment (kind.Cancel t) task = task_at t (canceled moment) task
+task_after s moment (kind.Kill t) task = task_at t kill_marked task
+task_after s moment (kind.Handshake b id session dims q) task = if_some (lost_at moment) (run_of_bot s b) task
+task_after s moment (kind.Claim b t claim) task = task_at t (begun moment b claim) task
+task_after s moment (kind.Update b t try_no chunk last) task =
+    if_some (finished_at moment t chunk) last (if_some (chunk_at t) (fresh_chunk (attempt_of s t) chunk) task)
+task_after s moment entry task = task
+
+-- the task rows that an entry adds
+abbrev pub added_tasks : ℕ → EntryKind → List TaskRow
+added_tasks moment (kind.New t who request state slice from) = new_row moment t who request state slice from ∷ []
+added_tasks moment entry = []
+
+-- ---- bots
+
+abbrev pub no_of_bot : BotRow → ℕ
+no_of_bot bot = bot.no
+
+abbrev pub bot_at : ℕ → (BotRow → BotRow) → BotRow → BotRow
+bot_at number change bot = change_at no_of_bot number change bot
+
+-- the bot was heard; where it has a run, it is not dead
+abbrev pub heard : ℕ → BotRow → BotRow
+heard moment bot = record bot { contact = moment; dead = bot.dead && not (is_some bot.task) }
+
+-- the number of naps in a row, after a poll
+abbrev pub streak_after : Bool → BotRow → ℕ
+streak_after true bot = 0
+streak_after false bot = if bot.terminating then bot.streak else min 63 (bot.streak + 1)
+
+-- the bot asked what to do
+abbrev pub polled : ℕ → Option BotDims → Option Text → Bool → BotRow → BotRow
+polled moment dims quarantined hint bot =
+    record (heard moment bot) {
+      dims = unwrap_or dims bot.dims;
+      quarantined = unwrap_or quarantined bot.quarantined;
+      streak = streak_after hint bot;
+    }
+
+abbrev pub told : EventKind → List ℕ → BotRow → BotRow
+told event.Ping message bot = bot
+told event.Quarantine message bot = record bot { quarantined = message }
+told event.Unquarantine message bot = record bot { quarantined = [] }
+
+-- the bot told of itself
+abbrev pub noted : ℕ → EventKind → List ℕ → BotRow → BotRow
+noted moment which message bot = told which message (heard moment bot)
+
+-- the row of a bot that comes with a new session
+abbrev pub greeted : ℕ → ℕ → List ℕ → List ℕ → BotDims → List ℕ → BotRow
+greeted moment number name session dims quarantined =
+    record {
+      no = number;
+      name = name;
+      session = session;
+      dims = dims;
+      contact = moment;
+      streak = 0;
+      quarantined = quarantined;
+      dead = false;
+      terminating = false;
+      task = None;
+    }
+
+-- the bot runs a task
+abbrev pub busied : ℕ → ℕ → BotRow → BotRow
+busied moment task bot = record (heard moment bot) { task = Some task }
+
+-- the bot is done with its task
+abbrev pub freed : BotRow → BotRow
+freed bot = record bot { task = None }
+
+-- the bot is silent, and its run is lost
+abbrev pub hushed : BotRow → BotRow
+hushed bot = record bot { dead = true; task = None }
+
+abbrev pub deadened : BotRow → BotRow
+deadened bot = record bot { dead = true }
+
+abbrev pub terminated : BotRow → BotRow
+terminated bot = record bot { terminating = true }
+
+abbrev pub runs_task : ℕ → BotRow → Bool
+runs_task number bot = option_map_or (λ task. task == number) bot.task false
+
+abbrev pub freed_at : ℕ → Last → BotRow → BotRow
+freed_at number last bot = bot_at number freed bot
+
+-- the row of a bot after an entry
+abbrev pub bot_after : ℕ → EntryKind → BotRow → BotRow
+bot_after moment (kind.Silence t) bot = if runs_task t bot then hushed bot else bot
+bot_after moment (kind.Dead b) bot = bot_at b deadened bot
+bot_after moment (kind.Handshake b id session dims q) bot = bot_at b (λ old. greeted moment b id session dims q) bot
+bot_after moment (kind.Poll b dims q hint) bot = bot_at b (polled moment dims q hint) bot
+bot_after moment (kind.Claim b t claim) bot = bot_at b (busied moment t) bot
+bot_after moment (kind.Contact b) bot = bot_at b (heard moment) bot
+bot_after moment (kind.Event b e text) bot = bot_at b (noted moment e text) bot
+bot_after moment (kind.Update b t try_no chunk last) bot = if_some (freed_at b) last (bot_at b (heard moment) bot)
+bot_after moment (kind.Terminate b) bot = bot_at b terminated bot
+bot_after moment entry bot = bot
+
+-- the row of a bot that comes for the first time
+abbrev pub added_bots : PoolState → ℕ → EntryKind → List BotRow
+added_bots s moment (kind.Handshake b id session dims q) =
+    option_map_or (λ old. []) (bot_of s b) (greeted moment b id session dims q ∷ [])
+added_bots s moment entry = []
+
+-- ---- blobs
+
+abbrev pub life : PoolState → ℕ
+life s = s.settings.blob_life_secs
+
+abbrev pub renewed : ℕ → BlobRow → BlobRow
+renewed deadline blob = record blob { deadline = deadline }
+
+abbrev pub renewed_until : ℕ → Text → BlobRow → BlobRow
+renewed_until deadline digest blob = if same blob.digest digest then renewed deadline blob else blob
+
+abbrev pub longer_kept : ℕ → ℕ → BlobRow → BlobRow
+longer_kept secs number blob = if blob.no == number then renewed (blob.deadline + secs) blob else blob
+
+abbrev pub is_other : ℕ → BlobRow → Bool
+is_other number blob = not (blob.no == number)
+
+abbrev pub place_for : PoolState → ℕ → Option ℕ
+place_for s size = least_place (map (λ blob. blob.extent) s.blobs) s.settings.store_units (units_of size)
+
+abbrev pub new_blob : PoolState → ℕ → Text → ℕ → ℕ → BlobRow
+new_blob s moment digest size place =
+    record {
+      no = s.placed + 1;
+      digest = digest;
+      size = size;
+      extent = record { at = place; units = units_of size };
+      deadline = moment + life s;
+    }
+
+-- a blob is put: it is renewed where it is present, and placed where it is not
+abbrev pub put : PoolState → ℕ → Text → ℕ → PoolState
+put s moment digest size =
+    option_map_or (λ blob. record s { blobs = map (renewed_until (moment + life s) digest) s.blobs }) (blob_of s digest)
+    (option_map_or (λ place. record s { blobs = s.blobs ++ new_blob s moment digest size place ∷ []; placed = s.placed + 1 }) (place_for s size) s)
+
+abbrev pub put_chunk : PoolState → ℕ → Option Chunk → PoolState
+put_chunk s moment None = s
+put_chunk s moment (Some chunk) = put s moment chunk.digest chunk.size
+
+-- the pool with its blobs as an entry leaves them
+abbrev pub with_blobs : PoolState → ℕ → EntryKind → PoolState
+with_blobs s moment (kind.Blob n true) = record s { blobs = map (longer_kept (life s) n) s.blobs }
+with_blobs s moment (kind.Blob n false) = record s { blobs = filter (is_other n) s.blobs }
+with_blobs s moment (kind.Update b t try_no chunk last) = put_chunk s moment (fresh_chunk (attempt_of s t) chunk)
+with_blobs s moment (kind.Put digest size) = put s moment digest size
+with_blobs s moment entry = s
+
+-- ---- the pool
 
 -- the pool after an entry
 abbrev pub after : PoolState → Entry → PoolState
 after s entry =
-    record s {
+    record (with_blobs s entry.moment entry.kind) {
       last = entry.moment;
-      tasks = map (task_after entry.moment entry.kind) s.tasks ++ added_tasks entry.moment entry.kind;
+      tasks = map (task_after s entry.moment entry.kind) s.tasks ++ added_tasks entry.moment entry.kind;
+      bots = map (bot_after entry.moment entry.kind) s.bots ++ added_bots s entry.moment entry.kind;
     }

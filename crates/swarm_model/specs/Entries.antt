@@ -1,17 +1,25 @@
 -- How much an entry weighs, and which request it stands for.
-use Rattle.std.specs.Prelude.{ℕ, ◌+◌, List, length, Option, Some, None, Bool, true, false}
+use Rattle.std.specs.Prelude.{ℕ, ◌+◌, List, [], length, Option, Some, None, unwrap_or, Bool, true, false}
 use Rattle.std.specs.List.{sum_by}
+use Rattle.std.specs.Option.{option_map, option_map_or}
+use Rattle.dimensions.specs.declared.text.Text.{Text}
+use Rattle.dimensions.specs.declared.bot_dims.BotDims.{BotDims}
 use Rattle.task_props.specs.declared.file.File.{File}
 use Rattle.task_props.specs.declared.cache.Cache.{Cache}
 use Rattle.task_props.specs.declared.properties.Properties.{Properties}
 use Rattle.task_props.specs.declared.slice.Slice.{Slice}
 use Rattle.task_props.specs.declared.new_task.NewTask.{NewTask}
+use Rattle.swarm_model.specs.declared.attempt.Chunk.{Chunk}
+use Rattle.swarm_model.specs.declared.attempt.Last.{Last}
+use Rattle.swarm_model.specs.declared.bot_row.BotRow.{BotRow}
+use Rattle.swarm_model.specs.declared.entry.EventKind.{EventKind}
 use Rattle.swarm_model.specs.declared.pool_state.PoolState.{PoolState}
 use Rattle.swarm_model.specs.declared.entry.Entry.{Entry}
 use Rattle.swarm_model.specs.declared.entry.EntryKind.{EntryKind}
 use Rattle.swarm_model.specs.declared.entry.EntryKind.TheVariants as kind
 use Rattle.swarm_model.specs.declared.request.Request.{Request}
 use Rattle.swarm_model.specs.declared.request.Request.TheVariants as ask
+use Rattle.swarm_model.specs.Finding.{bot_of}
 
 -- what a digest with its size weighs
 abbrev pub digest_weight : ℕ
@@ -37,10 +45,28 @@ slice_weight slice = properties_weight slice.properties
 abbrev pub task_weight : NewTask → ℕ
 task_weight request = length request.name + (length request.request_uuid + sum_by slice_weight request.task_slices)
 
+abbrev pub values_weight : List ℕ × List (List ℕ) → ℕ
+values_weight pair = length pair.0 + sum_by length pair.1
+
+abbrev pub dims_weight : BotDims → ℕ
+dims_weight dims = sum_by values_weight dims
+
+abbrev pub chunk_weight : Chunk → ℕ
+chunk_weight chunk = digest_weight
+
+abbrev pub last_weight : Last → ℕ
+last_weight last = sum_by file_weight last.files
+
 -- the bytes of all texts in it, and 36 for each digest
 abbrev pub weight_of : EntryKind → ℕ
-weight_of (kind.Slice t to) = 0
-weight_of (kind.New t who request state slice) = length who + task_weight request
+weight_of (kind.New t who request state slice from) = length who + task_weight request
+weight_of (kind.Handshake b id session dims q) = length id + (length session + (dims_weight dims + length q))
+weight_of (kind.Poll b dims q hint) = option_map_or dims_weight dims 0 + option_map_or length q 0
+weight_of (kind.Claim b t claim) = length claim
+weight_of (kind.Event b e text) = length text
+weight_of (kind.Update b t try_no chunk last) = option_map_or chunk_weight chunk 0 + option_map_or last_weight last 0
+weight_of (kind.Put digest size) = digest_weight
+weight_of entry = 0
 
 abbrev pub weight : Entry → ℕ
 weight entry = weight_of entry.kind
@@ -53,9 +79,37 @@ pub record Asked : Type 0 where
 -- whether the entry is that of a deadline
 abbrev pub is_deadline : EntryKind → Bool
 is_deadline (kind.Slice t to) = true
-is_deadline (kind.New t who request state slice) = false
+is_deadline (kind.Silence t) = true
+is_deadline (kind.Dead b) = true
+is_deadline (kind.Blob n kept) = true
+is_deadline entry = false
 
--- the request for which an entry stands
+-- a request whose caller is not kept; no answer looks at it
+abbrev pub by_nobody : Request → Asked
+by_nobody request = record { who = []; request = request }
+
+abbrev pub poll_of : Option BotDims → Option Text → BotRow → Asked
+poll_of dims q bot = by_nobody (ask.Poll bot.name (unwrap_or dims bot.dims) (unwrap_or q bot.quarantined))
+
+abbrev pub claim_of : List ℕ → BotRow → Asked
+claim_of claim bot = by_nobody (ask.Claim bot.name claim)
+
+abbrev pub handshake_of : BotRow → Asked
+handshake_of bot = by_nobody (ask.Handshake bot.name bot.session bot.dims bot.quarantined)
+
+abbrev pub event_of : EventKind → List ℕ → BotRow → Asked
+event_of which message bot = by_nobody (ask.Event bot.name which message)
+
+abbrev pub terminate_of : BotRow → Asked
+terminate_of bot = by_nobody (ask.Terminate bot.name)
+
+-- the request for which an entry stands; none, where it is a deadline's, or no request adds it yet
 abbrev pub asks : PoolState → EntryKind → Option Asked
-asks s (kind.Slice t to) = None
-asks s (kind.New t who request state slice) = Some (record { who = who; request = ask.New request })
+asks s (kind.New t who request state slice from) = Some (record { who = who; request = ask.New request })
+asks s (kind.Handshake b id session dims q) = Some (by_nobody (ask.Handshake id session dims q))
+asks s (kind.Poll b dims q hint) = option_map (poll_of dims q) (bot_of s b)
+asks s (kind.Claim b t claim) = option_map (claim_of claim) (bot_of s b)
+asks s (kind.Contact b) = option_map handshake_of (bot_of s b)
+asks s (kind.Event b e text) = option_map (event_of e text) (bot_of s b)
+asks s (kind.Terminate b) = option_map terminate_of (bot_of s b)
+asks s entry = None

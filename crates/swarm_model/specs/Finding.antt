@@ -1,5 +1,5 @@
 -- The rows of a pool by their states, numbers and places.
-use Rattle.std.specs.Prelude.{ℕ, Bool, true, false, ◌==◌, Option, Some, None, slice_get, List}
+use Rattle.std.specs.Prelude.{ℕ, Bool, true, false, not, ◌&&◌, ◌==◌, Option, Some, None, slice_get, List}
 use Rattle.std.specs.List.{find}
 use Rattle.std.specs.Option.{option_map_or}
 use Rattle.dimensions.specs.Alike.{same}
@@ -36,6 +36,10 @@ is_wanted (Some state) task = has_state state task
 abbrev pub is_task : ℕ → TaskRow → Bool
 is_task number task = task.no == number
 
+-- every state but the first two
+abbrev pub is_final : TaskState → Bool
+is_final state = not (is_state state Pending) && not (is_state state Running)
+
 abbrev pub is_bot : ℕ → BotRow → Bool
 is_bot number bot = bot.no == number
 
@@ -47,6 +51,12 @@ has_digest digest blob = same blob.digest digest
 
 abbrev pub task_of : PoolState → ℕ → Option TaskRow
 task_of s number = find (is_task number) s.tasks
+
+abbrev pub is_called : List ℕ → BotRow → Bool
+is_called name bot = same bot.name name
+
+abbrev pub bot_named : PoolState → List ℕ → Option BotRow
+bot_named s name = find (is_called name) s.bots
 
 abbrev pub bot_of : PoolState → ℕ → Option BotRow
 bot_of s number = find (is_bot number) s.bots

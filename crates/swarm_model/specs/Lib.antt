@@ -7,6 +7,7 @@ pub mod Slices
 pub mod Views
 pub mod Answers
 pub mod Entries
+pub mod Region
 pub mod Effects
 pub mod Deadlines
 pub mod History

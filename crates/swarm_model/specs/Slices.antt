@@ -1,13 +1,16 @@
--- Which slice a task comes to.
-use Rattle.std.specs.Prelude.{ℕ, Bool, ◌&&◌, ◌||◌, not, List, drop, Option, slice_get}
-use Rattle.std.specs.List.{list_any, position_from}
+-- Which slice a task comes to, and which task a bot gets.
+use Rattle.std.specs.Prelude.{ℕ, Bool, false, ◌==◌, ◌&&◌, ◌||◌, not, nat_lt, List, drop, length, Option, Some, None, slice_get, if◌then◌else◌}
+use Rattle.std.specs.List.{list_any, filter, fold, position_from}
 use Rattle.dimensions.specs.declared.dim_set.DimSet.{DimSet}
+use Rattle.dimensions.specs.declared.bot_dims.BotDims.{BotDims}
 use Rattle.dimensions.specs.Rules.{is_empty}
 use Rattle.dimensions.specs.Matching.{matches}
 use Rattle.task_props.specs.declared.slice.Slice.{Slice}
+use Rattle.swarm_model.specs.declared.task_state.TaskState.TheVariants.{Pending}
 use Rattle.swarm_model.specs.declared.task_row.TaskRow.{TaskRow}
 use Rattle.swarm_model.specs.declared.bot_row.BotRow.{BotRow}
 use Rattle.swarm_model.specs.declared.pool_state.PoolState.{PoolState}
+use Rattle.swarm_model.specs.Finding.{has_state}
 
 -- a bot that may take work, now or once it is done with what it runs
 abbrev pub is_fit : BotRow → Bool
@@ -31,3 +34,24 @@ admit s slices place = position_from (is_open s) place (drop place slices)
 -- the slice that a task has come to
 abbrev pub current_slice : TaskRow → Option Slice
 current_slice task = slice_get task.request.task_slices task.slice
+
+abbrev pub takes_slice : BotDims → Option Slice → Bool
+takes_slice dims None = false
+takes_slice dims (Some slice) = matches dims slice.properties.dimensions
+
+-- a pending task whose current slice a bot of these dimensions matches
+abbrev pub waits_for : BotDims → TaskRow → Bool
+waits_for dims task = has_state Pending task && takes_slice dims (current_slice task)
+
+-- the task with the lower priority number, or at equal ones the lower number
+abbrev pub goes_before : TaskRow → TaskRow → Bool
+goes_before a b = nat_lt a.request.priority b.request.priority || (a.request.priority == b.request.priority && nat_lt a.no b.no)
+
+-- the task that goes before the others so far, where one more is looked at
+abbrev pub foremost : Option TaskRow → TaskRow → Option TaskRow
+foremost None task = Some task
+foremost (Some best) task = if goes_before task best then Some task else Some best
+
+-- the task that a bot of these dimensions gets
+abbrev pub first : PoolState → BotDims → Option TaskRow
+first s dims = fold foremost None (filter (waits_for dims) s.tasks)

@@ -1,7 +1,7 @@
-use crate::TaskState;
-use dimensions::{Text, TryCopy};
+use crate::{Chunk, Last, TaskState};
+use dimensions::{BotDims, Text, TryCopy};
 use std::alloc::{AllocError, Global};
-use task_props::NewTask;
+use task_props::{Digest, NewTask};
 
 /// What becomes of a task whose slice has run out.
 #[derive(Clone, Copy, Debug, PartialEq, Eq)]
@@ -12,22 +12,72 @@ pub enum Outcome {
     Ended(TaskState),
 }
 
-/// What happened to a pool. Tasks are named by their numbers.
+/// What a bot tells of itself.
+#[derive(Clone, Copy, Debug, PartialEq, Eq)]
+pub enum EventKind {
+    Ping,
+    /// The bot takes no work, for the reason of its message.
+    Quarantine,
+    Unquarantine,
+}
+
+/// What happened to a pool. Tasks, bots and blobs are named by their numbers.
 #[derive(Drop)]
 pub enum EntryKind {
     /// The slice of a task ran out.
-    Slice {
-        t: u32,
-        to: Outcome,
-    },
-    /// A task was accepted, in this state and at this slice.
+    Slice { t: u32, to: Outcome },
+    /// The bot of a running task kept silent for too long.
+    Silence { t: u32 },
+    /// A bot was silent for so long that it counts as dead.
+    Dead { b: u32 },
+    /// The life of a blob ran out; it is kept where a task needs it still.
+    Blob { n: u32, kept: bool },
+    /// A task was accepted, in this state and at this slice, or with the outcome of another task.
     New {
         t: u32,
         who: Text,
         request: NewTask,
         state: TaskState,
         slice: u32,
+        from: Option<u32>,
     },
+    /// A pending task was canceled.
+    Cancel { t: u32 },
+    /// A running task was asked to stop.
+    Kill { t: u32 },
+    /// A bot came, with a new session.
+    Handshake {
+        b: u32,
+        id: Text,
+        session: Text,
+        dims: BotDims,
+        q: Text,
+    },
+    /// A bot asked what to do; its dimensions and its quarantine, where they changed.
+    Poll {
+        b: u32,
+        dims: Option<BotDims>,
+        q: Option<Text>,
+        hint: bool,
+    },
+    /// A bot claimed a task.
+    Claim { b: u32, t: u32, claim: Text },
+    /// A bot was heard.
+    Contact { b: u32 },
+    /// A bot told of itself.
+    Event { b: u32, e: EventKind, text: Text },
+    /// A bot reported output of a run, or its end.
+    Update {
+        b: u32,
+        t: u32,
+        try_no: u32,
+        chunk: Option<Chunk>,
+        last: Option<Last>,
+    },
+    /// A bot was told to end.
+    Terminate { b: u32 },
+    /// A content was put.
+    Put { digest: Digest, size: u32 },
 }
 
 /// One event of a pool: its moment in whole seconds, and the number of the pass that added it.
@@ -40,22 +90,77 @@ pub struct Entry {
 
 impl TryCopy for EntryKind {
     fn try_copy(&self, alloc: Global) -> Result<EntryKind, AllocError> {
-        match self {
-            EntryKind::Slice { t, to } => Ok(EntryKind::Slice { t: *t, to: *to }),
+        Ok(match self {
+            EntryKind::Slice { t, to } => EntryKind::Slice { t: *t, to: *to },
+            EntryKind::Silence { t } => EntryKind::Silence { t: *t },
+            EntryKind::Dead { b } => EntryKind::Dead { b: *b },
+            EntryKind::Blob { n, kept } => EntryKind::Blob { n: *n, kept: *kept },
             EntryKind::New {
                 t,
                 who,
                 request,
                 state,
                 slice,
-            } => Ok(EntryKind::New {
+                from,
+            } => EntryKind::New {
                 t: *t,
                 who: who.try_copy(alloc)?,
                 request: request.try_copy(alloc)?,
                 state: *state,
                 slice: *slice,
-            }),
-        }
+                from: *from,
+            },
+            EntryKind::Cancel { t } => EntryKind::Cancel { t: *t },
+            EntryKind::Kill { t } => EntryKind::Kill { t: *t },
+            EntryKind::Handshake {
+                b,
+                id,
+                session,
+                dims,
+                q,
+            } => EntryKind::Handshake {
+                b: *b,
+                id: id.try_copy(alloc)?,
+                session: session.try_copy(alloc)?,
+                dims: dims.try_copy(alloc)?,
+                q: q.try_copy(alloc)?,
+            },
+            EntryKind::Poll { b, dims, q, hint } => EntryKind::Poll {
+                b: *b,
+                dims: dims.try_copy(alloc)?,
+                q: q.try_copy(alloc)?,
+                hint: *hint,
+            },
+            EntryKind::Claim { b, t, claim } => EntryKind::Claim {
+                b: *b,
+                t: *t,
+                claim: claim.try_copy(alloc)?,
+            },
+            EntryKind::Contact { b } => EntryKind::Contact { b: *b },
+            EntryKind::Event { b, e, text } => EntryKind::Event {
+                b: *b,
+                e: *e,
+                text: text.try_copy(alloc)?,
+            },
+            EntryKind::Update {
+                b,
+                t,
+                try_no,
+                chunk,
+                last,
+            } => EntryKind::Update {
+                b: *b,
+                t: *t,
+                try_no: *try_no,
+                chunk: *chunk,
+                last: last.try_copy(alloc)?,
+            },
+            EntryKind::Terminate { b } => EntryKind::Terminate { b: *b },
+            EntryKind::Put { digest, size } => EntryKind::Put {
+                digest: *digest,
+                size: *size,
+            },
+        })
     }
 }
 

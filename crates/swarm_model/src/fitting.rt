@@ -1,15 +1,55 @@
 ghost use Rattle.std.specs.Prelude.{◌≡◌, ◌&&◌};
+ghost use Rattle.std.specs.List.{list_all};
 ghost use Rattle.dimensions.specs.Alike.{same};
+ghost use Rattle.dimensions.specs.Rules.{is_key_byte};
 ghost use Rattle.task_props.specs.Checked.{is_checked, pool_of_task};
-ghost use Rattle.swarm_model.specs.Fits.{fits};
+ghost use Rattle.swarm_model.specs.Fits.{is_name, fits_bot, fits_message, fits};
 
-use crate::{PoolSettings, Request};
+use crate::{EventKind, PoolSettings, Request};
+use dimensions::{BotDims, Text};
 use task_props::NewTask;
 
 fn fits_pool(settings: &PoolSettings, request: &NewTask) -> bool
     ensures { result ≡ (is_checked request.now && same (pool_of_task request.now) settings.now.name) }
 {
     request.is_checked() && request.pool() == settings.name.as_str()
+}
+
+fn is_name_byte(byte: u8) -> bool
+    ensures { result ≡ is_key_byte byte }
+{
+    byte.is_ascii_alphanumeric() || byte == b'-' || byte == b'_' || byte == b'.'
+}
+
+fn has_name_bytes(name: &str) -> bool
+    ensures { result ≡ list_all is_key_byte name.now }
+{
+    name.as_bytes().iter().all(|byte| is_name_byte(*byte))
+}
+
+/// Whether the text may name a bot, a session or a claim: 1 to 64 ASCII letters, digits, `-`, `_`
+/// and `.`.
+pub fn is_name(name: &str) -> bool
+    ensures { result ≡ is_name name.now }
+{
+    1 <= name.len() && name.len() <= 64 && has_name_bytes(name)
+}
+
+fn fits_bot(settings: &PoolSettings, bot: &Text, dims: &BotDims) -> bool
+    ensures { result ≡ fits_bot settings.now bot.now dims.now }
+{
+    is_name(bot.as_str())
+        && dims.is_checked(bot.as_str())
+        && dims.pool() == settings.name.as_str()
+}
+
+fn fits_message(kind: EventKind, message: &str) -> bool
+    ensures { result ≡ fits_message kind message.now }
+{
+    match kind {
+        EventKind::Quarantine => 1 <= message.len() && message.len() <= 256,
+        EventKind::Ping | EventKind::Unquarantine => message.len() <= 256,
+    }
 }
 
 /// Whether the pool of these settings may be asked this. It takes no memory.
@@ -20,5 +60,25 @@ pub fn fits(settings: &PoolSettings, request: &Request) -> bool
         Request::New(task) => fits_pool(settings, task),
         Request::Result { task, try_no } => *task >= 1 && *task <= 262_144 && *try_no <= 1,
         Request::Count { state: _ } => true,
+        Request::Handshake {
+            bot,
+            session,
+            dims,
+            quarantined,
+        } => {
+            fits_bot(settings, bot, dims)
+                && is_name(session.as_str())
+                && quarantined.as_str().len() <= 256
+        }
+        Request::Poll {
+            bot,
+            dims,
+            quarantined,
+        } => fits_bot(settings, bot, dims) && quarantined.as_str().len() <= 256,
+        Request::Claim { bot, claim } => is_name(bot.as_str()) && is_name(claim.as_str()),
+        Request::Event { bot, kind, message } => {
+            is_name(bot.as_str()) && fits_message(*kind, message.as_str())
+        }
+        Request::Terminate { bot } => is_name(bot.as_str()),
     }
 }

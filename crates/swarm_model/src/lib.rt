@@ -8,7 +8,9 @@
 #![tactic(auto)]
 
 mod answer;
+mod attempt;
 mod blob_row;
+mod bot_changes;
 mod bot_row;
 mod changing;
 mod deadline;
@@ -30,25 +32,27 @@ mod task_view;
 mod weighing;
 
 pub use answer::{Answer, Told};
+pub use attempt::{Attempt, Chunk, Last};
 pub use blob_row::BlobRow;
+pub use bot_changes::{Die, Hear, MarkTerminating, Note, Poll, Renew, TakeOn, hush};
 pub use bot_row::BotRow;
 pub use changing::{Change, Row, change_row};
 pub use deadline::{Cause, Deadline};
-pub use entry::{Entry, EntryKind, Outcome};
+pub use entry::{Entry, EntryKind, EventKind, Outcome};
 pub use examples::{
     begins_with_an_open_slice, no_resource_after_a_slice, no_resource_at_once, one_task_is_pending,
     one_task_weighs_18, slices_run_out_in_turn, two_tasks_in_a_row,
 };
-pub use fitting::fits;
+pub use fitting::{fits, is_name};
 pub use laws::stays_sound;
 pub use machine::{Machine, ReserveFault};
 pub use pool_settings::{Grant, Permission, PoolSettings, Settings};
 pub use pool_state::PoolState;
 pub use reply::Reply;
 pub use request::Request;
-pub use rule::{Rule, Unbuilt};
+pub use rule::{Rule, Unbuilt, Unfit};
 pub use steps::Steps;
-pub use task_changes::Shift;
+pub use task_changes::{Lose, Shift, Start};
 pub use task_row::TaskRow;
 pub use task_state::TaskState;
 pub use task_view::TaskView;

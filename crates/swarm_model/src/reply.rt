@@ -1,4 +1,6 @@
 use crate::{Rule, TaskState, TaskView};
+use dimensions::Text;
+use task_props::Properties;
 
 /// What a request is answered.
 #[derive(Drop)]
@@ -7,5 +9,26 @@ pub enum Reply {
     New { task: u32, state: TaskState },
     Result(TaskView),
     Count { count: u64 },
+    /// The pool knows the bot.
+    Shaken { bot: Text },
+    /// The bot is to ask again after so many seconds.
+    Sleep { secs: u64 },
+    /// The bot is to claim a task.
+    ClaimHint,
+    /// The bot is to end.
+    Terminate,
+    /// The bot is to run a slice of a task, and to be heard at least every `tolerance` seconds.
+    Run {
+        task: u32,
+        try_no: u32,
+        slice: u32,
+        tolerance: u32,
+        properties: Properties,
+    },
+    /// There is no task for the bot.
+    Skip,
+    Noted,
+    /// The bot will be told to end.
+    Terminating,
     No(Rule),
 }

@@ -1,8 +1,9 @@
-use crate::TaskState;
+use crate::{EventKind, TaskState};
+use dimensions::{BotDims, Text};
 use task_props::NewTask;
 
 /// A checked request to one pool. A task is named by its number in the pool, and one of its runs
-/// by the number of the try; try 0 names the task itself.
+/// by the number of the try; try 0 names the task itself. A bot is named by its name.
 #[derive(Drop)]
 pub enum Request {
     New(NewTask),
@@ -10,4 +11,27 @@ pub enum Request {
     Result { task: u32, try_no: u32 },
     /// How many tasks are in a state, or in any.
     Count { state: Option<TaskState> },
+    /// A bot comes.
+    Handshake {
+        bot: Text,
+        session: Text,
+        dims: BotDims,
+        quarantined: Text,
+    },
+    /// A bot asks what to do.
+    Poll {
+        bot: Text,
+        dims: BotDims,
+        quarantined: Text,
+    },
+    /// A bot asks for a task.
+    Claim { bot: Text, claim: Text },
+    /// A bot tells of itself.
+    Event {
+        bot: Text,
+        kind: EventKind,
+        message: Text,
+    },
+    /// A bot is to end.
+    Terminate { bot: Text },
 }

@@ -1,3 +1,4 @@
+use crate::TaskState;
 use dimensions::Text;
 use task_props::PropRule;
 
@@ -6,6 +7,17 @@ use task_props::PropRule;
 pub enum Unbuilt {
     /// A task with fields that aren't served.
     Task,
+}
+
+/// Why a bot gets no work.
+#[derive(Clone, Copy, Debug, PartialEq, Eq)]
+pub enum Unfit {
+    /// It was silent for too long.
+    Dead,
+    /// It said that it takes none.
+    Quarantined,
+    /// It is to end.
+    Terminating,
 }
 
 /// Why a request is refused.
@@ -30,8 +42,22 @@ pub enum Rule {
     NoPool,
     /// The pool has no such task, or the task no such run.
     NoTask,
+    /// The pool has no bot of that name.
+    NoBot,
+    /// The bot gets no work.
+    BotUnfit { why: Unfit },
+    /// The bot has a run.
+    BotBusy { task: u32, try_no: u32 },
+    /// The run of this claim has ended.
+    ClaimOver {
+        task: u32,
+        try_no: u32,
+        state: TaskState,
+    },
     /// The pool has as many tasks as it may have.
     PoolTasksFull { limit: u32 },
+    /// The pool has as many bots as it may have.
+    PoolBotsFull { limit: u32 },
     /// The log has no room for the entry that must be added.
     LogFull,
     /// The caller has seen a longer log than this one.

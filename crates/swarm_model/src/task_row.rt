@@ -1,4 +1,4 @@
-use crate::TaskState;
+use crate::{Attempt, TaskState};
 use dimensions::Text;
 use task_props::NewTask;
 
@@ -14,6 +14,10 @@ pub struct TaskRow {
     pub slice: u32,
     /// The moment at which the task came to that slice.
     pub since: u64,
+    /// The run that a bot claimed.
+    pub attempt: Option<Attempt>,
+    /// The task whose outcome this one took.
+    pub source: Option<u32>,
     /// The moment at which the task ended.
     pub ended: Option<u64>,
 }

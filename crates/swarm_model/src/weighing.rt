@@ -1,10 +1,11 @@
 ghost use Rattle.std.specs.Prelude.{◌≡◌, ◌+◌, length};
 ghost use Rattle.std.specs.List.{sum_by};
+ghost use Rattle.std.specs.Option.{option_map_or};
 ghost use Rattle.swarm_model.specs.Words.{capped};
-ghost use Rattle.swarm_model.specs.Entries.{weight, weight_of, task_weight, properties_weight, slice_weight, cache_weight, file_weight, pair_weight};
+ghost use Rattle.swarm_model.specs.Entries.{weight, weight_of, values_weight, dims_weight, chunk_weight, last_weight, task_weight, properties_weight, slice_weight, cache_weight, file_weight, pair_weight};
 
-use crate::{Entry, EntryKind};
-use dimensions::Text;
+use crate::{Chunk, Entry, EntryKind, Last};
+use dimensions::{BotDims, Seq, Text};
 use task_props::{Cache, File, NewTask, Properties, Slice};
 
 /// The bytes that a digest with its size counts for.
@@ -70,6 +71,57 @@ impl Weighs for File {
     }
 }
 
+impl Weighs for (Text, Seq<Text>) {
+    ghost use Rattle.swarm_model.specs.Entries.{values_weight};
+
+    ghost weight = { values_weight };
+
+    fn weight(&self) -> u64 {
+        self.0
+            .weight()
+            .saturating_add(weight_of_all(self.1.as_slice()))
+    }
+}
+
+impl Weighs for BotDims {
+    ghost use Rattle.swarm_model.specs.Entries.{dims_weight};
+
+    ghost weight = { dims_weight };
+
+    fn weight(&self) -> u64 {
+        weight_of_all(self.pairs())
+    }
+}
+
+impl Weighs for Chunk {
+    ghost use Rattle.swarm_model.specs.Entries.{chunk_weight};
+
+    ghost weight = { chunk_weight };
+
+    fn weight(&self) -> u64 {
+        DIGEST_WEIGHT
+    }
+}
+
+impl Weighs for Last {
+    ghost use Rattle.swarm_model.specs.Entries.{last_weight};
+
+    ghost weight = { last_weight };
+
+    fn weight(&self) -> u64 {
+        weight_of_all(self.files.as_slice())
+    }
+}
+
+fn weight_if_some<T: Weighs>(value: &Option<T>) -> u64
+    ensures { result ≡ capped (option_map_or T.weight value.now 0) }
+{
+    match value {
+        Some(value) => value.weight(),
+        None => 0,
+    }
+}
+
 impl Weighs for Slice {
     ghost use Rattle.swarm_model.specs.Entries.{slice_weight};
 
@@ -106,12 +158,50 @@ fn new_weight(who: &Text, request: &NewTask) -> u64
     who.weight().saturating_add(task_weight(request))
 }
 
+fn handshake_weight(id: &Text, session: &Text, dims: &BotDims, q: &Text) -> u64
+    ensures { result ≡ capped (length id.now + (length session.now + (dims_weight dims.now + length q.now))) }
+{
+    let told = dims.weight().saturating_add(q.weight());
+    id.weight().saturating_add(session.weight().saturating_add(told))
+}
+
+fn poll_weight(dims: &Option<BotDims>, q: &Option<Text>) -> u64
+    ensures { result ≡ capped (option_map_or dims_weight dims.now 0 + option_map_or length q.now 0) }
+{
+    weight_if_some(dims).saturating_add(weight_if_some(q))
+}
+
+fn update_weight(chunk: &Option<Chunk>, last: &Option<Last>) -> u64
+    ensures { result ≡ capped (option_map_or chunk_weight chunk.now 0 + option_map_or last_weight last.now 0) }
+{
+    weight_if_some(chunk).saturating_add(weight_if_some(last))
+}
+
 /// What an entry weighs, in bytes: those of all its texts, and 36 for each digest.
 pub fn weight(entry: &Entry) -> u64
     ensures { result ≡ capped (weight entry.now) }
 {
     match &entry.kind {
-        EntryKind::Slice { .. } => 0,
         EntryKind::New { who, request, .. } => new_weight(who, request),
+        EntryKind::Handshake {
+            id,
+            session,
+            dims,
+            q,
+            ..
+        } => handshake_weight(id, session, dims, q),
+        EntryKind::Poll { dims, q, .. } => poll_weight(dims, q),
+        EntryKind::Claim { claim, .. } => claim.weight(),
+        EntryKind::Event { text, .. } => text.weight(),
+        EntryKind::Update { chunk, last, .. } => update_weight(chunk, last),
+        EntryKind::Put { .. } => DIGEST_WEIGHT,
+        EntryKind::Slice { .. }
+        | EntryKind::Silence { .. }
+        | EntryKind::Dead { .. }
+        | EntryKind::Blob { .. }
+        | EntryKind::Cancel { .. }
+        | EntryKind::Kill { .. }
+        | EntryKind::Contact { .. }
+        | EntryKind::Terminate { .. } => 0,
     }
 }

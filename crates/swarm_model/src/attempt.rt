@@ -1,0 +1,55 @@
+use dimensions::{Seq, Text, TryCopy};
+use std::alloc::{AllocError, Global};
+use task_props::{Digest, File};
+
+/// A piece of the output of a run: where it begins, in bytes from the first, and its content.
+#[derive(Clone, Copy, Debug, PartialEq, Eq)]
+pub struct Chunk {
+    pub start: u32,
+    pub size: u32,
+    pub digest: Digest,
+}
+
+/// What a bot reports at the end of a run.
+#[derive(Drop)]
+pub struct Last {
+    pub exit_code: i32,
+    pub duration_ms: u64,
+    /// The run was stopped since it took longer than it may.
+    pub hard_timeout: bool,
+    /// The run was stopped since it wrote nothing for longer than it may.
+    pub io_timeout: bool,
+    /// How many bytes of output were dropped.
+    pub dropped: u64,
+    pub files: Seq<File>,
+}
+
+/// What a pool knows of a run: the bot that claimed the task, and what it reported.
+#[derive(Drop)]
+pub struct Attempt {
+    pub try_no: u32,
+    pub bot: u32,
+    /// The id that the bot gave its claim.
+    pub claim: Text,
+    pub begun: u64,
+    /// The run is asked to stop.
+    pub kill: bool,
+    pub chunks: Seq<Chunk>,
+    /// How many bytes of output are kept.
+    pub length: u32,
+    pub last: Option<Last>,
+    pub last_chunk: Option<Chunk>,
+}
+
+impl TryCopy for Last {
+    fn try_copy(&self, alloc: Global) -> Result<Last, AllocError> {
+        Ok(Last {
+            exit_code: self.exit_code,
+            duration_ms: self.duration_ms,
+            hard_timeout: self.hard_timeout,
+            io_timeout: self.io_timeout,
+            dropped: self.dropped,
+            files: self.files.try_copy(alloc)?,
+        })
+    }
+}

@@ -1,0 +1,241 @@
+//! What an entry does to the row of one bot.
+ghost use Rattle.std.specs.Prelude.{◌≡◌, [], true, Some, None};
+ghost use Rattle.swarm_model.specs.Effects.{heard, streak_after, polled, noted};
+
+use crate::{BotRow, Change, EventKind, Row};
+use dimensions::{BotDims, Text};
+use std::mem;
+
+impl Row for BotRow {
+    ghost use Rattle.swarm_model.specs.Effects.{no_of_bot};
+
+    ghost no = { no_of_bot };
+
+    fn no(&self) -> u32 {
+        self.no
+    }
+}
+
+fn hear(bot: &mut BotRow, moment: u64)
+    ensures { bot.new ≡ heard moment bot.old }
+{
+    bot.contact = moment;
+    bot.dead = bot.dead && bot.task.is_none();
+}
+
+/// The number of naps in a row, after a poll.
+fn streak_after(hint: bool, bot: &BotRow) -> u32
+    ensures { result ≡ streak_after hint bot.now }
+{
+    if hint {
+        0
+    } else if bot.terminating {
+        bot.streak
+    } else {
+        bot.streak.saturating_add(1).min(63)
+    }
+}
+
+fn poll(
+    bot: &mut BotRow,
+    moment: u64,
+    dims: Option<BotDims>,
+    quarantined: Option<Text>,
+    hint: bool,
+)
+    ensures { bot.new ≡ polled moment dims quarantined hint bot.old }
+{
+    bot.streak = streak_after(hint, bot);
+    hear(bot, moment);
+    if let Some(dims) = dims {
+        drop(mem::replace(&mut bot.dims, dims));
+    }
+    if let Some(text) = quarantined {
+        drop(mem::replace(&mut bot.quarantined, text));
+    }
+}
+
+fn quarantine(bot: &mut BotRow, text: Text)
+    ensures { bot.new ≡ record bot.old { quarantined = text } }
+{
+    drop(mem::replace(&mut bot.quarantined, text));
+}
+
+fn note(bot: &mut BotRow, moment: u64, which: EventKind, message: Text, empty: Text)
+    requires { empty ≡ [] }
+    ensures { bot.new ≡ noted moment which message bot.old }
+{
+    hear(bot, moment);
+    match which {
+        EventKind::Ping => {
+            drop(message);
+            drop(empty);
+        }
+        EventKind::Quarantine => {
+            drop(empty);
+            quarantine(bot, message);
+        }
+        EventKind::Unquarantine => {
+            drop(message);
+            quarantine(bot, empty);
+        }
+    }
+}
+
+/// The bot was heard at a moment.
+#[derive(Drop)]
+pub struct Hear {
+    pub moment: u64,
+}
+
+impl Change<BotRow> for Hear {
+    ghost use Rattle.std.specs.Prelude.{⊤};
+    ghost use Rattle.swarm_model.specs.Effects.{heard};
+
+    ghost change = { λ c. heard c.moment };
+
+    ghost fits = { λ bot. ⊤ };
+
+    fn apply(self, row: &mut BotRow) {
+        hear(row, self.moment);
+    }
+}
+
+/// The bot asked what to do.
+#[derive(Drop)]
+pub struct Poll {
+    pub moment: u64,
+    pub dims: Option<BotDims>,
+    pub quarantined: Option<Text>,
+    pub hint: bool,
+}
+
+impl Change<BotRow> for Poll {
+    ghost use Rattle.std.specs.Prelude.{⊤};
+    ghost use Rattle.swarm_model.specs.Effects.{polled};
+
+    ghost change = { λ c. polled c.moment c.dims c.quarantined c.hint };
+
+    ghost fits = { λ bot. ⊤ };
+
+    fn apply(self, row: &mut BotRow) {
+        let Poll {
+            moment,
+            dims,
+            quarantined,
+            hint,
+        } = self;
+        poll(row, moment, dims, quarantined, hint);
+    }
+}
+
+/// The bot told of itself, with an empty text that was made before.
+#[derive(Drop)]
+pub struct Note {
+    pub moment: u64,
+    pub which: EventKind,
+    pub message: Text,
+    pub empty: Text,
+    ghost is_empty: { empty ≡ [] },
+}
+
+impl Change<BotRow> for Note {
+    ghost use Rattle.std.specs.Prelude.{⊤};
+    ghost use Rattle.swarm_model.specs.Effects.{noted};
+
+    ghost change = { λ c. noted c.moment c.which c.message };
+
+    ghost fits = { λ bot. ⊤ };
+
+    fn apply(self, row: &mut BotRow) {
+        let Note {
+            moment,
+            which,
+            message,
+            empty,
+        } = self;
+        note(row, moment, which, message, empty);
+    }
+}
+
+/// The bot begins a task.
+#[derive(Drop)]
+pub struct TakeOn {
+    pub moment: u64,
+    pub task: u32,
+}
+
+impl Change<BotRow> for TakeOn {
+    ghost use Rattle.std.specs.Prelude.{⊤};
+    ghost use Rattle.swarm_model.specs.Effects.{busied};
+
+    ghost change = { λ c. busied c.moment c.task };
+
+    ghost fits = { λ bot. ⊤ };
+
+    fn apply(self, row: &mut BotRow) {
+        hear(row, self.moment);
+        row.task = Some(self.task);
+    }
+}
+
+/// The bot was silent for too long.
+#[derive(Drop)]
+pub struct Die;
+
+impl Change<BotRow> for Die {
+    ghost use Rattle.std.specs.Prelude.{⊤};
+    ghost use Rattle.swarm_model.specs.Effects.{deadened};
+
+    ghost change = { λ c. deadened };
+
+    ghost fits = { λ bot. ⊤ };
+
+    fn apply(self, row: &mut BotRow) {
+        row.dead = true;
+    }
+}
+
+/// The bot is to end.
+#[derive(Drop)]
+pub struct MarkTerminating;
+
+impl Change<BotRow> for MarkTerminating {
+    ghost use Rattle.std.specs.Prelude.{⊤};
+    ghost use Rattle.swarm_model.specs.Effects.{terminated};
+
+    ghost change = { λ c. terminated };
+
+    ghost fits = { λ bot. ⊤ };
+
+    fn apply(self, row: &mut BotRow) {
+        row.terminating = true;
+    }
+}
+
+/// The bot begins anew, with this row.
+#[derive(Drop)]
+pub struct Renew {
+    pub row: BotRow,
+}
+
+impl Change<BotRow> for Renew {
+    ghost use Rattle.std.specs.Prelude.{⊤};
+
+    ghost change = { λ c old. c.row };
+
+    ghost fits = { λ bot. ⊤ };
+
+    fn apply(self, row: &mut BotRow) {
+        let Renew { row: new } = self;
+        drop(mem::replace(row, new));
+    }
+}
+
+/// The bot is silent, and its run is lost.
+pub fn hush(bot: &mut BotRow)
+    ensures { bot.new ≡ record bot.old { dead = true; task = None } }
+{
+    bot.dead = true;
+    bot.task = None;
+}
