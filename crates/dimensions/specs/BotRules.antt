@@ -1,5 +1,5 @@
 -- The rules on what a bot says it has: which keys and values are in order, and which rule is broken first.
-use Rattle.std.specs.Prelude.{ℕ, Bool, false, not, ◌&&◌, ◌||◌, ◌==◌, nat_le, nat_lt, List, [], ◌∷◌, length, Option, codes}
+use Rattle.std.specs.Prelude.{ℕ, Bool, false, not, ◌&&◌, ◌||◌, ◌==◌, nat_le, nat_lt, List, [], ◌∷◌, length, Option, is_none, codes}
 use Rattle.std.specs.List.{list_any, list_all}
 use Rattle.std.specs.Char.{is_ascii_control}
 use Rattle.dimensions.specs.declared.text.Text.{Text}
@@ -7,6 +7,7 @@ use Rattle.dimensions.specs.declared.dim_fault.DimRule.{DimRule}
 use Rattle.dimensions.specs.declared.dim_fault.DimRule.TheVariants as dim_rule
 use Rattle.dimensions.specs.Choosing.{when, ◌or_else◌}
 use Rattle.dimensions.specs.Matching.{is_of_key, has_value}
+use Rattle.dimensions.specs.Order.{is_bot_pair_below, is_rising_by, is_text_below}
 use Rattle.dimensions.specs.Rules.{first_at, has_bar, has_length_to, is_key, is_spaced}
 
 -- 1 to so many values
@@ -51,3 +52,11 @@ first_bot_broken name pairs =
     or_else when (not (list_any (is_of_key (codes "pool")) pairs)) (dim_rule.Pool, length pairs)
     or_else first_at (bot_id_rule name) [] pairs
     or_else when (not (list_any (is_of_key (codes "id")) pairs)) (dim_rule.Id, length pairs)
+
+-- each value of the pair is below the next
+abbrev pub has_rising_values : Text × List Text → Bool
+has_rising_values pair = is_rising_by is_text_below pair.1
+
+-- no rule is broken, and the pairs rise by key, and so do the values of each
+abbrev pub are_bot_checked : Text → List (Text × List Text) → Bool
+are_bot_checked name pairs = is_none (first_bot_broken name pairs) && (is_rising_by is_bot_pair_below pairs && list_all has_rising_values pairs)

@@ -1,7 +1,9 @@
-ghost use Rattle.std.specs.Prelude.{◌≡◌, IfOk, IfSome, IfNone, IsOkUnless, IsPermutation, IsSorted, map};
-ghost use Rattle.dimensions.specs.BotRules.{first_bot_broken};
+ghost use Rattle.std.specs.Prelude.{◌≡◌, IfOk, IfSome, IfNone, IsOkUnless, IsPermutation, IsSorted, map, true};
+ghost use Rattle.std.specs.List.{list_all};
+ghost use Rattle.dimensions.specs.BotRules.{are_bot_checked, first_bot_broken, has_rising_values};
 ghost use Rattle.dimensions.specs.Order.{bot_pair_cmp, sorted_bot, sorted_texts, with_sorted_values};
 
+use crate::order::is_rising;
 use crate::try_copy::sorted_copies;
 use crate::{DimFault, DimRule, Seq, Text, TryCopy, bot_rules};
 use std::alloc::{AllocError, Global};
@@ -36,6 +38,10 @@ impl BotDims {
         ensures broken { IfSome (first_bot_broken name.now pairs.now) (λ b. result ≡ Err (DimFault.Broken b.0 b.1)) }
         ensures only_memory { IfNone (first_bot_broken name.now pairs.now) (IsOkUnless result DimFault.Memory) }
         ensures value { IfOk result (λ dims. dims ≡ sorted_bot pairs.now) }
+
+        // Checked pairs stay as they are.
+        ensures kept { IfOk result (λ dims. are_bot_checked name.now pairs.now ≡ true → dims ≡ pairs.now) }
+        ensures checked { IfOk result (λ dims. are_bot_checked name.now dims ≡ true) }
     {
         if let Some((rule, place)) = BotDims::broken(name, pairs) {
             return Err(DimFault::Broken { rule, place });
@@ -43,6 +49,16 @@ impl BotDims {
         Ok(BotDims {
             sorted: Seq::from_vec(sorted_pairs(alloc, pairs)?),
         })
+    }
+
+    /// Whether a bot of this name breaks no rule, and its keys rise strictly, and the values of
+    /// each.
+    pub fn is_checked(&self, name: &str) -> bool
+        ensures { result ≡ are_bot_checked name.now self.now }
+    {
+        BotDims::broken(name, self.pairs()).is_none()
+            && is_rising(self.pairs())
+            && has_rising_values(self.pairs())
     }
 
     pub(crate) fn copied(&self, alloc: Global) -> Result<BotDims, AllocError>
@@ -58,6 +74,12 @@ impl BotDims {
     {
         self.sorted.as_slice()
     }
+}
+
+fn has_rising_values(pairs: &[(Text, Seq<Text>)]) -> bool
+    ensures { result ≡ list_all has_rising_values pairs.now }
+{
+    pairs.iter().all(|pair| is_rising(pair.1.as_slice()))
 }
 
 fn sorted_texts(alloc: Global, texts: &[Text]) -> Result<Seq<Text>, AllocError>
@@ -149,6 +171,7 @@ mod tests {
         ]?;
         let set = DimSet::read(alloc, asked.as_slice())?;
         assert!(rt; set.matches(&bot));
+        assert!(rt; bot.is_checked("b1"));
         Ok(())
     }
 }
