@@ -1,5 +1,5 @@
 -- Which requests a pool may be asked.
-use Rattle.std.specs.Prelude.{Bool, true, ◌&&◌, ◌==◌, nat_le, List, ℕ, length}
+use Rattle.std.specs.Prelude.{Bool, true, ◌&&◌, nat_le, List, ℕ, length}
 use Rattle.std.specs.List.{list_all}
 use Rattle.dimensions.specs.declared.bot_dims.BotDims.{BotDims}
 use Rattle.dimensions.specs.Alike.{same}

@@ -1,5 +1,5 @@
 -- Which slice a task comes to, and which task a bot gets.
-use Rattle.std.specs.Prelude.{ℕ, Bool, false, ◌==◌, ◌&&◌, ◌||◌, not, nat_lt, List, drop, length, Option, Some, None, slice_get, if◌then◌else◌}
+use Rattle.std.specs.Prelude.{ℕ, Bool, false, ◌==◌, ◌&&◌, ◌||◌, not, nat_lt, List, drop, Option, Some, None, slice_get, if◌then◌else◌}
 use Rattle.std.specs.List.{list_any, filter, fold, position_from}
 use Rattle.dimensions.specs.declared.dim_set.DimSet.{DimSet}
 use Rattle.dimensions.specs.declared.bot_dims.BotDims.{BotDims}

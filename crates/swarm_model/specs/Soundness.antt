@@ -1,28 +1,55 @@
 -- What holds of every pool that a log leads to.
-use Rattle.std.specs.Prelude.{ℕ, ◌^◌, ◌≤◌, ◌<◌, IsTrue, IfSome, List, length}
+use Rattle.std.specs.Prelude.{◌≡◌, ◌↔◌, ℕ, Bool, ◌^◌, ◌≤◌, ◌<◌, ◌&&◌, IsTrue, List, length, Option, Some, None, is_some, is_none, if◌then◌else◌}
 use Rattle.std.specs.List.{All}
+use Rattle.std.specs.Option.{option_map, option_and_then}
 use Rattle.task_props.specs.Checked.{is_checked}
 use Rattle.swarm_model.specs.declared.pool_settings.PoolSettings.{PoolSettings}
+use Rattle.swarm_model.specs.declared.task_state.TaskState.TheVariants.{Pending, Running}
 use Rattle.swarm_model.specs.declared.task_row.TaskRow.{TaskRow}
+use Rattle.swarm_model.specs.declared.bot_row.BotRow.{BotRow}
 use Rattle.swarm_model.specs.declared.pool_state.PoolState.{PoolState}
 use Rattle.swarm_model.specs.declared.entry.Entry.{Entry}
-use Rattle.swarm_model.specs.Deadlines.{slice_end}
 use Rattle.swarm_model.specs.Numbers.{AreNumbered}
-use Rattle.swarm_model.specs.Effects.{opening, no_of_task}
+use Rattle.swarm_model.specs.Finding.{has_state}
+use Rattle.swarm_model.specs.Deadlines.{deadlines}
+use Rattle.swarm_model.specs.Effects.{opening, no_of_task, no_of_bot}
 use Rattle.swarm_model.specs.History.{replay, IsCaused}
 
--- a row holds a checked request and a place of its slices; what began lies behind the last moment,
--- and what is to end does not
-pub record IsSoundTask (last : ℕ) (task : TaskRow) : Type 0 where
+-- a pending task has no run and no end, a running one a run without a last update, a final one an end
+abbrev pub fits_state : TaskRow → Bool
+fits_state task =
+    if has_state Pending task then is_none task.attempt && is_none task.ended
+    else if has_state Running task then is_some task.attempt && (is_none (option_and_then (λ a. a.last) task.attempt) && is_none task.ended)
+    else is_some task.ended
+
+-- a row holds a checked request and a place of its slices; what began lies behind the last moment
+pub record IsSoundTask (s : PoolState) (task : TaskRow) : Type 0 where
   pub checked : IsTrue (is_checked task.request)
   pub has_slice : task.slice < length task.request.task_slices
-  pub since : task.since ≤ last
-  pub ahead : IfSome (slice_end task) (λ d. last ≤ d.moment)
+  pub since : task.since ≤ s.last
+  pub state : IsTrue (fits_state task)
+
+-- a bot was not heard after the last moment
+pub record IsSoundBot (s : PoolState) (bot : BotRow) : Type 0 where
+  pub contact : bot.contact ≤ s.last
+  pub streak : bot.streak ≤ 63
+
+-- the bot that runs a task
+abbrev pub runner : TaskRow → Option ℕ
+runner task = if has_state Running task then option_map (λ attempt. attempt.bot) task.attempt else None
+
+-- a bot's row names a task exactly where the task runs on the bot
+abbrev pub Agree : BotRow → TaskRow → Type 0
+Agree bot task = (bot.task ≡ Some task.no) ↔ (runner task ≡ Some bot.no)
 
 pub record IsSound (s : PoolState) : Type 0 where
   pub last : s.last ≤ 2 ^ 40
-  pub numbered : AreNumbered no_of_task 1 s.tasks
-  pub tasks : All (IsSoundTask s.last) s.tasks
+  pub tasks_numbered : AreNumbered no_of_task 1 s.tasks
+  pub bots_numbered : AreNumbered no_of_bot 1 s.bots
+  pub tasks : All (IsSoundTask s) s.tasks
+  pub bots : All (IsSoundBot s) s.bots
+  pub ahead : All (λ d. s.last ≤ d.moment) (deadlines s)
+  pub runs : All (λ bot. All (Agree bot) s.tasks) s.bots
 
 -- each entry keeps a pool sound
 abbrev pub StaysSound : Type 0

@@ -16,7 +16,7 @@ impl Row for BotRow {
     }
 }
 
-fn hear(bot: &mut BotRow, moment: u64)
+fn be_heard(bot: &mut BotRow, moment: u64)
     ensures { bot.new ≡ heard moment bot.old }
 {
     bot.contact = moment;
@@ -36,7 +36,7 @@ fn streak_after(hint: bool, bot: &BotRow) -> u32
     }
 }
 
-fn poll(
+fn be_polled(
     bot: &mut BotRow,
     moment: u64,
     dims: Option<BotDims>,
@@ -46,7 +46,7 @@ fn poll(
     ensures { bot.new ≡ polled moment dims quarantined hint bot.old }
 {
     bot.streak = streak_after(hint, bot);
-    hear(bot, moment);
+    be_heard(bot, moment);
     if let Some(dims) = dims {
         drop(mem::replace(&mut bot.dims, dims));
     }
@@ -61,11 +61,11 @@ fn quarantine(bot: &mut BotRow, text: Text)
     drop(mem::replace(&mut bot.quarantined, text));
 }
 
-fn note(bot: &mut BotRow, moment: u64, which: EventKind, message: Text, empty: Text)
+fn be_told(bot: &mut BotRow, moment: u64, which: EventKind, message: Text, empty: Text)
     requires { empty ≡ [] }
     ensures { bot.new ≡ noted moment which message bot.old }
 {
-    hear(bot, moment);
+    be_heard(bot, moment);
     match which {
         EventKind::Ping => {
             drop(message);
@@ -97,7 +97,7 @@ impl Change<BotRow> for Hear {
     ghost fits = { λ bot. ⊤ };
 
     fn apply(self, row: &mut BotRow) {
-        hear(row, self.moment);
+        be_heard(row, self.moment);
     }
 }
 
@@ -125,7 +125,7 @@ impl Change<BotRow> for Poll {
             quarantined,
             hint,
         } = self;
-        poll(row, moment, dims, quarantined, hint);
+        be_polled(row, moment, dims, quarantined, hint);
     }
 }
 
@@ -154,7 +154,7 @@ impl Change<BotRow> for Note {
             message,
             empty,
         } = self;
-        note(row, moment, which, message, empty);
+        be_told(row, moment, which, message, empty);
     }
 }
 
@@ -174,7 +174,7 @@ impl Change<BotRow> for TakeOn {
     ghost fits = { λ bot. ⊤ };
 
     fn apply(self, row: &mut BotRow) {
-        hear(row, self.moment);
+        be_heard(row, self.moment);
         row.task = Some(self.task);
     }
 }

@@ -25,13 +25,23 @@ pub enum EventKind {
 #[derive(Drop)]
 pub enum EntryKind {
     /// The slice of a task ran out.
-    Slice { t: u32, to: Outcome },
+    Slice {
+        t: u32,
+        to: Outcome,
+    },
     /// The bot of a running task kept silent for too long.
-    Silence { t: u32 },
+    Silence {
+        t: u32,
+    },
     /// A bot was silent for so long that it counts as dead.
-    Dead { b: u32 },
+    Dead {
+        b: u32,
+    },
     /// The life of a blob ran out; it is kept where a task needs it still.
-    Blob { n: u32, kept: bool },
+    Blob {
+        n: u32,
+        kept: bool,
+    },
     /// A task was accepted, in this state and at this slice, or with the outcome of another task.
     New {
         t: u32,
@@ -42,9 +52,13 @@ pub enum EntryKind {
         from: Option<u32>,
     },
     /// A pending task was canceled.
-    Cancel { t: u32 },
+    Cancel {
+        t: u32,
+    },
     /// A running task was asked to stop.
-    Kill { t: u32 },
+    Kill {
+        t: u32,
+    },
     /// A bot came, with a new session.
     Handshake {
         b: u32,
@@ -61,11 +75,21 @@ pub enum EntryKind {
         hint: bool,
     },
     /// A bot claimed a task.
-    Claim { b: u32, t: u32, claim: Text },
+    Claim {
+        b: u32,
+        t: u32,
+        claim: Text,
+    },
     /// A bot was heard.
-    Contact { b: u32 },
+    Contact {
+        b: u32,
+    },
     /// A bot told of itself.
-    Event { b: u32, e: EventKind, text: Text },
+    Event {
+        b: u32,
+        e: EventKind,
+        text: Text,
+    },
     /// A bot reported output of a run, or its end.
     Update {
         b: u32,
@@ -75,9 +99,14 @@ pub enum EntryKind {
         last: Option<Last>,
     },
     /// A bot was told to end.
-    Terminate { b: u32 },
+    Terminate {
+        b: u32,
+    },
     /// A content was put.
-    Put { digest: Digest, size: u32 },
+    Put {
+        digest: Digest,
+        size: u32,
+    },
 }
 
 /// One event of a pool: its moment in whole seconds, and the number of the pass that added it.

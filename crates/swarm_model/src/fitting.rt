@@ -38,9 +38,7 @@ pub fn is_name(name: &str) -> bool
 fn fits_bot(settings: &PoolSettings, bot: &Text, dims: &BotDims) -> bool
     ensures { result ≡ fits_bot settings.now bot.now dims.now }
 {
-    is_name(bot.as_str())
-        && dims.is_checked(bot.as_str())
-        && dims.pool() == settings.name.as_str()
+    is_name(bot.as_str()) && dims.is_checked(bot.as_str()) && dims.pool() == settings.name.as_str()
 }
 
 fn fits_message(kind: EventKind, message: &str) -> bool

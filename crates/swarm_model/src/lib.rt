@@ -17,7 +17,6 @@ mod deadline;
 mod entry;
 mod examples;
 mod fitting;
-mod laws;
 mod machine;
 mod pool_settings;
 mod pool_state;
@@ -44,7 +43,6 @@ pub use examples::{
     one_task_weighs_18, slices_run_out_in_turn, two_tasks_in_a_row,
 };
 pub use fitting::{fits, is_name};
-pub use laws::stays_sound;
 pub use machine::{Machine, ReserveFault};
 pub use pool_settings::{Grant, Permission, PoolSettings, Settings};
 pub use pool_state::PoolState;

@@ -6,13 +6,22 @@ use task_props::Properties;
 #[derive(Drop)]
 pub enum Reply {
     /// The number of the new task, and its state.
-    New { task: u32, state: TaskState },
+    New {
+        task: u32,
+        state: TaskState,
+    },
     Result(TaskView),
-    Count { count: u64 },
+    Count {
+        count: u64,
+    },
     /// The pool knows the bot.
-    Shaken { bot: Text },
+    Shaken {
+        bot: Text,
+    },
     /// The bot is to ask again after so many seconds.
-    Sleep { secs: u64 },
+    Sleep {
+        secs: u64,
+    },
     /// The bot is to claim a task.
     ClaimHint,
     /// The bot is to end.

@@ -8,9 +8,14 @@ use task_props::NewTask;
 pub enum Request {
     New(NewTask),
     /// What a task has come to.
-    Result { task: u32, try_no: u32 },
+    Result {
+        task: u32,
+        try_no: u32,
+    },
     /// How many tasks are in a state, or in any.
-    Count { state: Option<TaskState> },
+    Count {
+        state: Option<TaskState>,
+    },
     /// A bot comes.
     Handshake {
         bot: Text,
@@ -25,7 +30,10 @@ pub enum Request {
         quarantined: Text,
     },
     /// A bot asks for a task.
-    Claim { bot: Text, claim: Text },
+    Claim {
+        bot: Text,
+        claim: Text,
+    },
     /// A bot tells of itself.
     Event {
         bot: Text,
@@ -33,5 +41,7 @@ pub enum Request {
         message: Text,
     },
     /// A bot is to end.
-    Terminate { bot: Text },
+    Terminate {
+        bot: Text,
+    },
 }

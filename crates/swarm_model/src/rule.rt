@@ -28,7 +28,9 @@ pub enum Rule {
     /// The head doesn't tell how long the body is.
     LengthRequired,
     /// The body is longer than so many bytes.
-    TooLarge { limit: u32 },
+    TooLarge {
+        limit: u32,
+    },
     /// No route has the target.
     NoRoute,
     /// No route has the target with this method.
@@ -36,7 +38,10 @@ pub enum Rule {
     /// The body is no JSON in UTF-8 (RFC 8259).
     BadJson,
     /// The first broken rule of the body, with the dotted path of its field.
-    BadField { field: Text, rule: PropRule },
+    BadField {
+        field: Text,
+        rule: PropRule,
+    },
     /// The head names no caller, or not just one.
     NoCaller,
     NoPool,
@@ -45,9 +50,14 @@ pub enum Rule {
     /// The pool has no bot of that name.
     NoBot,
     /// The bot gets no work.
-    BotUnfit { why: Unfit },
+    BotUnfit {
+        why: Unfit,
+    },
     /// The bot has a run.
-    BotBusy { task: u32, try_no: u32 },
+    BotBusy {
+        task: u32,
+        try_no: u32,
+    },
     /// The run of this claim has ended.
     ClaimOver {
         task: u32,
@@ -55,13 +65,21 @@ pub enum Rule {
         state: TaskState,
     },
     /// The pool has as many tasks as it may have.
-    PoolTasksFull { limit: u32 },
+    PoolTasksFull {
+        limit: u32,
+    },
     /// The pool has as many bots as it may have.
-    PoolBotsFull { limit: u32 },
+    PoolBotsFull {
+        limit: u32,
+    },
     /// The log has no room for the entry that must be added.
     LogFull,
     /// The caller has seen a longer log than this one.
-    FrontAhead { length: u64 },
+    FrontAhead {
+        length: u64,
+    },
     WantOfMemory,
-    NotBuilt { what: Unbuilt },
+    NotBuilt {
+        what: Unbuilt,
+    },
 }

@@ -162,7 +162,8 @@ fn handshake_weight(id: &Text, session: &Text, dims: &BotDims, q: &Text) -> u64
     ensures { result ≡ capped (length id.now + (length session.now + (dims_weight dims.now + length q.now))) }
 {
     let told = dims.weight().saturating_add(q.weight());
-    id.weight().saturating_add(session.weight().saturating_add(told))
+    id.weight()
+        .saturating_add(session.weight().saturating_add(told))
 }
 
 fn poll_weight(dims: &Option<BotDims>, q: &Option<Text>) -> u64
