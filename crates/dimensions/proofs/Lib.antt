@@ -1,3 +1,4 @@
+mod BotUnbroken
 pub mod Choosing
 mod Counting
 mod Orders

@@ -1,14 +1,14 @@
 -- The orders of texts and of pairs are total, and only an item and itself tie.
 use Rattle.std.proofs.Common.{◌≡◌, ℕ, List, [], ◌∷◌, false, refl}
 use Rattle.std.specs.Prelude.{IsPermutation, IsSorted}
-use Rattle.std.specs.Cmp.{IsTotalOrder, on_total, then_total}
+use Rattle.std.specs.Cmp.{IsTotalOrder, IsStrictWeakOrder, on_total, then_total}
 use Rattle.std.specs.Cmp.Lexicographic.{slice_cmp, nat_list_cmp_total, lists_total}
 use Rattle.std.specs.Ordering.{is_lt, nat_cmp, ordering_then, ordering_reverse}
 use Rattle.std.specs.declared.cmp.Ordering.{Ordering}
 use Rattle.std.specs.declared.cmp.Ordering.TheVariants.{Less, Equal, Greater}
 use Rattle.std.proofs.lemmas.List.MinMax.{ranks_by}
 use Rattle.std.proofs.lemmas.Cmp.{ranked}
-use Rattle.dimensions.specs.Order.{text_cmp, pair_cmp, bot_pair_cmp, is_bot_pair_below, sorted_texts, sorted_pairs, sorted_by}
+use Rattle.dimensions.specs.Order.{is_text_below, text_cmp, pair_cmp, bot_pair_cmp, is_bot_pair_below, sorted_texts, sorted_pairs, sorted_by}
 use Rattle.dimensions.proofs.Sorting.{sorted_by-is}
 
 abbrev Pair : Type 0
@@ -22,6 +22,9 @@ pair_total = then_total (on_total (λ (p : Pair). p.0) nat_list_cmp_total) (on_t
 
 pub bot_pair_total : IsTotalOrder bot_pair_cmp
 bot_pair_total = then_total (on_total (λ (p : BotPair). p.0) nat_list_cmp_total) (on_total (λ (p : BotPair). p.1) (lists_total nat_list_cmp_total))
+
+pub text_order : IsStrictWeakOrder is_text_below
+text_order = ranks_by nat_list_cmp_total (λ x. x)
 
 then-first : (o p : Ordering) → ordering_then o p ≡ Equal → o ≡ Equal
 then-first Less p h = absurd (cc)
@@ -45,7 +48,7 @@ lists-tied cmp tied (x ∷ xs) (y ∷ ys) h =
     let tail = lists-tied cmp tied xs ys (then-other (cmp x y) (slice_cmp cmp xs ys) h) in
     λ i. head i ∷ tail i
 
-pub texts-tied : (a b : List ℕ) → text_cmp a b ≡ Equal → a ≡ b
+texts-tied : (a b : List ℕ) → text_cmp a b ≡ Equal → a ≡ b
 texts-tied = lists-tied nat_cmp nats-tied
 
 pairs-tied : (a b : Pair) → pair_cmp a b ≡ Equal → a ≡ b

@@ -1,8 +1,9 @@
 //! The base types: texts, lists and dimensions as contracts see them.
 //!
-//! A [`Text`] is the list of its bytes, a [`Seq`] the list of its items, a [`DimSet`] the sorted
-//! list of its pairs. [`TryCopy`] copies a value exactly where there is memory for the copy, in
-//! place of std's `Clone`, whose contract does not say that the copy is the same value.
+//! A [`Text`] is the list of its bytes, a [`Seq`] the list of its items, a [`DimSet`] or a
+//! [`BotDims`] the sorted list of its pairs. [`TryCopy`] copies a value exactly where there is
+//! memory for the copy, in place of std's `Clone`, whose contract does not say that the copy is
+//! the same value.
 //! The crate stands on std alone.
 #![tactic(auto)]
 
@@ -12,6 +13,7 @@ mod dim_fault;
 mod dim_set;
 pub mod examples;
 mod matching;
+mod order;
 mod pair_rule;
 mod pair_rules;
 mod seq;
