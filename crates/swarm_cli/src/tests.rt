@@ -19,8 +19,8 @@ const NEW_TASK: &[u8] =
 const PENDING: &str =
     "HTTP/1.1 200 OK\r\nContent-Length: 34\r\nContent-Type: application/json\r\nX-Swarming-Front: ";
 
-const NOT_BUILT_TASK: &str =
-    "HTTP/1.1 501 Not Implemented\r\nContent-Length: 34\r\nContent-Type: application/json\r\n\r\n{\"code\":\"not_built\",\"what\":\"task\"}";
+const NO_RESOURCE: &str =
+    "HTTP/1.1 200 OK\r\nContent-Length: 38\r\nContent-Type: application/json\r\nX-Swarming-Front: ";
 
 const OUT_OF_RANGE: &str =
     "HTTP/1.1 400 Bad Request\r\nContent-Length: 75\r\nContent-Type: application/json\r\n\r\n{\"code\":\"bad_field\",\"field\":\"task_slices.0.expiration_secs\",\"rule\":\"range\"}";
@@ -58,6 +58,13 @@ const DEFAULT: &str = "{\"pool\":\"default\"}";
 /// The reply that a front and a task's id stand in.
 fn pending(alloc: Global, front: u32, id: &str) -> Result<String, AllocError> {
     format!(in alloc; "{PENDING}{front}\r\n\r\n{{\"state\":\"PENDING\",\"task_id\":\"{id}\"}}")
+}
+
+/// The reply for a task that ended at once, since none of its slices is open.
+fn no_resource(alloc: Global, front: u32, id: &str) -> Result<String, AllocError> {
+    format!(in alloc;
+        "{NO_RESOURCE}{front}\r\n\r\n{{\"state\":\"NO_RESOURCE\",\"task_id\":\"{id}\"}}"
+    )
 }
 
 /// A request for a small task whose slice expires after these seconds, as they are spelled.

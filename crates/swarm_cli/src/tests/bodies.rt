@@ -1,22 +1,26 @@
 //! Bodies of requests for a task, each with what it is answered. The answers were worked out by
 //! hand from the rules that `docs/protocol.md` states.
 
-use crate::tests::{PATH, pending, run_over};
+use crate::tests::{PATH, no_resource, pending, run_over};
 use std::alloc::{AllocError, Global};
 use std::process::Abort;
 use std::test::Fail;
 
 mod orders;
 mod properties;
+mod slices;
 
 /// What a body is answered.
 #[derive(Clone, Copy, Debug, PartialEq, Eq)]
 enum Answer {
     /// The task is PENDING.
     Accepted,
+    /// The task has ended as NO_RESOURCE.
+    NoResource,
     BadJson,
     /// A rule is broken at a field, as it stands in the reply.
     Breaks(&'static str, &'static str),
+    NoPool,
     NotBuilt,
 }
 
@@ -38,6 +42,11 @@ fn refused(alloc: Global, status: &str, body: &str) -> Result<String, AllocError
 fn accepted(alloc: Global, count: u32) -> Result<String, AllocError> {
     let id = format!(in alloc; "{count:x}0")?;
     pending(alloc, count, id.as_str())
+}
+
+fn ended(alloc: Global, count: u32) -> Result<String, AllocError> {
+    let id = format!(in alloc; "{count:x}0")?;
+    no_resource(alloc, count, id.as_str())
 }
 
 fn broken(alloc: Global, field: &str, rule: &str) -> Result<String, AllocError> {
@@ -66,8 +75,13 @@ impl Asked {
                 self.accepted = self.accepted.saturating_add(1);
                 accepted(alloc, self.accepted)?
             }
+            Answer::NoResource => {
+                self.accepted = self.accepted.saturating_add(1);
+                ended(alloc, self.accepted)?
+            }
             Answer::BadJson => refused(alloc, "400 Bad Request", r#"{"code":"bad_json"}"#)?,
             Answer::Breaks(field, rule) => broken(alloc, field, rule)?,
+            Answer::NoPool => refused(alloc, "404 Not Found", r#"{"code":"no_pool"}"#)?,
             Answer::NotBuilt => refused(
                 alloc,
                 "501 Not Implemented",
@@ -347,14 +361,15 @@ fn other_fields_of_a_slice(rt: HostRuntime) -> Result<(), Fail> {
             r#""wait_for_capacity":true"#,
             Answer::Breaks("task_slices.0.expiration_secs", "range"),
         ),
-        (r#""expiration_secs":600"#, Answer::NotBuilt),
+        // A slice that doesn't wait isn't open where there is no bot.
+        (r#""expiration_secs":600"#, Answer::NoResource),
         (
             r#""expiration_secs":600,"wait_for_capacity":false"#,
-            Answer::NotBuilt,
+            Answer::NoResource,
         ),
         (
             r#""expiration_secs":600,"wait_for_capacity":null"#,
-            Answer::NotBuilt,
+            Answer::NoResource,
         ),
         (
             r#""expiration_secs":600,"wait_for_capacity":true"#,
@@ -430,10 +445,11 @@ fn lists_of_slices(rt: HostRuntime) -> Result<(), Fail> {
         let body = with_slices(alloc, slices)?;
         asked.ask(alloc, body.as_bytes(), answer)?;
     }
+    // One slice so many times.
     for (count, answer) in [
         (1, Answer::Accepted),
-        (2, Answer::NotBuilt),
-        (8, Answer::NotBuilt),
+        (2, Answer::Breaks("task_slices", "repeated")),
+        (8, Answer::Breaks("task_slices", "repeated")),
         (9, Answer::Breaks("task_slices", "count")),
     ] {
         let slices = listed(alloc, SLICE, count)?;

@@ -3,7 +3,7 @@
 ghost use Rattle.std.specs.Prelude.{◌≡◌, ◌≤◌, IfOk, IsTrue, length};
 ghost use Rattle.swarm_model.specs.Settings.{AreOpen, are_settings};
 
-use crate::tests::{NEW_TASK, NOT_BUILT_TASK, PATH, pending};
+use crate::tests::{NEW_TASK, PATH, pending};
 use dimensions::{Seq, TryCopy};
 use std::alloc::{AllocError, Global};
 use std::test::Fail;
@@ -118,16 +118,29 @@ fn limits_of_a_pool(rt: HostRuntime) -> Result<(), Fail> {
     Ok(())
 }
 
+/// A task of two slices and the small one behind it, over a pool of these weights.
 #[test]
-fn a_second_slice(rt: HostRuntime) -> Result<(), Fail> {
+fn the_weight_of_a_second_slice(rt: HostRuntime) -> Result<(), Fail> {
     let alloc = rt.alloc();
-    let settings = limited(alloc, 1, 1, 18)?;
     let mut input = Vec::from_slice(alloc, two_slices(alloc)?.as_bytes())?;
     input.extend_from_slice(NEW_TASK)?;
-    let served = serve(alloc, &settings, input.as_slice())?;
-    assert_eq!(rt; served.ended, Ended::Closed);
-    let after = pending(alloc, 1, "10")?;
-    let expected = format!(in alloc; "{NOT_BUILT_TASK}{after}")?;
-    assert_eq!(rt; served.link.output(), expected.as_bytes());
+    let first = pending(alloc, 1, "10")?;
+    let second = pending(alloc, 2, "20")?;
+    let first = first.as_str();
+    let second = second.as_str();
+    // Its entry weighs 34: `ana`, `true` and `false`, and twice `pool` and `default`.
+    for (most_weight, one, two) in [
+        (52, first, second),
+        (51, first, LOG_FULL),
+        (34, first, LOG_FULL),
+        (33, LOG_FULL, first),
+        (17, LOG_FULL, LOG_FULL),
+    ] {
+        let settings = limited(alloc, 2, 2, most_weight)?;
+        let served = serve(alloc, &settings, input.as_slice())?;
+        assert_eq!(rt; served.ended, Ended::Closed);
+        let expected = format!(in alloc; "{one}{two}")?;
+        assert_eq!(rt; served.link.output(), expected.as_bytes());
+    }
     Ok(())
 }

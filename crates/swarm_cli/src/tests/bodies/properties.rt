@@ -306,7 +306,14 @@ fn other_properties(rt: HostRuntime) -> Result<(), Fail> {
         (r#""env":[{"key":"A","value":"b"}]"#, Answer::NotBuilt),
         (r#""env":null"#, Answer::Accepted),
         (r#""caches":[]"#, Answer::NotBuilt),
+        (r#""inputs":[{"path":"a"}]"#, Answer::NotBuilt),
+        (r#""inputs":[null]"#, Answer::NotBuilt),
+        (r#""inputs":{}"#, Answer::NotBuilt),
+        // No inputs at all are served.
+        (r#""inputs":[]"#, Answer::Accepted),
+        (r#""inputs":null"#, Answer::Accepted),
         (r#""outputs":["a"]"#, Answer::NotBuilt),
+        (r#""outputs":[]"#, Answer::NotBuilt),
         (r#""execution_timeout_secs":0"#, Answer::NotBuilt),
         (r#""io_timeout_secs":60"#, Answer::NotBuilt),
         (r#""grace_period_secs":30"#, Answer::NotBuilt),
@@ -320,6 +327,7 @@ fn other_properties(rt: HostRuntime) -> Result<(), Fail> {
             r#""env":[],"command":[]"#,
             Answer::Breaks("task_slices.0.properties.command", "count"),
         ),
+        (r#""env":[],"inputs":[]"#, Answer::NotBuilt),
         (r#""command":[],"command":["b"]"#, Answer::Accepted),
     ] {
         let properties = format!(in alloc; r#""command":["true"],"dimensions":[{POOL}],{more}"#)?;
