@@ -8,7 +8,9 @@ mod bodies;
 mod fronts;
 mod heads;
 mod limits;
+mod moments;
 mod reading;
+mod slices;
 mod turns;
 
 const PATH: &str = "/prpc/swarming.v2.Tasks/NewTask";
@@ -36,6 +38,9 @@ const NO_TASK: &str =
 
 const NO_TASK_OF_ONE: &str =
     "HTTP/1.1 404 Not Found\r\nContent-Length: 18\r\nContent-Type: application/json\r\nX-Swarming-Front: 1\r\n\r\n{\"code\":\"no_task\"}";
+
+const AHEAD_OF_ONE: &str =
+    "HTTP/1.1 409 Conflict\r\nContent-Length: 33\r\nContent-Type: application/json\r\nX-Swarming-Front: 1\r\n\r\n{\"code\":\"front_ahead\",\"length\":1}";
 
 const COUNTS_ONE: &str =
     "HTTP/1.1 200 OK\r\nContent-Length: 11\r\nContent-Type: application/json\r\nX-Swarming-Front: 1\r\n\r\n{\"count\":1}";
