@@ -1,4 +1,3 @@
-pub mod Legality
-pub mod Committing
+mod Becoming
 mod Folding
-mod Holding
+mod Found

@@ -1,22 +1,21 @@
 -- What a list pool keeps, and what holds of it.
 use Rattle.std.specs.Prelude.{◌≡◌, ℕ, ◌<◌, [], IsTrue, IfSome, vec_len, vec_capacity}
 use Rattle.std.specs.List.{sum_by}
-use Rattle.std.specs.Option.{option_map, option_to_list}
+use Rattle.std.specs.Option.{option_map}
 use Rattle.swarm_model.specs.Settings.{keeps_rules}
-use Rattle.swarm_model.specs.Effects.{opening, added_tasks}
+use Rattle.swarm_model.specs.Effects.{opening}
 use Rattle.swarm_model.specs.Entries.{weight}
 use Rattle.swarm_model.specs.History.{replay, IsLegal}
 use Rattle.swarm_model.specs.Kept.{Kept}
 use Rattle.swarm_plain.specs.declared.rows.Rows.{Rows}
 use Rattle.swarm_plain.specs.declared.list_pool.Ready.{Ready}
 use Rattle.swarm_plain.specs.declared.list_pool.ListPool.TheInside.{Inside}
-use Rattle.swarm_plain.specs.Inside.{state_of}
+use Rattle.swarm_plain.specs.Inside.{state_of, HasRoom}
 
 -- what lies ready is what the entry does, and each list has room for one more
 pub record IsReady (rows : Rows) (log_size log_room : ℕ) (ready : Ready) : Type 0 where
-  pub adds : added_tasks ready.entry.moment ready.entry.kind ≡ option_to_list ready.task
   pub weighs : ready.weight ≡ weight ready.entry
-  pub tasks : vec_len rows.tasks < vec_capacity rows.tasks
+  pub rows : HasRoom rows
   pub log : log_size < log_room
 
 abbrev pub kept_of : Inside → Kept

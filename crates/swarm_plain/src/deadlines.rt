@@ -1,13 +1,16 @@
 //! The earliest deadline, by a scan of the rows.
-ghost use Rattle.std.specs.Prelude.{◌≡◌, Some, None};
+ghost use Rattle.std.specs.Prelude.{◌≡◌, None, IfSome};
 ghost use Rattle.std.specs.List.{fold, filter_map, All};
 ghost use Rattle.std.specs.Option.{option_copied, option_map, option_to_list};
 ghost use Rattle.swarm_model.specs.Slices.{current_slice};
-ghost use Rattle.swarm_model.specs.Deadlines.{rank, slice_limit, slice_end, is_earlier, earlier, sooner};
-ghost use Rattle.swarm_plain.specs.Inside.{IsEarly};
+ghost use Rattle.swarm_model.specs.Finding.{bot_of};
+ghost use Rattle.swarm_model.specs.Deadlines.{rank, slice_limit, slice_end, runner_of, silence_limit, silence_end, bot_end, is_earlier, earlier, sooner, next_deadline};
+ghost use Rattle.swarm_plain.specs.Inside.{state_of, IsEarly, IsHeard};
 
-use crate::scans::has_state;
-use swarm_model::{Cause, Deadline, TaskRow, TaskState};
+use crate::rows::Rows;
+use crate::scans;
+use crate::scans::{current_slice, has_state};
+use swarm_model::{BotRow, Cause, Deadline, TaskRow, TaskState};
 use task_props::Slice;
 
 fn rank(cause: Cause) -> u8
@@ -15,6 +18,8 @@ fn rank(cause: Cause) -> u8
 {
     match cause {
         Cause::Slice => 1,
+        Cause::Silence => 2,
+        Cause::Bot => 3,
     }
 }
 
@@ -51,13 +56,6 @@ fn sooner_of(best: Option<Deadline>, deadline: Option<Deadline>) -> Option<Deadl
     }
 }
 
-/// The slice that a task has come to.
-fn current_slice(task: &TaskRow) -> Option<&Slice>
-    ensures { option_copied result ≡ current_slice task.now }
-{
-    task.request.task_slices.as_slice().get(task.slice as usize)
-}
-
 fn slice_limit(task: &TaskRow, slice: &Slice) -> Deadline
     requires { IsEarly task.now }
     ensures { result ≡ slice_limit task.now slice.now }
@@ -90,14 +88,104 @@ fn slice_end(task: &TaskRow) -> Option<Deadline>
     }
 }
 
-/// The earliest deadline of the tasks.
-pub(crate) fn next_slice_end(tasks: &[TaskRow]) -> Option<Deadline>
-    requires { All IsEarly tasks.now }
-    ensures { result ≡ fold sooner None (filter_map slice_end tasks.now) }
+fn bot_of(rows: &Rows, number: u32) -> Option<&BotRow>
+    requires { All IsHeard rows.now.bots.items }
+    ensures value { option_copied result ≡ bot_of (state_of rows.now) number }
+    ensures heard { IfSome (option_copied result) IsHeard }
+{
+    scans::bot_of(rows.bots.as_slice(), number)
+}
+
+/// The bot of a run.
+fn runner_of<'a>(rows: &'a Rows, task: &TaskRow) -> Option<&'a BotRow>
+    requires { All IsHeard rows.now.bots.items }
+    ensures value { option_copied result ≡ runner_of (state_of rows.now) task.now }
+    ensures heard { IfSome (option_copied result) IsHeard }
+{
+    match &task.attempt {
+        Some(attempt) => bot_of(rows, attempt.bot),
+        None => None,
+    }
+}
+
+fn silence_limit(task: &TaskRow, bot: &BotRow) -> Deadline
+    requires { IsHeard bot.now }
+    ensures { result ≡ silence_limit task.now bot.now }
+{
+    Deadline {
+        moment: bot.contact + u64::from(task.request.bot_ping_tolerance_secs),
+        cause: Cause::Silence,
+        number: task.no,
+    }
+}
+
+fn silence_end(rows: &Rows, task: &TaskRow) -> Option<Deadline>
+    requires { All IsHeard rows.now.bots.items }
+    ensures { result ≡ silence_end (state_of rows.now) task.now }
+{
+    if !has_state(TaskState::Running, task) {
+        return None;
+    }
+    match runner_of(rows, task) {
+        Some(bot) => Some(silence_limit(task, bot)),
+        None => None,
+    }
+}
+
+fn bot_end(rows: &Rows, bot: &BotRow) -> Option<Deadline>
+    requires { IsHeard bot.now }
+    ensures { result ≡ bot_end (state_of rows.now) bot.now }
+{
+    if bot.dead {
+        return None;
+    }
+    Some(Deadline {
+        moment: bot.contact + u64::from(rows.settings.death_timeout_secs),
+        cause: Cause::Bot,
+        number: bot.no,
+    })
+}
+
+fn slices_ends(rows: &Rows) -> Option<Deadline>
+    requires { All IsEarly rows.now.tasks.items }
+    ensures { result ≡ fold sooner None (filter_map slice_end rows.now.tasks.items) }
 {
     let mut soonest = None;
-    for task in tasks {
+    for task in &rows.tasks {
         soonest = sooner_of(soonest, slice_end(task));
     }
     soonest
+}
+
+fn silences_ends(rows: &Rows, best: Option<Deadline>) -> Option<Deadline>
+    requires { All IsHeard rows.now.bots.items }
+    ensures { result ≡ fold sooner best (filter_map (silence_end (state_of rows.now)) rows.now.tasks.items) }
+{
+    let mut soonest = best;
+    for task in &rows.tasks {
+        soonest = sooner_of(soonest, silence_end(rows, task));
+    }
+    soonest
+}
+
+fn bots_ends(rows: &Rows, best: Option<Deadline>) -> Option<Deadline>
+    requires { All IsHeard rows.now.bots.items }
+    ensures { result ≡ fold sooner best (filter_map (bot_end (state_of rows.now)) rows.now.bots.items) }
+{
+    let mut soonest = best;
+    for bot in &rows.bots {
+        soonest = sooner_of(soonest, bot_end(rows, bot));
+    }
+    soonest
+}
+
+/// The earliest of all deadlines.
+pub(crate) fn next_deadline(rows: &Rows) -> Option<Deadline>
+    requires tasks { All IsEarly rows.now.tasks.items }
+    requires bots { All IsHeard rows.now.bots.items }
+    ensures { result ≡ next_deadline (state_of rows.now) }
+{
+    let slices = slices_ends(rows);
+    let silences = silences_ends(rows, slices);
+    bots_ends(rows, silences)
 }

@@ -6,6 +6,7 @@
 #![tactic(auto)]
 
 mod deadlines;
+mod effects;
 mod list_pool;
 mod rows;
 mod scans;

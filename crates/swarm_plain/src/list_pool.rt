@@ -1,14 +1,13 @@
 ghost use Rattle.std.specs.Prelude.{◌≡◌, ◌≤◌, ◌<◌, ◌+◌, ◌++◌, ◌∷◌, [], length, vec_len, vec_capacity, IfOk};
 ghost use Rattle.std.specs.Option.{option_map, option_to_list};
 ghost use Rattle.swarm_model.specs.Answers.{entry_at};
-ghost use Rattle.swarm_model.specs.Effects.{new_row, end_at, added_tasks};
-ghost use Rattle.swarm_plain.specs.Inside.{MakesReady};
 
-use crate::deadlines::next_slice_end;
-use crate::rows::{Rows, push};
+use crate::deadlines::next_deadline;
+use crate::effects::push;
+use crate::rows::Rows;
 use crate::scans;
 use content_store::Filled;
-use dimensions::{DimSet, Text, TryCopy};
+use dimensions::{BotDims, DimSet, Text, TryCopy};
 use sha2::{Digest as Hash, Sha256};
 use std::alloc::{AllocError, Global};
 use std::marker::Model;
@@ -19,13 +18,12 @@ use swarm_model::{
     ReserveFault, Steps, TaskRow, TaskState, Told, weight,
 };
 use swarm_rules::{LookUps, due_entry, tell};
-use task_props::{Digest, NewTask};
+use task_props::Digest;
 
-/// What lies ready for an entry: its copy, the row that it adds, if any, and its weight.
+/// What lies ready for an entry: its copy, whose texts move into the rows, and its weight.
 #[derive(Drop)]
 pub(crate) struct Ready {
     pub entry: Entry,
-    pub task: Option<TaskRow>,
     pub weight: u64,
 }
 
@@ -85,12 +83,41 @@ impl LookUps for ListPool {
         scans::task_of(self.rows.tasks.as_slice(), number)
     }
 
+    fn bot_count(&self) -> usize {
+        self.rows.bots.len()
+    }
+
+    fn bot_of(&self, number: u32) -> Option<&BotRow> {
+        scans::bot_of(self.rows.bots.as_slice(), number)
+    }
+
+    fn bot_named<'a>(&'a self, name: &Text) -> Option<&'a BotRow> {
+        scans::bot_named(self.rows.bots.as_slice(), name)
+    }
+
+    fn by_claim<'a, L: Ledger>(
+        &'a self,
+        bot: u32,
+        claim: &Text,
+        _steps: &mut Steps<L>,
+    ) -> Option<&'a TaskRow> {
+        scans::claimed(self.rows.tasks.as_slice(), bot, claim)
+    }
+
+    fn first_for<'a, L: Ledger>(
+        &'a self,
+        dims: &BotDims,
+        _steps: &mut Steps<L>,
+    ) -> Option<&'a TaskRow> {
+        scans::first(self.rows.tasks.as_slice(), dims)
+    }
+
     fn capable(&self, dims: &DimSet) -> bool {
         scans::capable(self.rows.bots.as_slice(), dims)
     }
 
     fn next_deadline(&self) -> Option<Deadline> {
-        next_slice_end(self.rows.tasks.as_slice())
+        next_deadline(&self.rows)
     }
 }
 
@@ -141,12 +168,15 @@ impl Machine for ListPool {
         {
             return Err(ReserveFault::LogFull);
         }
-        if self.log.reserve(1).is_err() || self.rows.tasks.reserve(1).is_err() {
+        if self.log.reserve(1).is_err()
+            || self.rows.tasks.reserve(1).is_err()
+            || self.rows.bots.reserve(1).is_err()
+        {
             return Err(ReserveFault::Memory);
         }
-        match made_ready(self.alloc, entry, weight) {
-            Ok(ready) => {
-                drop(mem::replace(&mut self.ready, Some(ready)));
+        match entry.try_copy(self.alloc) {
+            Ok(entry) => {
+                drop(mem::replace(&mut self.ready, Some(Ready { entry, weight })));
                 Ok(())
             }
             Err(_) => Err(ReserveFault::Memory),
@@ -159,11 +189,9 @@ impl Machine for ListPool {
             Some(ready) => {
                 let Ready {
                     entry: copy,
-                    task,
                     weight,
                 } = ready;
-                drop(copy);
-                self.rows.apply(&entry, task);
+                self.rows.apply(self.alloc, copy);
                 let _most = self.rows.settings.most_weight;
                 self.weight += weight;
                 push(&mut self.log, entry);
@@ -220,66 +248,4 @@ impl Machine for ListPool {
     fn bot(&self, no: u32) -> Option<&BotRow> {
         scans::bot_of(self.rows.bots.as_slice(), no)
     }
-}
-
-/// The row of a new task.
-fn new_row(
-    alloc: Global,
-    moment: u64,
-    t: u32,
-    who: &Text,
-    request: &NewTask,
-    state: TaskState,
-    slice: u32,
-) -> Result<TaskRow, AllocError>
-    ensures { IfOk result (λ row. row ≡ new_row moment t who.now request.now state slice) }
-{
-    let creator = who.try_copy(alloc)?;
-    let request = request.try_copy(alloc)?;
-    Ok(TaskRow {
-        no: t,
-        creator,
-        request,
-        created: moment,
-        state,
-        slice,
-        since: moment,
-        ended: end_at(state, moment),
-    })
-}
-
-fn end_at(state: TaskState, moment: u64) -> Option<u64>
-    ensures { result ≡ end_at state moment }
-{
-    match state {
-        TaskState::Pending => None,
-        _ => Some(moment),
-    }
-}
-
-fn added_task(alloc: Global, entry: &Entry) -> Result<Option<TaskRow>, AllocError>
-    ensures { IfOk result (λ row. added_tasks entry.now.moment entry.now.kind ≡ option_to_list row) }
-{
-    match &entry.kind {
-        EntryKind::Slice { .. } => Ok(None),
-        EntryKind::New {
-            t,
-            who,
-            request,
-            state,
-            slice,
-        } => Ok(Some(new_row(alloc, entry.moment, *t, who, request, *state, *slice)?)),
-    }
-}
-
-fn made_ready(alloc: Global, entry: &Entry, weight: u64) -> Result<Ready, AllocError>
-    ensures { IfOk result (MakesReady entry.now weight) }
-{
-    let task = added_task(alloc, entry)?;
-    let entry = entry.try_copy(alloc)?;
-    Ok(Ready {
-        entry,
-        task,
-        weight,
-    })
 }

@@ -1,12 +1,14 @@
-ghost use Rattle.std.specs.Prelude.{◌≡◌, map};
+ghost use Rattle.std.specs.Prelude.{◌≡◌, map, None};
 ghost use Rattle.swarm_model.specs.History.{states};
-ghost use Rattle.std.specs.List.{find, count_by, list_any};
+ghost use Rattle.std.specs.List.{find, filter, fold, count_by, list_any};
 ghost use Rattle.std.specs.Option.{option_copied};
-ghost use Rattle.swarm_model.specs.Finding.{place_of, is_task, is_bot, has_state, is_wanted};
-ghost use Rattle.swarm_model.specs.Slices.{is_fit, could_run};
+ghost use Rattle.swarm_model.specs.Finding.{place_of, is_task, is_bot, is_called, has_state, is_wanted};
+ghost use Rattle.swarm_model.specs.Slices.{is_fit, could_run, current_slice, takes_slice, waits_for, goes_before, foremost};
+ghost use Rattle.swarm_model.specs.Answers.{is_claim, is_claimed};
 
-use dimensions::DimSet;
-use swarm_model::{BotRow, TaskRow, TaskState};
+use dimensions::{BotDims, DimSet, Text};
+use swarm_model::{Attempt, BotRow, TaskRow, TaskState};
+use task_props::Slice;
 
 fn is_task(number: u32, task: &TaskRow) -> bool
     ensures { result ≡ is_task number task.now }
@@ -81,6 +83,98 @@ pub(crate) fn tally(tasks: &[TaskRow]) -> [u64; 9]
         count_in(tasks, TaskState::Killed),
         count_in(tasks, TaskState::NoResource),
     ]
+}
+
+fn is_called(name: &Text, bot: &BotRow) -> bool
+    ensures { result ≡ is_called name.now bot.now }
+{
+    bot.name == *name
+}
+
+/// The row of the bot of this name.
+pub(crate) fn bot_named<'a>(bots: &'a [BotRow], name: &Text) -> Option<&'a BotRow>
+    ensures { option_copied result ≡ find (is_called name.now) bots.now }
+{
+    bots.iter().find(|bot| is_called(name, bot))
+}
+
+fn is_claim(bot: u32, claim: &Text, attempt: &Attempt) -> bool
+    ensures { result ≡ is_claim bot claim.now attempt.now }
+{
+    attempt.bot == bot && attempt.claim == *claim
+}
+
+fn is_claimed(bot: u32, claim: &Text, task: &TaskRow) -> bool
+    ensures { result ≡ is_claimed bot claim.now task.now }
+{
+    match &task.attempt {
+        Some(attempt) => is_claim(bot, claim, attempt),
+        None => false,
+    }
+}
+
+/// The task that the bot claimed under this id.
+pub(crate) fn claimed<'a>(tasks: &'a [TaskRow], bot: u32, claim: &Text) -> Option<&'a TaskRow>
+    ensures { option_copied result ≡ find (is_claimed bot claim.now) tasks.now }
+{
+    tasks.iter().find(|task| is_claimed(bot, claim, task))
+}
+
+/// The slice that a task has come to.
+pub(crate) fn current_slice(task: &TaskRow) -> Option<&Slice>
+    ensures { option_copied result ≡ current_slice task.now }
+{
+    task.request.task_slices.as_slice().get(task.slice as usize)
+}
+
+fn takes_slice(dims: &BotDims, slice: Option<&Slice>) -> bool
+    ensures { result ≡ takes_slice dims.now (option_copied slice.entry) }
+{
+    match slice {
+        Some(slice) => slice.properties.dimensions.matches(dims),
+        None => false,
+    }
+}
+
+fn waits_for(dims: &BotDims, task: &TaskRow) -> bool
+    ensures { result ≡ waits_for dims.now task.now }
+{
+    has_state(TaskState::Pending, task) && takes_slice(dims, current_slice(task))
+}
+
+fn goes_before(one: &TaskRow, other: &TaskRow) -> bool
+    ensures { result ≡ goes_before one.now other.now }
+{
+    one.request.priority < other.request.priority
+        || (one.request.priority == other.request.priority && one.no < other.no)
+}
+
+fn foremost<'a>(best: Option<&'a TaskRow>, task: &'a TaskRow) -> Option<&'a TaskRow>
+    ensures { option_copied result ≡ foremost (option_copied best.entry) task.now }
+{
+    match best {
+        None => Some(task),
+        Some(best) => {
+            if goes_before(task, best) {
+                Some(task)
+            } else {
+                Some(best)
+            }
+        }
+    }
+}
+
+/// The pending task that a bot of these dimensions gets.
+pub(crate) fn first<'a>(tasks: &'a [TaskRow], dims: &BotDims) -> Option<&'a TaskRow>
+    ensures { option_copied result ≡ fold foremost None (filter (waits_for dims.now) tasks.now) }
+{
+    let mut best = None;
+    for task in tasks {
+        if waits_for(dims, task) {
+            best = foremost(best, task);
+        }
+    }
+    best
 }
 
 /// Whether the bot may take work, now or once it is done with what it runs.

@@ -1,0 +1,18 @@
+-- One bot is changed.
+use Rattle.std.proofs.Common.{◌≡◌, refl}
+use Rattle.swarm_model.specs.declared.entry.EntryKind.TheVariants as kind
+use Rattle.swarm_model.specs.Effects.{task_after, bot_after}
+use Rattle.swarm_plain.specs.Inside.{state_of}
+use Rattle.swarm_plain.proofs.Becoming.{stays, grows, changed, state_after}
+use Rattle.swarm_plain.proofs.rows.Rows.poll.Goals as goal
+
+pub returns : goal.returns
+returns c =
+    let s = state_of c.args.self.now in
+    record {
+      settings = refl;
+      state = state_after s c.args.moment (kind.Poll c.args.b c.args.dims c.args.quarantined c.args.hint) s.tasks c.change.new.rows.items
+          (stays s.tasks)
+          (changed (bot_after c.args.moment (kind.Poll c.args.b c.args.dims c.args.quarantined c.args.hint)) s.bots c.change.new.rows.items c.change.ensures)
+          refl;
+    }
