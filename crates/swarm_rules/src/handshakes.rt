@@ -1,4 +1,4 @@
-ghost use Rattle.std.specs.Prelude.{◌≡◌, ◌<◌, length, nat_le, IfOk};
+ghost use Rattle.std.specs.Prelude.{◌≡◌, ◌+◌, ◌<◌, length, nat_le, IfOk};
 ghost use Rattle.dimensions.specs.Choosing.{when};
 ghost use Rattle.swarm_model.specs.declared.reply.Reply.TheVariants as reply;
 ghost use Rattle.swarm_model.specs.declared.entry.EntryKind.TheVariants as kind;
