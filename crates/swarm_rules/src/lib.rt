@@ -7,11 +7,20 @@
 #![tactic(auto)]
 
 mod admitting;
+mod claiming;
+mod events;
+mod handshakes;
 mod look_ups;
 mod new_tasks;
+mod polling;
 mod reading;
+mod replies;
+mod rows;
+mod runs;
 mod settling;
 mod telling;
+mod terminating;
+mod views;
 
 pub use look_ups::LookUps;
 pub use settling::due_entry;

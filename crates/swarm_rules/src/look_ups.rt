@@ -1,14 +1,15 @@
 ghost use Rattle.std.specs.Prelude.{◌≡◌, length};
 ghost use Rattle.std.specs.List.{count_by};
 ghost use Rattle.std.specs.Option.{option_copied};
-ghost use Rattle.swarm_model.specs.Finding.{task_of, is_wanted};
-ghost use Rattle.swarm_model.specs.Slices.{capable};
+ghost use Rattle.swarm_model.specs.Finding.{task_of, bot_of, bot_named, is_wanted};
+ghost use Rattle.swarm_model.specs.Slices.{capable, first};
+ghost use Rattle.swarm_model.specs.Answers.{claimed};
 ghost use Rattle.swarm_model.specs.Deadlines.{next_deadline};
 ghost use Rattle.swarm_model.specs.Soundness.{IsSound};
 
-use dimensions::DimSet;
+use dimensions::{BotDims, DimSet, Text};
 use std::sync::ledger::Ledger;
-use swarm_model::{Deadline, PoolSettings, Steps, TaskRow, TaskState};
+use swarm_model::{BotRow, Deadline, PoolSettings, Steps, TaskRow, TaskState};
 
 /// What the rules ask of a pool's rows.
 pub trait LookUps {
@@ -27,12 +28,38 @@ pub trait LookUps {
     fn task_count(&self) -> usize
         ensures { result ≡ length (state self.now).tasks };
 
+    fn bot_count(&self) -> usize
+        ensures { result ≡ length (state self.now).bots };
+
     /// How many tasks are in the state, or in any where none is named.
     fn count(&self, wanted: Option<TaskState>) -> u64
         ensures { result ≡ count_by (is_wanted wanted) (state self.now).tasks };
 
     fn task_of<L: Ledger>(&self, number: u32, steps: &mut Steps<L>) -> Option<&TaskRow>
         ensures { option_copied result ≡ task_of (state self.now) number };
+
+    fn bot_of(&self, number: u32) -> Option<&BotRow>
+        ensures { option_copied result ≡ bot_of (state self.now) number };
+
+    fn bot_named<'a>(&'a self, name: &Text) -> Option<&'a BotRow>
+        ensures { option_copied result ≡ bot_named (state self.now) name.now };
+
+    /// The task that the bot claimed under this id.
+    fn by_claim<'a, L: Ledger>(
+        &'a self,
+        bot: u32,
+        claim: &Text,
+        steps: &mut Steps<L>,
+    ) -> Option<&'a TaskRow>
+        ensures { option_copied result ≡ claimed (state self.now) bot claim.now };
+
+    /// The task that a bot of these dimensions gets.
+    fn first_for<'a, L: Ledger>(
+        &'a self,
+        dims: &BotDims,
+        steps: &mut Steps<L>,
+    ) -> Option<&'a TaskRow>
+        ensures { option_copied result ≡ first (state self.now) dims.now };
 
     /// Whether a bot that may take work, busy or not, has these dimensions.
     fn capable(&self, dims: &DimSet) -> bool

@@ -4,6 +4,7 @@ ghost use Rattle.swarm_model.specs.Answers.{new_task, begins, accepted, tasks_fu
 
 use crate::LookUps;
 use crate::admitting::admit;
+use crate::replies::{answers, refuses};
 use dimensions::{Text, TryCopy};
 use std::alloc::{AllocError, Global};
 use swarm_model::{EntryKind, Reply, Rule, TaskState, Told};
@@ -15,10 +16,7 @@ fn full_told<P: LookUps>(pool: &P) -> Option<Told>
 {
     let limit = pool.settings().most_tasks;
     if limit as usize <= pool.task_count() {
-        Some(Told {
-            reply: Reply::No(Rule::PoolTasksFull { limit }),
-            adds: None,
-        })
+        Some(refuses(Rule::PoolTasksFull { limit }))
     } else {
         None
     }
@@ -40,16 +38,17 @@ fn begins<P: LookUps>(
     let task = pool.task_count() as u32 + 1;
     let who = who.try_copy(alloc)?;
     let request = request.try_copy(alloc)?;
-    Ok(Told {
-        reply: Reply::New { task, state },
-        adds: Some(EntryKind::New {
+    Ok(answers(
+        Reply::New { task, state },
+        EntryKind::New {
             t: task,
             who,
             request,
             state,
             slice,
-        }),
-    })
+            from: None,
+        },
+    ))
 }
 
 fn accepted<P: LookUps>(
@@ -73,7 +72,7 @@ fn accepted<P: LookUps>(
 }
 
 /// What a caller is told who asks for a new task.
-pub fn new_task<P: LookUps>(
+pub(crate) fn new_task<P: LookUps>(
     alloc: Global,
     pool: &P,
     who: &Text,

@@ -35,7 +35,7 @@ fn last_state(task: &TaskRow) -> TaskState
 
 /// What becomes of a task whose slice has run out.
 fn next_of<P: LookUps>(pool: &P, task: &TaskRow) -> Outcome
-    requires { IsSoundTask (P.state pool.now).last task.now }
+    requires { IsSoundTask (P.state pool.now) task.now }
     ensures { result ≡ next_of (P.state pool.now) task.now }
 {
     let slices = task.request.task_slices.as_slice();
@@ -52,7 +52,7 @@ fn sound_task<'a, P: LookUps, L: Ledger>(
     steps: &mut Steps<L>,
 ) -> Option<&'a TaskRow>
     ensures found { option_copied result ≡ task_of (P.state pool.now) number }
-    ensures sound { IfSome (option_copied result) (IsSoundTask (P.state pool.now).last) }
+    ensures sound { IfSome (option_copied result) (IsSoundTask (P.state pool.now)) }
 {
     pool.sound();
     pool.task_of(number, steps)
@@ -81,6 +81,8 @@ fn settled<P: LookUps, L: Ledger>(
             t: number,
             to: outcome_of(pool, number, steps),
         },
+        Cause::Silence => EntryKind::Silence { t: number },
+        Cause::Bot => EntryKind::Dead { b: number },
     }
 }
 

@@ -3,8 +3,13 @@ ghost use Rattle.swarm_model.specs.Fits.{fits};
 ghost use Rattle.swarm_model.specs.Answers.{tell};
 
 use crate::LookUps;
+use crate::claiming::claim;
+use crate::events::event;
+use crate::handshakes::handshake;
 use crate::new_tasks::new_task;
+use crate::polling::poll;
 use crate::reading::{task_count, task_result};
+use crate::terminating::terminate;
 use dimensions::Text;
 use std::alloc::{AllocError, Global};
 use std::sync::ledger::Ledger;
@@ -26,5 +31,19 @@ pub fn tell<P: LookUps, L: Ledger>(
         Request::New(task) => new_task(alloc, pool, who, task),
         Request::Result { task, try_no } => task_result(alloc, pool, *task, *try_no, steps),
         Request::Count { state } => Ok(task_count(pool, *state)),
+        Request::Handshake {
+            bot,
+            session,
+            dims,
+            quarantined,
+        } => handshake(alloc, pool, bot, session, dims, quarantined),
+        Request::Poll {
+            bot,
+            dims,
+            quarantined,
+        } => poll(alloc, pool, bot, dims, quarantined, steps),
+        Request::Claim { bot, claim: id } => claim(alloc, pool, bot, id, steps),
+        Request::Event { bot, kind, message } => event(alloc, pool, bot, *kind, message),
+        Request::Terminate { bot } => Ok(terminate(pool, bot)),
     }
 }

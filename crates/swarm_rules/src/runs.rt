@@ -1,0 +1,72 @@
+//! What a bot runs, and what it is to run.
+ghost use Rattle.std.specs.Prelude.{◌≡◌, IfOk};
+ghost use Rattle.std.specs.Option.{option_copied, option_map};
+ghost use Rattle.swarm_model.specs.Answers.{run_on, busy, run_from, run};
+
+use crate::LookUps;
+use crate::replies::refuses;
+use crate::rows::{current_slice, try_of};
+use dimensions::TryCopy;
+use std::alloc::{AllocError, Global};
+use std::sync::ledger::Ledger;
+use swarm_model::{BotRow, Reply, Rule, Steps, TaskRow, Told};
+use task_props::Slice;
+
+/// The task that the bot runs.
+fn run_on<'a, P: LookUps, L: Ledger>(
+    pool: &'a P,
+    bot: &BotRow,
+    steps: &mut Steps<L>,
+) -> Option<&'a TaskRow>
+    ensures { option_copied result ≡ run_on (P.state pool.now) bot.now }
+{
+    match bot.task {
+        None => None,
+        Some(number) => pool.task_of(number, steps),
+    }
+}
+
+fn busy(task: &TaskRow) -> Told
+    ensures { result ≡ busy task.now }
+{
+    refuses(Rule::BotBusy {
+        task: task.no,
+        try_no: try_of(task),
+    })
+}
+
+/// The refusal of a bot that has a run.
+pub(crate) fn busy_told<P: LookUps, L: Ledger>(
+    pool: &P,
+    bot: &BotRow,
+    steps: &mut Steps<L>,
+) -> Option<Told>
+    ensures { result ≡ option_map busy (run_on (P.state pool.now) bot.now) }
+{
+    match run_on(pool, bot, steps) {
+        None => None,
+        Some(task) => Some(busy(task)),
+    }
+}
+
+fn run_from(alloc: Global, task: &TaskRow, slice: &Slice) -> Result<Reply, AllocError>
+    ensures { IfOk result (λ reply. reply ≡ run_from task.now slice.now) }
+{
+    Ok(Reply::Run {
+        task: task.no,
+        try_no: 1,
+        slice: task.slice,
+        tolerance: task.request.bot_ping_tolerance_secs,
+        properties: slice.properties.try_copy(alloc)?,
+    })
+}
+
+/// The run of the current slice.
+pub(crate) fn run(alloc: Global, task: &TaskRow) -> Result<Reply, AllocError>
+    ensures { IfOk result (λ reply. reply ≡ run task.now) }
+{
+    match current_slice(task) {
+        None => Ok(Reply::Skip),
+        Some(slice) => run_from(alloc, task, slice),
+    }
+}
