@@ -15,3 +15,4 @@ pub mod Soundness
 pub mod Points
 pub mod Kept
 pub mod Examples
+pub mod BotExamples

@@ -11,6 +11,7 @@ mod answer;
 mod attempt;
 mod blob_row;
 mod bot_changes;
+pub mod bot_examples;
 mod bot_row;
 mod changing;
 mod deadline;

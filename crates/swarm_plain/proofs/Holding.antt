@@ -4,9 +4,10 @@ use Rattle.std.specs.List.{All}
 use Rattle.task_props.proofs.Checked.{slices_counted}
 use Rattle.swarm_model.specs.declared.pool_state.PoolState.{PoolState}
 use Rattle.swarm_model.specs.Soundness.{IsSound}
-use Rattle.swarm_model.proofs.Sound.{sound_always}
+use Rattle.swarm_laws.proofs.Sound.{sound_always}
+use Rattle.swarm_plain.specs.declared.rows.Rows.{Rows}
 use Rattle.swarm_plain.specs.declared.list_pool.ListPool.TheInside.{Inside}
-use Rattle.swarm_plain.specs.Inside.{state_of, IsEarly, HasFewSlices}
+use Rattle.swarm_plain.specs.Inside.{state_of, IsEarly, IsHeard, HasFewSlices, IsInOrder}
 use Rattle.swarm_plain.specs.Invariant.{IsKept}
 
 pub kept_sound : (pool : Inside) → IsKept pool → IsSound (state_of pool.rows)
@@ -17,3 +18,9 @@ all_early s sound = λ k d low. let last = sound.last in let since = (sound.task
 
 pub all_few : (s : PoolState) → IsSound s → All HasFewSlices s.tasks
 all_few s sound = λ k d low. (slices_counted (get_or s.tasks k d).request (sound.tasks k d low).checked).1
+
+pub all_heard : (s : PoolState) → IsSound s → All IsHeard s.bots
+all_heard s sound = λ k d low. let last = sound.last in let contact = (sound.bots k d low).contact in omega (arith, last, contact)
+
+pub in_order : (rows : Rows) → IsSound (state_of rows) → IsInOrder rows
+in_order rows sound = record { tasks = sound.tasks_numbered; bots = sound.bots_numbered; few = all_few (state_of rows) sound }

@@ -1,23 +1,33 @@
 -- The log goes on by an entry that may follow it, and the rows by what it does.
-use Rattle.std.proofs.Common.{◌≡◌, ◌∷◌, [], arith, sym, ap, ◌∙◌, subst, vec_len, vec_capacity}
+use Rattle.std.proofs.Common.{◌≡◌, ◌∷◌, [], IsTrue, arith, sym, ap, ◌∙◌, subst, vec_len, vec_capacity}
 use Rattle.std.specs.List.{sum_by}
 use Rattle.std.proofs.lemmas.List.Sums.{sum_by-append}
-use Rattle.swarm_model.specs.Effects.{opening}
 use Rattle.swarm_model.specs.declared.pool_settings.PoolSettings.{PoolSettings}
-use Rattle.swarm_model.specs.Entries.{weight}
+use Rattle.swarm_model.specs.declared.entry.Entry.{Entry}
+use Rattle.swarm_model.specs.Effects.{opening, after}
+use Rattle.swarm_model.specs.Entries.{weight, is_served}
 use Rattle.swarm_model.specs.History.{replay}
+use Rattle.swarm_laws.proofs.Finds.{served_kind}
 use Rattle.swarm_plain.specs.Inside.{state_of}
 use Rattle.swarm_plain.specs.Invariant.{IsReady}
 use Rattle.swarm_plain.proofs.Legality.{rooms, legal_more}
 use Rattle.swarm_plain.proofs.Committing.{ready_is, of_ready, replayed_more}
-use Rattle.swarm_plain.proofs.Holding.{kept_sound, all_few}
+use Rattle.swarm_plain.proofs.Holding.{kept_sound, in_order}
 use Rattle.swarm_plain.proofs.list_pool.ListPoolMachine.commit.Goals as goal
 
-pub apply-requires-clause-numbered : goal.apply-requires-clause-numbered
-apply-requires-clause-numbered c = (kept_sound c.self.inside c.self.invariant).numbered
+pub apply-requires-clause-served : goal.apply-requires-clause-served
+apply-requires-clause-served c =
+    let is = sym c.take.ensures.value ∙ c.in-Some.is in
+    let same = ready_is c.self.inside.ready c.in-Some.ready c.args.entry is (ap (λ k. k.ready) c.self.view_is ∙ c.requires.ready) in
+    subst (λ (e : Entry). IsTrue (is_served e.kind)) (sym same) (served_kind (state_of c.self.inside.rows) c.args.entry (rw (← c.self.view_is) at c.requires.follows))
 
-pub apply-requires-clause-few : goal.apply-requires-clause-few
-apply-requires-clause-few c = all_few (state_of c.self.inside.rows) (kept_sound c.self.inside c.self.invariant)
+pub apply-requires-clause-order : goal.apply-requires-clause-order
+apply-requires-clause-order c = in_order c.self.inside.rows (kept_sound c.self.inside c.self.invariant)
+
+pub apply-requires-clause-room : goal.apply-requires-clause-room
+apply-requires-clause-room c =
+    let is = sym c.take.ensures.value ∙ c.in-Some.is in
+    (of_ready (IsReady c.self.inside.rows (vec_len c.self.inside.log) (vec_capacity c.self.inside.log)) c.self.inside.ready c.in-Some.ready is c.self.invariant.prepared).rows
 
 pub invariant_of-self : goal.invariant_of-self
 invariant_of-self c =
@@ -31,7 +41,7 @@ invariant_of-self c =
       rules = rw settings c.self.invariant.rules;
       replayed = subst (λ (p : PoolSettings). state_of c.apply.new.self ≡ replay (opening p) c.push.new.rows.items) (sym settings)
           (replayed_more (opening c.self.inside.rows.settings) (state_of c.self.inside.rows) (state_of c.apply.new.self) c.self.inside.log.items c.push.new.rows.items c.args.entry
-          c.self.invariant.replayed c.push.ensures c.apply.ensures.state);
+          c.self.invariant.replayed c.push.ensures (c.apply.ensures.state ∙ ap (λ (e : Entry). after (state_of c.self.inside.rows) e) same));
       legal = rw (settings, c.push.ensures) (legal_more (opening c.self.inside.rows.settings) c.self.inside.log.items c.args.entry c.self.invariant.legal follows room);
       weighs = omega (arith, sum_by-append weight c.self.inside.log.items (c.args.entry ∷ []), ap (sum_by weight) c.push.ensures, made.weighs, ap weight same, c.self.invariant.weighs);
       prepared = rw c.take.ensures.after tt;
