@@ -18,7 +18,7 @@ use Rattle.swarm_model.specs.History.{replay, IsLegal, moment_of}
 use Rattle.swarm_model.specs.Points.{is_ahead, IsPoint, IsStopped, LacksRoom, next_entry}
 use Rattle.swarm_model.specs.Kept.{Kept, IsHistory}
 use Rattle.swarm_model.specs.Soundness.{IsSound}
-use Rattle.swarm_model.proofs.Sound.{sound_always}
+use Rattle.swarm_laws.proofs.Sound.{sound_always}
 use Rattle.swarm_history.specs.Settling.{Settles, Responds}
 
 -- what a machine keeps is sound
