@@ -1,5 +1,5 @@
 -- How an answer is put together.
-use Rattle.std.proofs.Common.{◌≡◌, ℕ, Bool, true, false, Option, Some, None, refl}
+use Rattle.std.proofs.Common.{◌≡◌, Bool, true, false, Option, Some, None, refl}
 use Rattle.std.specs.Option.{option_map}
 use Rattle.dimensions.specs.Choosing.{when}
 use Rattle.swarm_model.specs.declared.answer.Told.{Told}

@@ -1,6 +1,6 @@
 -- A bot's row stays sound.
-use Rattle.std.proofs.Common.{◌≡◌, ℕ, ◌+◌, ◌≤◌, ◌<◌, ◌&&◌, min, Bool, true, false, List, [], ◌∷◌, ◌++◌, map, length, refl, sym, ap, ◌∙◌, subst, arith, Option, Some, None, IfSome, IsTrue}
-use Rattle.std.specs.Prelude.{if◌then◌else◌, unwrap_or, nat_le}
+use Rattle.std.proofs.Common.{◌≡◌, ℕ, ◌+◌, ◌≤◌, min, Bool, true, false, List, [], ◌∷◌, ◌++◌, map, length, refl, sym, subst, arith, Option, Some, None, IfSome, IsTrue}
+use Rattle.std.specs.Prelude.{unwrap_or, nat_le}
 use Rattle.std.specs.List.{All}
 use Rattle.std.specs.Option.{option_map_or}
 use Rattle.std.proofs.lemmas.Bool.{cond_both, and_parts, and_from}
@@ -20,12 +20,12 @@ use Rattle.swarm_model.specs.declared.entry.EventKind.TheVariants as event
 use Rattle.swarm_model.specs.declared.request.Request.TheVariants as ask
 use Rattle.swarm_model.specs.Finding.{bot_of, blob_of}
 use Rattle.swarm_model.specs.Fits.{fits, fits_bot, fits_message, is_name}
-use Rattle.swarm_model.specs.Effects.{no_of_task, task_after, added_tasks, bot_after, added_bots, hushed, deadened, greeted, polled, busied, heard, noted, terminated, streak_after, after, with_blobs, put, put_chunk, place_for, renewed_until, new_blob, life, fresh_chunk, attempt_of}
+use Rattle.swarm_model.specs.Effects.{no_of_task, task_after, added_tasks, added_bots, hushed, greeted, polled, busied, heard, noted, streak_after, after, with_blobs, put, put_chunk, place_for, renewed_until, new_blob, life, fresh_chunk, attempt_of}
 use Rattle.swarm_model.specs.History.{MayFollow}
 use Rattle.swarm_model.specs.Soundness.{IsSound, IsSoundBot}
 use Rattle.swarm_laws.proofs.Lists.{Among, each_one, number_within}
-use Rattle.swarm_laws.proofs.Finds.{Finds, FindsClaim, IsFitting, finds, fitting}
-use Rattle.swarm_laws.proofs.Rows.{Keeps, bot_by, bot_is, all_bots, no_fewer, claim_gets}
+use Rattle.swarm_laws.proofs.Finds.{FindsClaim, IsFitting, finds, fitting}
+use Rattle.swarm_laws.proofs.Rows.{bot_by, bot_is, all_bots, no_fewer, claim_gets}
 
 -- no entry changes the settings
 

@@ -34,7 +34,7 @@ use Rattle.swarm_model.specs.declared.entry.Outcome.{Outcome}
 use Rattle.swarm_model.specs.declared.entry.Outcome.TheVariants as outcome
 use Rattle.swarm_model.specs.declared.request.Request.{Request}
 use Rattle.swarm_model.specs.declared.request.Request.TheVariants as ask
-use Rattle.swarm_model.specs.Finding.{has_state, is_state, is_final, task_of, bot_named, bot_of, is_called}
+use Rattle.swarm_model.specs.Finding.{has_state, is_state, is_final, task_of, bot_named, is_called}
 use Rattle.swarm_model.specs.Fits.{fits}
 use Rattle.swarm_model.specs.Slices.{is_open, admit, current_slice, first}
 use Rattle.swarm_model.specs.Answers.{tell, entry_at, accepted, accepted_at, tasks_full, named_task, result_of, greet, handshake, poll, busy, run_on, claim, claim_again, claimed, claims, unfit_of, unfit_told, event, terminate, answers}

@@ -8,3 +8,5 @@ pub mod Bots
 pub mod Runs
 pub mod Moments
 pub mod Sound
+pub mod Alike
+pub mod Following

@@ -23,13 +23,13 @@ use Rattle.swarm_model.specs.declared.entry.EventKind.TheVariants as event
 use Rattle.swarm_model.specs.declared.entry.Outcome.TheVariants as outcome
 use Rattle.swarm_model.specs.Finding.{is_bot, bot_of}
 use Rattle.swarm_model.specs.Slices.{admit, current_slice}
-use Rattle.swarm_model.specs.Deadlines.{slice_limit, slice_end, silence_limit, silence_end, bot_end, deadlines, next_of, last_state}
-use Rattle.swarm_model.specs.Effects.{task_after, added_tasks, bot_after, added_bots, new_row, moved, lost, begun, end_state, greeted, busied, heard, noted, after}
+use Rattle.swarm_model.specs.Deadlines.{slice_limit, slice_end, silence_limit, silence_end, bot_end, next_of, last_state}
+use Rattle.swarm_model.specs.Effects.{task_after, added_tasks, bot_after, added_bots, new_row, moved, lost, end_state, greeted, busied, noted, after}
 use Rattle.swarm_model.specs.History.{MayFollow}
 use Rattle.swarm_model.specs.Soundness.{IsSound, runner}
 use Rattle.swarm_laws.proofs.Lists.{Among, Found, each, all, each_one, among_left, among_right, find_is, from_filter_map, all_filter_map}
 use Rattle.swarm_laws.proofs.Earliest.{Ahead, ahead_of_next}
-use Rattle.swarm_laws.proofs.Finds.{Finds, FindsClaim, IsFitting, finds, fitting, waits, runs}
+use Rattle.swarm_laws.proofs.Finds.{Finds, IsFitting, finds, fitting, waits, runs}
 use Rattle.swarm_laws.proofs.Rows.{task_by, bot_by, all_tasks, all_bots, find_bot}
 use Rattle.swarm_laws.proofs.Tasks.{end_final, last_final, not_pending, runner_lost, runner_moved, added_idle}
 use Rattle.swarm_laws.proofs.Bots.{settings_same}

@@ -1,6 +1,6 @@
 -- Rows by their numbers, and what holds of them before and after an entry.
-use Rattle.std.proofs.Common.{◌≡◌, ℕ, ◌+◌, ◌≤◌, ◌==◌, ◌&&◌, Bool, true, false, cond, List, [], ◌∷◌, ◌++◌, ◌⊎◌, inl, inr, map, length, length-append, refl, sym, ap, ◌∙◌, subst, arith, Option, Some, None, IfSome, IsTrue, IsSomeAnd, eqb-true, filter}
-use Rattle.std.specs.Prelude.{⊤, if◌then◌else◌, unwrap_or}
+use Rattle.std.proofs.Common.{◌≡◌, ℕ, ◌≤◌, ◌==◌, Bool, true, false, cond, List, [], ◌∷◌, ◌++◌, ◌⊎◌, inl, inr, map, length, length-append, refl, sym, ap, ◌∙◌, subst, arith, Option, Some, None, IsTrue, IsSomeAnd, eqb-true, filter}
+use Rattle.std.specs.Prelude.{if◌then◌else◌, unwrap_or}
 use Rattle.std.specs.List.{All, fold}
 use Rattle.std.specs.Option.{option_map, option_map_or, option_and_then}
 use Rattle.std.proofs.lemmas.Bool.{cond_both, and_parts}
@@ -8,7 +8,7 @@ use Rattle.std.proofs.lemmas.List.{length-map}
 use Rattle.dimensions.specs.declared.text.Text.{Text}
 use Rattle.dimensions.specs.declared.bot_dims.BotDims.{BotDims}
 use Rattle.swarm_model.specs.declared.task_state.TaskState.{TaskState}
-use Rattle.swarm_model.specs.declared.task_state.TaskState.TheVariants.{Pending, Running, NoResource}
+use Rattle.swarm_model.specs.declared.task_state.TaskState.TheVariants.{Running, NoResource}
 use Rattle.swarm_model.specs.declared.attempt.Attempt.{Attempt}
 use Rattle.swarm_model.specs.declared.task_row.TaskRow.{TaskRow}
 use Rattle.swarm_model.specs.declared.bot_row.BotRow.{BotRow}
@@ -19,7 +19,7 @@ use Rattle.swarm_model.specs.declared.entry.EntryKind.TheVariants as kind
 use Rattle.swarm_model.specs.declared.entry.Outcome.{Outcome}
 use Rattle.swarm_model.specs.declared.entry.Outcome.TheVariants as outcome
 use Rattle.swarm_model.specs.declared.request.Request.TheVariants as ask
-use Rattle.swarm_model.specs.Finding.{is_state, has_state, is_bot, task_of, bot_of}
+use Rattle.swarm_model.specs.Finding.{is_state, is_bot, task_of, bot_of}
 use Rattle.swarm_model.specs.Fits.{fits, fits_message, is_name}
 use Rattle.swarm_model.specs.Slices.{foremost, goes_before, waits_for, takes_slice, current_slice}
 use Rattle.swarm_model.specs.Deadlines.{next_of}

@@ -1,6 +1,5 @@
 -- A bot's row names its run, before and after each entry.
-use Rattle.std.proofs.Common.{◌≡◌, ◌↔◌, ℕ, ◌+◌, ◌≤◌, ◌==◌, List, [], ◌∷◌, length, refl, ap, sym, ◌∙◌, subst, cond, true, false, Bool, Option, Some, None, IfSome, ◌⊎◌, inl, inr, eqb-true, arith}
-use Rattle.std.specs.Prelude.{if◌then◌else◌}
+use Rattle.std.proofs.Common.{◌≡◌, ◌↔◌, ℕ, ◌≤◌, ◌==◌, List, [], ◌∷◌, length, refl, ap, sym, ◌∙◌, subst, cond, true, false, Bool, Option, Some, None, IfSome, ◌⊎◌, inl, inr, eqb-true, arith}
 use Rattle.std.specs.List.{All}
 use Rattle.std.specs.Option.{option_map_or, option_and_then}
 use Rattle.std.proofs.lemmas.Bool.{cond_both, eq-eqb, eqb-false}
@@ -23,7 +22,7 @@ use Rattle.swarm_model.specs.Effects.{task_after, added_tasks, bot_after, added_
 use Rattle.swarm_model.specs.History.{MayFollow}
 use Rattle.swarm_model.specs.Soundness.{IsSound, Agree, runner}
 use Rattle.swarm_laws.proofs.Lists.{Among, each_one, find_none}
-use Rattle.swarm_laws.proofs.Finds.{Finds, FindsNew, IsOld, IsNewcomer, finds, waits}
+use Rattle.swarm_laws.proofs.Finds.{Finds, IsOld, IsNewcomer, finds, waits}
 use Rattle.swarm_laws.proofs.Rows.{task_is, bot_is, agree, find_bot, row_is, goes_to, claim_waits, HasRun, run_is, all_tasks, all_bots}
 use Rattle.swarm_laws.proofs.Tasks.{runner_waits, runner_lost, runner_moved, added_idle}
 

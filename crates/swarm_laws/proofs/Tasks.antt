@@ -1,8 +1,8 @@
 -- A task's row stays sound.
-use Rattle.std.proofs.Common.{◌≡◌, ℕ, ◌+◌, ◌-◌, ◌<◌, ◌≤◌, ◌==◌, ◌&&◌, Bool, true, false, List, [], ◌∷◌, ◌++◌, map, length, refl, sym, ap, ◌∙◌, subst, arith, Option, Some, None, IfSome, is_some, is_none}
+use Rattle.std.proofs.Common.{◌≡◌, ℕ, ◌+◌, ◌≤◌, ◌==◌, ◌&&◌, Bool, true, false, List, length, refl, arith, Option, Some, None, IfSome, is_some, is_none}
 use Rattle.std.specs.Prelude.{if◌then◌else◌}
 use Rattle.std.specs.List.{All}
-use Rattle.std.specs.Option.{option_map, option_map_or, option_and_then}
+use Rattle.std.specs.Option.{option_map_or, option_and_then}
 use Rattle.std.proofs.lemmas.Bool.{cond_both, and_parts}
 use Rattle.std.proofs.lemmas.Option.{IfSome_then}
 use Rattle.task_props.proofs.Checked.{slices_counted}
@@ -10,22 +10,20 @@ use Rattle.swarm_model.specs.declared.task_state.TaskState.{TaskState}
 use Rattle.swarm_model.specs.declared.task_state.TaskState.TheVariants.{Pending, Running, Expired, NoResource, BotDied, Killed}
 use Rattle.swarm_model.specs.declared.attempt.Attempt.{Attempt}
 use Rattle.swarm_model.specs.declared.task_row.TaskRow.{TaskRow}
-use Rattle.swarm_model.specs.declared.bot_row.BotRow.{BotRow}
 use Rattle.swarm_model.specs.declared.pool_state.PoolState.{PoolState}
 use Rattle.swarm_model.specs.declared.entry.Entry.{Entry}
 use Rattle.swarm_model.specs.declared.entry.EntryKind.{EntryKind}
 use Rattle.swarm_model.specs.declared.entry.EntryKind.TheVariants as kind
-use Rattle.swarm_model.specs.declared.entry.Outcome.{Outcome}
 use Rattle.swarm_model.specs.declared.entry.Outcome.TheVariants as outcome
 use Rattle.swarm_model.specs.Finding.{is_state, is_final}
 use Rattle.swarm_model.specs.Slices.{admit}
 use Rattle.swarm_model.specs.Deadlines.{next_of, last_state}
-use Rattle.swarm_model.specs.Effects.{no_of_bot, task_after, added_tasks, added_bots, bot_after, moved, lost, begun, end_state, new_row, end_at, after}
+use Rattle.swarm_model.specs.Effects.{no_of_bot, added_tasks, added_bots, bot_after, moved, lost, begun, end_state, new_row, end_at, after}
 use Rattle.swarm_model.specs.History.{MayFollow}
-use Rattle.swarm_model.specs.Soundness.{IsSound, IsSoundTask, fits_state, runner}
+use Rattle.swarm_model.specs.Soundness.{IsSound, IsSoundTask, runner}
 use Rattle.swarm_laws.proofs.Lists.{Among, each_one, number_within}
-use Rattle.swarm_laws.proofs.Finds.{Finds, FindsClaim, finds, admit_within, waits, runs}
-use Rattle.swarm_laws.proofs.Rows.{Stays, task_by, task_is, all_tasks, no_fewer, runner_in}
+use Rattle.swarm_laws.proofs.Finds.{Finds, FindsClaim, finds, admit_within, waits}
+use Rattle.swarm_laws.proofs.Rows.{task_by, task_is, all_tasks, no_fewer, runner_in}
 
 -- states
 
