@@ -113,12 +113,3 @@ asks s (kind.Contact b) = option_map handshake_of (bot_of s b)
 asks s (kind.Event b e text) = option_map (event_of e text) (bot_of s b)
 asks s (kind.Terminate b) = option_map terminate_of (bot_of s b)
 asks s entry = None
-
--- the entries that a request or a deadline adds by now
-abbrev pub is_served : EntryKind → Bool
-is_served (kind.Blob n kept) = false
-is_served (kind.Cancel t) = false
-is_served (kind.Kill t) = false
-is_served (kind.Update b t try_no chunk last) = false
-is_served (kind.Put digest size) = false
-is_served entry = true

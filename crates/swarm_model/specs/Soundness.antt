@@ -1,5 +1,5 @@
 -- What holds of every pool that a log leads to.
-use Rattle.std.specs.Prelude.{◌≡◌, ◌↔◌, ℕ, Bool, ◌^◌, ◌≤◌, ◌<◌, ◌&&◌, IsTrue, List, length, Option, Some, None, is_some, is_none, if◌then◌else◌}
+use Rattle.std.specs.Prelude.{◌≡◌, ◌↔◌, ℕ, Bool, ◌^◌, ◌≤◌, ◌<◌, ◌&&◌, IsTrue, List, length, Option, Some, None, IfSome, is_some, is_none, if◌then◌else◌}
 use Rattle.std.specs.List.{All}
 use Rattle.std.specs.Option.{option_map, option_and_then}
 use Rattle.task_props.specs.Checked.{is_checked}
@@ -9,7 +9,9 @@ use Rattle.swarm_model.specs.declared.task_row.TaskRow.{TaskRow}
 use Rattle.swarm_model.specs.declared.bot_row.BotRow.{BotRow}
 use Rattle.swarm_model.specs.declared.pool_state.PoolState.{PoolState}
 use Rattle.swarm_model.specs.declared.entry.Entry.{Entry}
+use Rattle.swarm_model.specs.declared.request.Request.TheVariants as ask
 use Rattle.swarm_model.specs.Numbers.{AreNumbered}
+use Rattle.swarm_model.specs.Fits.{fits}
 use Rattle.swarm_model.specs.Finding.{has_state}
 use Rattle.swarm_model.specs.Deadlines.{deadlines}
 use Rattle.swarm_model.specs.Effects.{opening, no_of_task, no_of_bot}
@@ -22,21 +24,26 @@ fits_state task =
     else if has_state Running task then is_some task.attempt && (is_none (option_and_then (λ a. a.last) task.attempt) && is_none task.ended)
     else is_some task.ended
 
--- a row holds a checked request and a place of its slices; what began lies behind the last moment
+-- the bot that runs a task
+abbrev pub runner : TaskRow → Option ℕ
+runner task = if has_state Running task then option_map (λ attempt. attempt.bot) task.attempt else None
+
+-- a row holds a checked request and a place of its slices; what began lies behind the last moment,
+-- and the bot that runs the task is there
 pub record IsSoundTask (s : PoolState) (task : TaskRow) : Type 0 where
   pub checked : IsTrue (is_checked task.request)
   pub has_slice : task.slice < length task.request.task_slices
   pub since : task.since ≤ s.last
   pub state : IsTrue (fits_state task)
+  pub has_bot : IfSome (runner task) (λ bot. bot ≤ length s.bots)
 
--- a bot was not heard after the last moment
+-- a bot was not heard after the last moment, its handshake is one that the pool may be asked, and
+-- the task that it runs is there
 pub record IsSoundBot (s : PoolState) (bot : BotRow) : Type 0 where
   pub contact : bot.contact ≤ s.last
   pub streak : bot.streak ≤ 63
-
--- the bot that runs a task
-abbrev pub runner : TaskRow → Option ℕ
-runner task = if has_state Running task then option_map (λ attempt. attempt.bot) task.attempt else None
+  pub known : IsTrue (fits s.settings (ask.Handshake bot.name bot.session bot.dims bot.quarantined))
+  pub has_task : IfSome bot.task (λ task. task ≤ length s.tasks)
 
 -- a bot's row names a task exactly where the task runs on the bot
 abbrev pub Agree : BotRow → TaskRow → Type 0

@@ -5,7 +5,7 @@ ghost use Rattle.std.specs.Option.{option_copied, option_map};
 ghost use Rattle.swarm_model.specs.declared.entry.EntryKind.TheVariants as kind;
 ghost use Rattle.swarm_model.specs.Numbers.{AreNumbered, change_at};
 ghost use Rattle.swarm_model.specs.Finding.{bot_of};
-ghost use Rattle.swarm_model.specs.Entries.{is_served};
+ghost use Rattle.swarm_laws.specs.Served.{is_served};
 ghost use Rattle.swarm_model.specs.Effects.{no_of_task, no_of_bot, if_some, lost_at, new_row, end_at, greeted, runs_task, hushed, bot_after, after};
 ghost use Rattle.swarm_plain.specs.Inside.{state_of, IsInOrder, HasRoom, Becomes, hushed_if};
 

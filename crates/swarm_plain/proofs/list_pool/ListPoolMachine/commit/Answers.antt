@@ -5,7 +5,8 @@ use Rattle.std.proofs.lemmas.List.Sums.{sum_by-append}
 use Rattle.swarm_model.specs.declared.pool_settings.PoolSettings.{PoolSettings}
 use Rattle.swarm_model.specs.declared.entry.Entry.{Entry}
 use Rattle.swarm_model.specs.Effects.{opening, after}
-use Rattle.swarm_model.specs.Entries.{weight, is_served}
+use Rattle.swarm_model.specs.Entries.{weight}
+use Rattle.swarm_laws.specs.Served.{is_served}
 use Rattle.swarm_model.specs.History.{replay}
 use Rattle.swarm_laws.proofs.Finds.{served_kind}
 use Rattle.swarm_plain.specs.Inside.{state_of}

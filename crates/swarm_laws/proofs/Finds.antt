@@ -1,0 +1,263 @@
+-- What an entry that may follow finds in the pool.
+use Rattle.std.proofs.Common.{◌≡◌, ℕ, ◌+◌, ◌<◌, ◌≤◌, ◌&&◌, not, Bool, true, false, cond, List, [], ◌∷◌, ◌⊎◌, inl, inr, length, drop, length-drop, refl, subst, arith, Option, Some, None, IfSome, IsTrue, IsSomeAnd, is_some, is_none, filter_map}
+use Rattle.std.specs.Prelude.{⊤, nat_le}
+use Rattle.std.specs.Bool.{MatchBool}
+use Rattle.std.specs.List.{All, position_from}
+use Rattle.std.specs.Option.{option_map, option_map_or}
+use Rattle.std.proofs.lemmas.Bool.{and_parts, cond_both}
+use Rattle.std.proofs.lemmas.Option.{same_Some}
+use Rattle.std.proofs.lemmas.List.Elements.{All-append}
+use Rattle.dimensions.specs.declared.bot_dims.BotDims.{BotDims}
+use Rattle.dimensions.specs.Alike.{same}
+use Rattle.dimensions.specs.Rules.{is_empty}
+use Rattle.task_props.specs.declared.new_task.NewTask.{NewTask}
+use Rattle.task_props.specs.declared.slice.Slice.{Slice}
+use Rattle.task_props.specs.Checked.{is_checked, pool_of_task}
+use Rattle.task_props.proofs.Checked.{slices_counted}
+use Rattle.swarm_model.specs.declared.task_state.TaskState.{TaskState}
+use Rattle.swarm_model.specs.declared.task_state.TaskState.TheVariants.{Pending, Running, NoResource}
+use Rattle.swarm_model.specs.declared.task_row.TaskRow.{TaskRow}
+use Rattle.swarm_model.specs.declared.bot_row.BotRow.{BotRow}
+use Rattle.swarm_model.specs.declared.pool_state.PoolState.{PoolState}
+use Rattle.swarm_model.specs.declared.deadline.Deadline.{Deadline}
+use Rattle.swarm_model.specs.declared.deadline.Cause.{Cause}
+use Rattle.swarm_model.specs.declared.deadline.Cause.TheVariants as cause
+use Rattle.swarm_model.specs.declared.answer.Told.{Told}
+use Rattle.swarm_model.specs.declared.rule.Rule.TheVariants as rule
+use Rattle.swarm_model.specs.declared.rule.Unfit.TheVariants as unfit
+use Rattle.swarm_model.specs.declared.reply.Reply.TheVariants as reply
+use Rattle.swarm_model.specs.declared.entry.Entry.{Entry}
+use Rattle.swarm_model.specs.declared.entry.EventKind.{EventKind}
+use Rattle.swarm_model.specs.declared.entry.EntryKind.{EntryKind}
+use Rattle.swarm_model.specs.declared.entry.EntryKind.TheVariants as kind
+use Rattle.swarm_model.specs.declared.entry.Outcome.{Outcome}
+use Rattle.swarm_model.specs.declared.entry.Outcome.TheVariants as outcome
+use Rattle.swarm_model.specs.declared.request.Request.{Request}
+use Rattle.swarm_model.specs.declared.request.Request.TheVariants as ask
+use Rattle.swarm_model.specs.Finding.{has_state, is_state, is_final, task_of, bot_named, is_called}
+use Rattle.swarm_model.specs.Fits.{fits}
+use Rattle.swarm_model.specs.Slices.{is_open, admit, current_slice, first}
+use Rattle.swarm_model.specs.Answers.{tell, entry_at, accepted, accepted_at, tasks_full, named_task, result_of, greet, handshake, poll, busy, run_on, claim, claim_again, claimed, claims, unfit_of, unfit_told, event, terminate, answers}
+use Rattle.swarm_model.specs.Deadlines.{next_of, settled, slice_end, slice_limit, silence_end, silence_limit, runner_of, bot_end, deadlines, due_entry}
+use Rattle.swarm_model.specs.Entries.{asks, is_deadline, Asked}
+use Rattle.swarm_model.specs.History.{MayFollow, IsDue, IsAnswered}
+use Rattle.swarm_laws.specs.Served.{is_served}
+use Rattle.swarm_laws.proofs.Lists.{Among, Found, find_is, all_filter_map}
+use Rattle.swarm_laws.proofs.Earliest.{due_at, due_has}
+use Rattle.swarm_laws.proofs.Answering.{by_when, by_map, by_with}
+
+-- a task of that number of which the test holds
+pub record HasTask (s : PoolState) (number : ℕ) (test : TaskRow → Bool) : Type 0 where
+  pub task : TaskRow
+  pub among : Among task s.tasks
+  pub named : task.no ≡ number
+  pub passes : test task ≡ true
+
+abbrev pub waits : TaskRow → Bool
+waits task = has_state Pending task
+
+abbrev pub runs : TaskRow → Bool
+runs task = has_state Running task
+
+pub record FindsSlice (s : PoolState) (t : ℕ) (to : Outcome) : Type 0 where
+  pub waiting : HasTask s t waits
+  pub goes : to ≡ option_map_or (next_of s) (task_of s t) (outcome.Ended NoResource)
+
+pub record FindsNew (s : PoolState) (t : ℕ) (request : NewTask) (state : TaskState) (slice : ℕ) : Type 0 where
+  pub next : t ≡ length s.tasks + 1
+  pub idle : is_state state Running ≡ false
+  pub checked : is_checked request ≡ true
+  pub has_slice : slice < length request.task_slices
+
+pub record IsOld (s : PoolState) (b : ℕ) (id : List ℕ) : Type 0 where
+  pub bot : BotRow
+  pub among : Among bot s.bots
+  pub named : bot.no ≡ b
+  pub called : same bot.name id ≡ true
+
+pub record IsNewcomer (s : PoolState) (b : ℕ) (id : List ℕ) : Type 0 where
+  pub unknown : bot_named s id ≡ None
+  pub next : b ≡ length s.bots + 1
+
+pub record FindsClaim (s : PoolState) (b t : ℕ) (id : List ℕ) : Type 0 where
+  pub bot : BotRow
+  pub among : Among bot s.bots
+  pub named : bot.no ≡ b
+  pub fresh : claimed s bot.no id ≡ None
+  pub fit : unfit_of bot ≡ None
+  pub idle : run_on s bot ≡ None
+  pub task : TaskRow
+  pub gets : first s bot.dims ≡ Some task
+  pub task_named : task.no ≡ t
+
+-- nothing at all, where no request and no deadline adds the kind
+abbrev pub Finds : PoolState → EntryKind → Type 0
+Finds s (kind.Slice t to) = FindsSlice s t to
+Finds s (kind.Silence t) = HasTask s t runs
+Finds s (kind.Dead b) = ⊤
+Finds s (kind.New t who request state slice from) = FindsNew s t request state slice
+Finds s (kind.Handshake b id session dims q) = IsNewcomer s b id ⊎ IsOld s b id
+Finds s (kind.Poll b dims q hint) = ⊤
+Finds s (kind.Claim b t id) = FindsClaim s b t id
+Finds s (kind.Contact b) = ⊤
+Finds s (kind.Event b e text) = ⊤
+Finds s (kind.Terminate b) = ⊤
+Finds s entry = ⊥
+
+-- the kind is served
+served_of : (s : PoolState) (k : EntryKind) → Finds s k → is_served k ≡ true
+served_of s (kind.Blob n kept) f = absurd f
+served_of s (kind.Cancel t) f = absurd f
+served_of s (kind.Kill t) f = absurd f
+served_of s (kind.Update b t try_no chunk last) f = absurd f
+served_of s (kind.Put digest size) f = absurd f
+served_of s entry f = refl
+
+-- a place that is found lies within the list
+position_within : (test : Slice → Bool) (start : ℕ) (xs : List Slice) (place : ℕ) → position_from test start xs ≡ Some place → place < start + length xs
+position_within test start [] place h = absurd (cc (h))
+position_within test start (x ∷ xs) place h = by_test (test x) h (position_within test (start + 1) xs place)
+  where
+    by_test : (b : Bool) → cond b (Some start) (position_from test (start + 1) xs) ≡ Some place → (position_from test (start + 1) xs ≡ Some place → place < start + 1 + length xs) → place < start + length (x ∷ xs)
+    by_test true g rest = (let e : start ≡ place = same_Some _ _ g in omega (arith, e))
+    by_test false g rest = (let r = rest g in omega (arith, r))
+
+drop_within : (start : ℕ) (xs : List Slice) (place : ℕ) → place < start + length (drop start xs) → start ≤ length xs → place < length xs
+drop_within start xs place low few = omega (arith, length-drop start xs)
+
+-- a slice to which a task comes is one of its own
+pub admit_within : (s : PoolState) (slices : List Slice) (start place : ℕ) → start ≤ length slices → admit s slices start ≡ Some place → place < length slices
+admit_within s slices start place few h = drop_within start slices place (position_within (is_open s) start (drop start slices) place h) few
+
+abbrev Adds : PoolState → Told → Type 0
+Adds s told = IfSome told.adds (Finds s)
+
+-- a new task that is accepted comes to one of its slices
+accepted_finds : (s : PoolState) (who : List ℕ) (request : NewTask) (o : Option ℕ) → is_checked request ≡ true → admit s request.task_slices 0 ≡ o → Adds s (accepted_at s who request o)
+accepted_finds s who request (Some place) checked h =
+    record { next = refl; idle = refl; checked = checked; has_slice = admit_within s request.task_slices 0 place (omega arith) h }
+accepted_finds s who request None checked h =
+    let many = (slices_counted request checked).0 in record { next = refl; idle = refl; checked = checked; has_slice = omega (arith, many) }
+
+bot_is : (s : PoolState) (name : List ℕ) (bot : BotRow) → bot_named s name ≡ Some bot → Found (is_called name) s.bots bot
+bot_is s name bot e = find_is (is_called name) s.bots bot e
+
+handshake_finds : (s : PoolState) (name session : List ℕ) (dims : BotDims) (q : List ℕ) → Adds s (handshake s name session dims q)
+handshake_finds s name session dims q =
+    by_map (Adds s) (greet name session dims q) (bot_named s name) _ (λ bot e. cond_both (same bot.session session) _ _ (Adds s) (λ t. tt) (λ t.
+    let f = bot_is s name bot e in inr (record { bot = bot; among = f.among; named = refl; called = f.passes }))) (λ unknown.
+    by_when (Adds s) (nat_le s.settings.most_bots (length s.bots)) _ _ (λ t. tt) (λ t. inl (record { unknown = unknown; next = refl })))
+
+poll_finds : (s : PoolState) (dims : BotDims) (q : List ℕ) (bot : BotRow) → Adds s (poll s dims q bot)
+poll_finds s dims q bot =
+    by_when (Adds s) bot.dead _ _ (λ t. tt) (λ t.
+    by_map (Adds s) busy (run_on s bot) _ (λ x e. tt) (λ e.
+    by_when (Adds s) bot.terminating _ _ (λ t. tt) (λ t.
+    by_when (Adds s) (not (is_empty q)) _ _ (λ t. tt) (λ t.
+    by_when (Adds s) (is_some (first s dims)) _ _ (λ t. tt) (λ t. tt)))))
+
+claim_finds : (s : PoolState) (id : List ℕ) (bot : BotRow) → Among bot s.bots → Adds s (claim s id bot)
+claim_finds s id bot a =
+    by_map (Adds s) (claim_again bot) (claimed s bot.no id) _ (λ task e. cond_both (is_final task.state) _ _ (Adds s) (λ t. tt) (λ t. tt)) (λ fresh.
+    by_map (Adds s) unfit_told (unfit_of bot) _ (λ why e. tt) (λ fit.
+    by_map (Adds s) busy (run_on s bot) _ (λ task e. tt) (λ idle.
+    by_map (Adds s) (claims bot id) (first s bot.dims) _ (λ task gets.
+    record { bot = bot; among = a; named = refl; fresh = fresh; fit = fit; idle = idle; task = task; gets = gets; task_named = refl }) (λ e. tt))))
+
+event_finds : (s : PoolState) (which : EventKind) (text : List ℕ) (bot : BotRow) → Adds s (event which text bot)
+event_finds s which text bot = by_when (Adds s) (bot.dead && is_none bot.task) (unfit_told unfit.Dead) (answers reply.Noted (kind.Event bot.no which text)) (λ t. tt) (λ t. tt)
+
+-- so does every request that the pool may be asked
+tell_finds : (s : PoolState) (who : List ℕ) (m : ℕ) (request : Request) → IsTrue (fits s.settings request) → Adds s (tell s who m request)
+tell_finds s who m (ask.New request) may =
+    let checked = (and_parts (is_checked request) (same (pool_of_task request) s.settings.name) may).0 in
+    by_when (Adds s) (nat_le s.settings.most_tasks (length s.tasks)) (tasks_full s) (accepted s who request) (λ t. tt) (λ t. accepted_finds s who request (admit s request.task_slices 0) checked refl)
+tell_finds s who m (ask.Result task try_no) may = by_with (Adds s) (named_task s task try_no) rule.NoTask (result_of s) tt (λ row e. tt)
+tell_finds s who m (ask.Count state) may = tt
+tell_finds s who m (ask.Handshake name session dims q) may = handshake_finds s name session dims q
+tell_finds s who m (ask.Poll name dims q) may = by_with (Adds s) (bot_named s name) rule.NoBot (poll s dims q) tt (λ bot e. poll_finds s dims q bot)
+tell_finds s who m (ask.Claim name id) may = by_with (Adds s) (bot_named s name) rule.NoBot (claim s id) tt (λ bot e. claim_finds s id bot (bot_is s name bot e).among)
+tell_finds s who m (ask.Event name which text) may = by_with (Adds s) (bot_named s name) rule.NoBot (event which text) tt (λ bot e. event_finds s which text bot)
+tell_finds s who m (ask.Terminate name) may =
+    by_with (Adds s) (bot_named s name) rule.NoBot terminate tt (λ bot e. cond_both bot.terminating _ _ (Adds s) (λ t. tt) (λ t. tt))
+
+-- what is due is the deadline of a row
+
+abbrev DueRow : PoolState → Cause → ℕ → Type 0
+DueRow s cause.Slice n = HasTask s n waits
+DueRow s cause.Silence n = HasTask s n runs
+DueRow s cause.Bot n = ⊤
+
+abbrev IsOfRow : PoolState → Deadline → Type 0
+IsOfRow s d = DueRow s d.cause d.number
+
+slice_row : (s : PoolState) (task : TaskRow) → Among task s.tasks → IfSome (slice_end task) (IsOfRow s)
+slice_row s task a = cond_both (waits task) _ None (λ (o : Option Deadline). IfSome o (IsOfRow s)) (λ w. by_slice w (current_slice task)) (λ w. tt)
+  where
+    by_slice : waits task ≡ true → (o : Option Slice) → IfSome (option_map (slice_limit task) o) (IsOfRow s)
+    by_slice w None = tt
+    by_slice w (Some slice) = record { task = task; among = a; named = refl; passes = w }
+
+silence_row : (s : PoolState) (task : TaskRow) → Among task s.tasks → IfSome (silence_end s task) (IsOfRow s)
+silence_row s task a = cond_both (runs task) _ None (λ (o : Option Deadline). IfSome o (IsOfRow s)) (λ w. by_bot w (runner_of s task)) (λ w. tt)
+  where
+    by_bot : runs task ≡ true → (o : Option BotRow) → IfSome (option_map (silence_limit task) o) (IsOfRow s)
+    by_bot w None = tt
+    by_bot w (Some bot) = record { task = task; among = a; named = refl; passes = w }
+
+deadline_row : (s : PoolState) → All (IsOfRow s) (deadlines s)
+deadline_row s =
+    All-append (IsOfRow s) (filter_map slice_end s.tasks) _ (all_filter_map slice_end (IsOfRow s) s.tasks (slice_row s))
+    (All-append (IsOfRow s) (filter_map (silence_end s) s.tasks) (filter_map (bot_end s) s.bots)
+    (all_filter_map (silence_end s) (IsOfRow s) s.tasks (silence_row s))
+    (all_filter_map (bot_end s) (IsOfRow s) s.bots (λ bot a. cond_both bot.dead None _ (λ (o : Option Deadline). IfSome o (IsOfRow s)) (λ t. tt) (λ t. tt))))
+
+-- and every deadline
+settled_finds : (s : PoolState) (c : Cause) (n : ℕ) → DueRow s c n → Finds s (settled s c n)
+settled_finds s cause.Slice n h = record { waiting = h; goes = refl }
+settled_finds s cause.Silence n h = h
+settled_finds s cause.Bot n h = tt
+
+due_finds : (s : PoolState) (m pass : ℕ) (e : Entry) → due_entry s m pass ≡ Some e → Finds s e.kind
+due_finds s m pass e h =
+    let found = due_at s m pass e h in
+    subst (λ (x : Entry). Finds s x.kind) found.is (settled_finds s found.d.cause found.d.number (due_has (IsOfRow s) s m pass e (deadline_row s) h))
+
+adds_finds : (s : PoolState) (m pass : ℕ) (adds : Option EntryKind) (e : Entry) → IfSome adds (Finds s) → option_map (entry_at m pass) adds ≡ Some e → Finds s e.kind
+adds_finds s m pass None e h g = absurd (cc (g))
+adds_finds s m pass (Some k) e h g = subst (λ (x : Entry). Finds s x.kind) (same_Some _ _ g) h
+
+-- whatever may follow finds what its kind says
+pub finds : (s : PoolState) (e : Entry) → MayFollow s e → Finds s e.kind
+finds s e follows = by_cause (is_deadline e.kind) (asks s e.kind) follows.has_cause
+  where
+    by_cause : (b : Bool) (o : Option Asked) → MatchBool b (IsDue s e) (IsSomeAnd o (IsAnswered s e)) → Finds s e.kind
+    by_cause true o h = due_finds s e.moment e.pass e h
+    by_cause false None h = absurd h
+    by_cause false (Some asked) h =
+        adds_finds s e.moment e.pass (tell s asked.who e.moment asked.request).adds e (tell_finds s asked.who e.moment asked.request h.may_ask) h.gives
+
+-- an entry of a kind that no request and no deadline adds does not come
+pub served_kind : (s : PoolState) (e : Entry) → MayFollow s e → IsTrue (is_served e.kind)
+served_kind s e follows = served_of s e.kind (finds s e follows)
+
+-- the request for which an entry stands may be asked
+abbrev pub IsFitting : PoolState → EntryKind → Type 0
+IsFitting s k = MatchBool (is_deadline k) ⊤ (IsSomeAnd (asks s k) (λ asked. IsTrue (fits s.settings asked.request)))
+
+pub fitting : (s : PoolState) (e : Entry) → MayFollow s e → IsFitting s e.kind
+fitting s e follows = by_cause (is_deadline e.kind) (asks s e.kind) follows.has_cause
+  where
+    by_cause : (b : Bool) (o : Option Asked) → MatchBool b (IsDue s e) (IsSomeAnd o (IsAnswered s e)) → MatchBool b ⊤ (IsSomeAnd o (λ asked. IsTrue (fits s.settings asked.request)))
+    by_cause true o h = tt
+    by_cause false None h = absurd h
+    by_cause false (Some asked) h = h.may_ask
+
+-- no deadline has come where a request's entry follows
+pub none_due : (s : PoolState) (e : Entry) → MayFollow s e → is_deadline e.kind ≡ false → due_entry s e.moment e.pass ≡ None
+none_due s e follows no_deadline = by_cause (is_deadline e.kind) (asks s e.kind) no_deadline follows.has_cause
+  where
+    by_cause : (b : Bool) (o : Option Asked) → b ≡ false → MatchBool b (IsDue s e) (IsSomeAnd o (IsAnswered s e)) → due_entry s e.moment e.pass ≡ None
+    by_cause true o q h = absurd (cc (q))
+    by_cause false None q h = absurd h
+    by_cause false (Some asked) q h = h.nothing_due

@@ -1,0 +1,12 @@
+pub mod Lists
+pub mod Earliest
+pub mod Answering
+pub mod Finds
+pub mod Rows
+pub mod Tasks
+pub mod Bots
+pub mod Runs
+pub mod Moments
+pub mod Sound
+pub mod Alike
+pub mod Following

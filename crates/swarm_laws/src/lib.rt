@@ -1,0 +1,14 @@
+//! What holds of every legal history of a pool.
+//!
+//! Each law is the contract of an empty function; its statement stands in `swarm_model`'s specs,
+//! and its proof is an induction over the entries of the log. The layers above take the lemma
+//! modules of this crate. `Sound`: every pool that a log leads to is sound, and an entry that may
+//! follow keeps it so. `Following`: where nothing is due, what an answer adds may follow the log,
+//! and so may what is due. `Finds`: what an entry that may follow finds in the pool, and which
+//! kinds of entries come at all. So a machine that adds only what is due and what its answers say
+//! keeps a legal log, and may count on sound rows. The crate has no code that runs.
+#![tactic(auto)]
+
+mod laws;
+
+pub use laws::stays_sound;
