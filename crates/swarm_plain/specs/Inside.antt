@@ -3,7 +3,6 @@ use Rattle.std.specs.Prelude.{◌≡◌, ◌≤◌, ◌<◌, ◌^◌, ℕ, [], l
 use Rattle.std.specs.List.{All}
 use Rattle.swarm_model.specs.declared.task_row.TaskRow.{TaskRow}
 use Rattle.swarm_model.specs.declared.pool_state.PoolState.{PoolState}
-use Rattle.swarm_model.specs.declared.entry.Entry.{Entry}
 use Rattle.swarm_model.specs.declared.entry.EntryKind.{EntryKind}
 use Rattle.swarm_model.specs.declared.bot_row.BotRow.{BotRow}
 use Rattle.swarm_model.specs.Numbers.{AreNumbered}
@@ -45,4 +44,3 @@ pub record Becomes (old new : Rows) (moment : ℕ) (k : EntryKind) : Type 0 wher
 
 abbrev pub hushed_if : ℕ → BotRow → BotRow
 hushed_if number bot = if runs_task number bot then hushed bot else bot
-

@@ -15,7 +15,7 @@ use Rattle.swarm_plain.specs.Inside.{state_of, HasRoom}
 -- what lies ready is what the entry does, and each list has room for one more
 pub record IsReady (rows : Rows) (log_size log_room : ℕ) (ready : Ready) : Type 0 where
   pub weighs : ready.weight ≡ weight ready.entry
-  pub rows : HasRoom rows
+  pub room : HasRoom rows
   pub log : log_size < log_room
 
 abbrev pub kept_of : Inside → Kept

@@ -14,8 +14,8 @@ use crate::scans;
 use dimensions::{BotDims, Seq, Text};
 use std::alloc::Global;
 use swarm_model::{
-    BotRow, Change, Die, Entry, EntryKind, EventKind, Hear, Lose, MarkTerminating, Note, Outcome, Poll,
-    Renew, Row, Shift, Start, TakeOn, TaskRow, TaskState, change_row, hush,
+    BotRow, Change, Die, Entry, EntryKind, EventKind, Hear, Lose, MarkTerminating, Note, Outcome,
+    Poll, Renew, Row, Shift, Start, TakeOn, TaskRow, TaskState, change_row, hush,
 };
 use task_props::NewTask;
 

@@ -1,5 +1,4 @@
 -- One row more is looked at.
-use Rattle.std.proofs.Common.{None}
 use Rattle.swarm_model.specs.Deadlines.{sooner, bot_end}
 use Rattle.swarm_plain.specs.Inside.{state_of}
 use Rattle.swarm_plain.proofs.Folding.{fold-filter_map_more}

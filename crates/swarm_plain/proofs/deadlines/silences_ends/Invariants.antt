@@ -1,4 +1,4 @@
-use Rattle.std.proofs.Common.{◌≡◌, take, None}
+use Rattle.std.proofs.Common.{◌≡◌, take}
 use Rattle.std.specs.List.{fold, filter_map}
 use Rattle.swarm_model.specs.Deadlines.{sooner, silence_end}
 use Rattle.swarm_plain.specs.Inside.{state_of}

@@ -1,7 +1,6 @@
 -- One row more is looked at.
 use Rattle.std.proofs.Common.{None}
 use Rattle.swarm_model.specs.Deadlines.{sooner, slice_end}
-use Rattle.swarm_plain.specs.Inside.{state_of}
 use Rattle.swarm_plain.proofs.Folding.{fold-filter_map_more}
 use Rattle.swarm_plain.proofs.deadlines.slices_ends.Goals as goal
 

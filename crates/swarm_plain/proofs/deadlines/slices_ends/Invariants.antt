@@ -1,7 +1,6 @@
 use Rattle.std.proofs.Common.{◌≡◌, take, None}
 use Rattle.std.specs.List.{fold, filter_map}
 use Rattle.swarm_model.specs.Deadlines.{sooner, slice_end}
-use Rattle.swarm_plain.specs.Inside.{state_of}
 use Rattle.swarm_plain.proofs.deadlines.slices_ends.Given as goal
 
 abbrev pub invariant-loop-task : goal.invariant-loop-task

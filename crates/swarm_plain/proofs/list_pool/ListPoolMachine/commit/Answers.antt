@@ -1,8 +1,11 @@
 -- The log goes on by an entry that may follow it, and the rows by what it does.
-use Rattle.std.proofs.Common.{◌≡◌, ◌∷◌, [], IsTrue, arith, sym, ap, ◌∙◌, subst, vec_len, vec_capacity}
+use Rattle.std.proofs.Common.{◌≡◌, ◌∷◌, [], ◌++◌, None, IsTrue, arith, sym, ap, ◌∙◌, subst, vec_len, vec_capacity}
 use Rattle.std.specs.List.{sum_by}
 use Rattle.std.proofs.lemmas.List.Sums.{sum_by-append}
 use Rattle.swarm_model.specs.declared.pool_settings.PoolSettings.{PoolSettings}
+use Rattle.std.specs.Option.{option_map}
+use Rattle.swarm_model.specs.Kept.{Kept}
+use Rattle.swarm_plain.specs.declared.list_pool.Ready.{Ready}
 use Rattle.swarm_model.specs.declared.entry.Entry.{Entry}
 use Rattle.swarm_model.specs.Effects.{opening, after}
 use Rattle.swarm_model.specs.Entries.{weight}
@@ -28,7 +31,7 @@ apply-requires-clause-order c = in_order c.self.inside.rows (kept_sound c.self.i
 pub apply-requires-clause-room : goal.apply-requires-clause-room
 apply-requires-clause-room c =
     let is = sym c.take.ensures.value ∙ c.in-Some.is in
-    (of_ready (IsReady c.self.inside.rows (vec_len c.self.inside.log) (vec_capacity c.self.inside.log)) c.self.inside.ready c.in-Some.ready is c.self.invariant.prepared).rows
+    (of_ready (IsReady c.self.inside.rows (vec_len c.self.inside.log) (vec_capacity c.self.inside.log)) c.self.inside.ready c.in-Some.ready is c.self.invariant.prepared).room
 
 pub invariant_of-self : goal.invariant_of-self
 invariant_of-self c =
@@ -46,4 +49,15 @@ invariant_of-self c =
       legal = rw (settings, c.push.ensures) (legal_more (opening c.self.inside.rows.settings) c.self.inside.log.items c.args.entry c.self.invariant.legal follows room);
       weighs = omega (arith, sum_by-append weight c.self.inside.log.items (c.args.entry ∷ []), ap (sum_by weight) c.push.ensures, made.weighs, ap weight same, c.self.invariant.weighs);
       prepared = rw c.take.ensures.after tt;
+    }
+
+pub returns : goal.returns
+returns c =
+    let is = sym c.take.ensures.value ∙ c.in-Some.is in
+    let same = ready_is c.self.inside.ready c.in-Some.ready c.args.entry is (ap (λ k. k.ready) c.self.view_is ∙ c.requires.ready) in
+    let pool_is = c.apply.ensures.state ∙ ap (λ (e : Entry). after (state_of c.self.inside.rows) e) same in
+    let none = ap (option_map (λ (r : Ready). r.entry)) c.take.ensures.after in
+    record {
+      added = (λ i. let x : Kept = record { pool = pool_is i; log = c.push.ensures i; ready = none i; held = [] } in x)
+          ∙ ap (λ (k : Kept). let x : Kept = record k { pool = after k.pool c.args.entry; log = k.log ++ c.args.entry ∷ []; ready = None } in x) c.self.view_is;
     }

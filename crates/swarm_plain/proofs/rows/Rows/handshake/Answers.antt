@@ -1,13 +1,12 @@
 -- A new bot is added, and no other is changed.
-use Rattle.std.proofs.Common.{◌≡◌, ◌++◌, ◌∷◌, [], refl, map, sym, ap, ◌∙◌, List, Option, None}
-use Rattle.std.specs.Option.{option_map, option_map_or, option_and_then}
+use Rattle.std.proofs.Common.{◌++◌, [], refl, map, sym, ap, ◌∙◌, Option}
+use Rattle.std.specs.Option.{option_and_then}
 use Rattle.swarm_model.specs.declared.bot_row.BotRow.{BotRow}
-use Rattle.swarm_model.specs.declared.task_row.TaskRow.{TaskRow}
 use Rattle.swarm_model.specs.declared.entry.EntryKind.TheVariants as kind
 use Rattle.swarm_model.specs.Finding.{bot_of}
 use Rattle.swarm_model.specs.Effects.{if_some, lost_at, greeted}
 use Rattle.swarm_plain.specs.Inside.{state_of}
-use Rattle.swarm_plain.proofs.Becoming.{stays, none_at, no_bot, added_alone, state_after}
+use Rattle.swarm_plain.proofs.Becoming.{stays, no_bot, added_alone, state_after}
 use Rattle.swarm_plain.proofs.rows.Rows.handshake.Goals as goal
 
 pub returns-in-None : goal.returns-in-None
