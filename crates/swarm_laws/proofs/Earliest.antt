@@ -1,5 +1,5 @@
 -- What is due is the earliest of all deadlines.
-use Rattle.std.proofs.Common.{◌≡◌, ℕ, ◌≤◌, ◌==◌, ◌&&◌, ◌||◌, Bool, true, false, cond, List, [], ◌∷◌, Option, Some, None, IfSome, IsSomeAnd, refl, sym, ap, ◌∙◌, subst, arith, eqb-true, ltb-true, ltb-false, leb-true, leb-false}
+use Rattle.std.proofs.Common.{◌≡◌, ℕ, ◌<◌, ◌≤◌, ◌==◌, ◌&&◌, ◌||◌, Bool, true, false, cond, List, [], ◌∷◌, Option, Some, None, IfSome, IsSomeAnd, refl, sym, ap, ◌∙◌, subst, arith, eqb-true, ltb-true, ltb-false, leb-true, leb-false}
 use Rattle.std.specs.Prelude.{nat_le, nat_lt}
 use Rattle.std.specs.Bool.{MatchBool}
 use Rattle.std.specs.List.{All, fold}
@@ -108,22 +108,25 @@ ahead_of_due s moment pass e h =
     let found = due_at s moment pass e h in
     subst (λ (m : ℕ). Ahead m s) (ap (λ (x : Entry). x.moment) found.is) (least None (deadlines s) found.d found.next).others
 
--- where nothing is due, all deadlines lie ahead
-pub ahead_of_none : (s : PoolState) (moment pass : ℕ) → due_entry s moment pass ≡ None → Ahead moment s
-ahead_of_none s moment pass h = by_next (next_deadline s) refl h
+-- where nothing is due, all deadlines are yet to come
+pub none_come : (s : PoolState) (moment pass : ℕ) → due_entry s moment pass ≡ None → All (λ d. moment < d.moment) (deadlines s)
+none_come s moment pass h = by_next (next_deadline s) refl h
   where
     Later : Deadline → Type 0
-    Later d = moment ≤ d.moment
+    Later d = moment < d.moment
 
-    by_come : (d : Deadline) (b : Bool) → next_deadline s ≡ Some d → nat_le d.moment moment ≡ b → option_map (entry_of s pass) (cond b (Some d) None) ≡ None → Ahead moment s
+    by_come : (d : Deadline) (b : Bool) → next_deadline s ≡ Some d → nat_le d.moment moment ≡ b → option_map (entry_of s pass) (cond b (Some d) None) ≡ None → All Later (deadlines s)
     by_come d true n c g = absurd (cc (g))
     by_come d false n c g =
         (let first = least None (deadlines s) d n in let l = leb-false d.moment moment c in
         λ k x low. let after : d.moment ≤ _ = first.others k x low in omega (arith, l, after))
 
-    by_next : (o : Option Deadline) → next_deadline s ≡ o → option_map (entry_of s pass) (option_and_then (if_come moment) o) ≡ None → Ahead moment s
+    by_next : (o : Option Deadline) → next_deadline s ≡ o → option_map (entry_of s pass) (option_and_then (if_come moment) o) ≡ None → All Later (deadlines s)
     by_next None n g = subst (All Later) (sym (none_of None (deadlines s) n)) (All-nil Later)
     by_next (Some d) n g = by_come d (nat_le d.moment moment) n refl g
+
+pub ahead_of_none : (s : PoolState) (moment pass : ℕ) → due_entry s moment pass ≡ None → Ahead moment s
+ahead_of_none s moment pass h = λ k x low. let later : moment < _ = none_come s moment pass h k x low in omega (arith, later)
 
 -- the deadline that is due is as far ahead as all are
 pub due_ahead : (s : PoolState) (low moment pass : ℕ) (e : Entry) → Ahead low s → due_entry s moment pass ≡ Some e → low ≤ e.moment

@@ -10,3 +10,6 @@ pub mod Moments
 pub mod Sound
 pub mod Alike
 pub mod Following
+pub mod Tracks
+mod Order
+mod ClaimLaw

@@ -1,6 +1,13 @@
+ghost use Rattle.swarm_model.specs.Claims.{ClaimsAreRight};
 ghost use Rattle.swarm_model.specs.Soundness.{StaysSound};
 
 /// Every pool that a log leads to is sound.
 pub fn stays_sound()
     ensures { StaysSound }
+{}
+
+/// A claim comes when nothing is due, from a fit bot that runs nothing, of a task that was never
+/// claimed and comes first among those that wait for such a bot.
+pub fn claims_are_right()
+    ensures { ClaimsAreRight }
 {}

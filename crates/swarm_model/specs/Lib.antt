@@ -12,6 +12,7 @@ pub mod Effects
 pub mod Deadlines
 pub mod History
 pub mod Soundness
+pub mod Claims
 pub mod Points
 pub mod Kept
 pub mod Examples

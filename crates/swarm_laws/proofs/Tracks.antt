@@ -1,0 +1,50 @@
+-- A task followed through a log.
+use Rattle.std.proofs.Common.{◌≡◌, ℕ, List, [], ◌∷◌, refl, ◌∙◌, false}
+use Rattle.swarm_model.specs.declared.task_state.TaskState.TheVariants.{BotDied}
+use Rattle.swarm_model.specs.declared.task_row.TaskRow.{TaskRow}
+use Rattle.swarm_model.specs.declared.pool_state.PoolState.{PoolState}
+use Rattle.swarm_model.specs.declared.entry.Entry.{Entry}
+use Rattle.swarm_model.specs.declared.entry.EntryKind.{EntryKind}
+use Rattle.swarm_model.specs.Effects.{task_after, added_tasks, after, end_state}
+use Rattle.swarm_model.specs.History.{replay, IsCaused}
+use Rattle.swarm_model.specs.Soundness.{IsSound}
+use Rattle.swarm_laws.proofs.Lists.{Among, among_map, among_left}
+use Rattle.swarm_laws.proofs.Finds.{Finds, finds, waits}
+use Rattle.swarm_laws.proofs.Rows.{task_by}
+use Rattle.swarm_laws.proofs.Tasks.{end_final, not_pending}
+use Rattle.swarm_laws.proofs.Sound.{task_no, sound_after}
+
+-- the row of the same number in the end
+pub record Tracked (P : TaskRow → Type 0) (s : PoolState) (number : ℕ) : Type 0 where
+  pub row : TaskRow
+  pub among : Among row s.tasks
+  pub named : row.no ≡ number
+  pub holds : P row
+
+-- no entry breaks the fact
+abbrev pub Lasts : (TaskRow → Type 0) → Type 0
+Lasts P = (s : PoolState) (m : ℕ) (k : EntryKind) → IsSound s → Finds s k → (x : TaskRow) → Among x s.tasks → P x → P (task_after s m k x)
+
+-- a row is there after an entry
+pub still_among : (s : PoolState) (e : Entry) (x : TaskRow) → Among x s.tasks → Among (task_after s e.moment e.kind x) (after s e).tasks
+still_among s e x a = among_left (task_after s e.moment e.kind x) _ (added_tasks e.moment e.kind) (among_map (task_after s e.moment e.kind) s.tasks x a)
+
+-- a fact that no entry breaks holds of the row in the end
+pub track : (P : TaskRow → Type 0) → Lasts P → (s : PoolState) (log : List Entry) → IsSound s → IsCaused s log → (x : TaskRow) (n : ℕ) → Among x s.tasks → x.no ≡ n → P x → Tracked P (replay s log) n
+track P lasts s [] o c x n a e p = record { row = x; among = a; named = e; holds = p }
+track P lasts s (y ∷ log) o c x n a e p =
+    let f = finds s y c.0 in
+    track P lasts (after s y) log (sound_after s y o c.0) c.1 (task_after s y.moment y.kind x) n (still_among s y x a) (task_no s y.moment y.kind o f x a ∙ e) (lasts s y.moment y.kind o f x a p)
+
+-- a task that no longer waits never waits again
+abbrev pub IsPast : TaskRow → Type 0
+IsPast x = waits x ≡ false
+
+pub past_lasts : Lasts IsPast
+past_lasts s m k o f x a p =
+    task_by IsPast s m o x a k f (record {
+      same = p;
+      moves = λ w. absurd (cc (w, p));
+      loses = λ w. not_pending (end_state x.attempt BotDied) (end_final x.attempt BotDied refl);
+      begins = λ b t id is found w. refl;
+    })
