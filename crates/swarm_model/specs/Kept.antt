@@ -7,7 +7,9 @@ use Rattle.content_store.specs.declared.Filled.TheVariants.{Done, Differs, Unkno
 use Rattle.dimensions.specs.Alike.{same}
 use Rattle.swarm_model.specs.declared.pool_state.PoolState.{PoolState}
 use Rattle.swarm_model.specs.declared.entry.Entry.{Entry}
+use Rattle.swarm_model.specs.declared.entry.EntryKind.TheVariants as kind
 use Rattle.swarm_model.specs.Finding.{has_blob}
+use Rattle.swarm_model.specs.Claims.{IsRightClaim}
 use Rattle.swarm_model.specs.Effects.{opening}
 use Rattle.swarm_model.specs.History.{replay, IsLegal}
 
@@ -48,3 +50,7 @@ held_after (Differs actual) held digest bytes = held
 pub record Fills (old new : Kept) (digest bytes : List ℕ) (result : Filled) : Type 0 where
   pub told : result ≡ filled old.pool digest bytes
   pub holds : new ≡ record old { ready = None; held = held_after result old.held digest bytes }
+
+-- a claim that is added is right for the rows and the log before it
+abbrev pub IsRight : Kept → Entry → Type 0
+IsRight kept entry = (b t : ℕ) (claim : List ℕ) → entry.kind ≡ kind.Claim b t claim → IsRightClaim kept.pool kept.log entry.moment b t

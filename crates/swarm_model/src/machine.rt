@@ -7,7 +7,7 @@ ghost use Rattle.swarm_model.specs.Answers.{answer};
 ghost use Rattle.swarm_model.specs.Effects.{opening, after};
 ghost use Rattle.swarm_model.specs.Deadlines.{due_entry};
 ghost use Rattle.swarm_model.specs.History.{MayFollow, has_room, tally};
-ghost use Rattle.swarm_model.specs.Kept.{IsHistory, Fills, bytes_of};
+ghost use Rattle.swarm_model.specs.Kept.{IsHistory, IsRight, Fills, bytes_of};
 
 use crate::{Answer, BlobRow, BotRow, Entry, PoolSettings, Request, Steps, TaskRow};
 use content_store::Filled;
@@ -70,6 +70,7 @@ pub trait Machine: Sized {
         requires follows { MayFollow (kept self.old).pool entry }
         requires room { IsTrue (has_room (kept self.old).pool.settings (kept self.old).log entry) }
         requires bytes { IsNone bytes }
+        ensures right { IsRight (kept self.old) entry }
         ensures added { kept self.new ≡ record (kept self.old) { pool = after (kept self.old).pool entry; log = (kept self.old).log ++ entry ∷ []; ready = None } };
 
     /// Holds the bytes of a blob row whose bytes are not held yet.

@@ -4,7 +4,10 @@ use Rattle.std.specs.List.{sum_by}
 use Rattle.std.proofs.lemmas.List.Sums.{sum_by-append}
 use Rattle.swarm_model.specs.declared.pool_settings.PoolSettings.{PoolSettings}
 use Rattle.std.specs.Option.{option_map}
-use Rattle.swarm_model.specs.Kept.{Kept}
+use Rattle.swarm_model.specs.Kept.{Kept, IsRight}
+use Rattle.swarm_model.specs.Claims.{IsRightClaim}
+use Rattle.swarm_model.specs.declared.pool_state.PoolState.{PoolState}
+use Rattle.swarm_laws.proofs.ClaimLaw.{claims_right}
 use Rattle.swarm_plain.specs.declared.list_pool.Ready.{Ready}
 use Rattle.swarm_model.specs.declared.entry.Entry.{Entry}
 use Rattle.swarm_model.specs.Effects.{opening, after}
@@ -57,7 +60,11 @@ returns c =
     let same = ready_is c.self.inside.ready c.in-Some.ready c.args.entry is (ap (λ k. k.ready) c.self.view_is ∙ c.requires.ready) in
     let pool_is = c.apply.ensures.state ∙ ap (λ (e : Entry). after (state_of c.self.inside.rows) e) same in
     let none = ap (option_map (λ (r : Ready). r.entry)) c.take.ensures.after in
+    let follows = rw c.self.invariant.replayed at (rw (← c.self.view_is) at c.requires.follows) in
     record {
+      right = subst (λ (k : Kept). IsRight k c.args.entry) c.self.view_is (λ b t claim claims.
+          subst (λ (s : PoolState). IsRightClaim s c.self.inside.log.items c.args.entry.moment b t) (sym c.self.invariant.replayed)
+          (claims_right c.self.inside.rows.settings c.self.inside.log.items c.args.entry b t claim c.self.invariant.legal.caused follows claims));
       added = (λ i. let x : Kept = record { pool = pool_is i; log = c.push.ensures i; ready = none i; held = [] } in x)
           ∙ ap (λ (k : Kept). let x : Kept = record k { pool = after k.pool c.args.entry; log = k.log ++ c.args.entry ∷ []; ready = None } in x) c.self.view_is;
     }
