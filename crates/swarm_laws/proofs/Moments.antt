@@ -33,26 +33,7 @@ use Rattle.swarm_laws.proofs.Finds.{Finds, IsFitting, finds, fitting, waits, run
 use Rattle.swarm_laws.proofs.Rows.{task_by, bot_by, all_tasks, all_bots, find_bot}
 use Rattle.swarm_laws.proofs.Tasks.{end_final, last_final, not_pending, runner_lost, runner_moved, added_idle}
 use Rattle.swarm_laws.proofs.Bots.{settings_same}
-
--- no entry changes the number of a bot
-noted_no : (m : ℕ) (e : EventKind) (text : List ℕ) (x : BotRow) → (noted m e text x).no ≡ x.no
-noted_no m event.Ping text x = refl
-noted_no m event.Quarantine text x = refl
-noted_no m event.Unquarantine text x = refl
-
-pub bot_no : (s : PoolState) (m : ℕ) (k : EntryKind) → IsSound s → Finds s k → IsFitting s k → (x : BotRow) → Among x s.bots → (bot_after m k x).no ≡ x.no
-bot_no s m k o f g x a =
-    bot_by (λ (y : BotRow). y.no ≡ x.no) s m o x a (record {
-      same = refl;
-      hushes = refl;
-      dies = refl;
-      greets = λ b id session dims q is may. sym is;
-      polls = λ dims q hint may. refl;
-      busies = λ b t id found. refl;
-      hears = refl;
-      notes = λ e text may. noted_no m e text x;
-      stops = refl;
-    }) k f g
+use Rattle.swarm_laws.proofs.Numbers.{bot_no}
 
 noted_contact : (m : ℕ) (e : EventKind) (text : List ℕ) (x : BotRow) → (noted m e text x).contact ≡ m
 noted_contact m event.Ping text x = refl
