@@ -32,11 +32,13 @@ key_in attempt = option_map (λ a. (a.bot, a.claim)) attempt
 
 -- a key, as the test for a claim sees it
 
+-- a row that passes has the key
 is_by : (b : ℕ) (id : List ℕ) (a : Option Attempt) → option_map_or (is_claim b id) a false ≡ true → key_in a ≡ Some (b, id)
 is_by b id None e = absurd (cc (e))
 is_by b id (Some a) e =
     let both = and_parts (a.bot == b) (same a.claim id) e in let first = eqb-true a.bot b both.0 in let second = same_is a.claim id both.1 in cc (first, second)
 
+-- and one that has it passes
 by_key : (b : ℕ) (id : List ℕ) (a : Option Attempt) → key_in a ≡ Some (b, id) → option_map_or (is_claim b id) a false ≡ true
 by_key b id None e = absurd (cc (e))
 by_key b id (Some a) e =
@@ -49,6 +51,7 @@ abbrev is_claiming : EntryKind → Bool
 is_claiming (kind.Claim b t id) = true
 is_claiming entry = false
 
+-- only a claim changes it
 key_same : (s : PoolState) (m : ℕ) (k : EntryKind) → IsSound s → Finds s k → is_claiming k ≡ false → (x : TaskRow) → Among x s.tasks → claim_key (task_after s m k x) ≡ claim_key x
 key_same s m k o f q x a =
     task_by (λ (y : TaskRow). claim_key y ≡ claim_key x) s m o x a k f (record {
@@ -62,6 +65,7 @@ key_same s m k o f q x a =
     by_outcome (outcome.Slice place) = refl
     by_outcome (outcome.Ended state) = refl
 
+-- a claim gives its own to the task that it names
 key_begun : (m b t : ℕ) (id : List ℕ) (x : TaskRow) → claim_key (task_at t (begun m b id) x) ≡ cond (x.no == t) (Some (b, id)) (claim_key x)
 key_begun m b t id x = by_test (x.no == t)
   where
@@ -69,6 +73,7 @@ key_begun m b t id x = by_test (x.no == t)
     by_test true = refl
     by_test false = refl
 
+-- a row that is added has none
 added_key : (m : ℕ) (k : EntryKind) (x : TaskRow) → Among x (added_tasks m k) → claim_key x ≡ None
 added_key m (kind.New t who request state slice from) x a = each_one (λ (y : TaskRow). claim_key y ≡ None) (new_row m t who request state slice from) refl x a
 added_key m k x a = elim a [ ]
@@ -82,6 +87,7 @@ once t xn yn new kx ky false true q r p h f g e1 e2 = absurd (f (e1 ∙ sym e2))
 once t xn yn new kx ky false false q r p h f g e1 e2 = h e1 e2
 
 module _ (s : PoolState) (o : IsSound s) where
+  -- rows of a sound pool are apart
   pub apart : (x : TaskRow) → Among x s.tasks → (y : TaskRow) → Among y s.tasks → AreClaimedApart x y
   apart x a y c = each (AreClaimedApart x) s.tasks (each (λ (z : TaskRow). All (AreClaimedApart z) s.tasks) s.tasks o.claims x a) y c
 
@@ -91,10 +97,12 @@ module _ (s : PoolState) (o : IsSound s) where
       let none : is_claimed f.bot.no id x ≡ false = find_none (is_claimed f.bot.no id) s.tasks f.fresh x a in
       absurd (cc (none, by_key f.bot.no id x.attempt (e ∙ ap (λ (n : ℕ). let z : Key = Some (n, id) in z) (sym f.named))))
 
+  -- they stay so where no claim comes
   quiet : (m : ℕ) (k : EntryKind) → Finds s k → is_claiming k ≡ false → (x : TaskRow) → Among x s.tasks → (y : TaskRow) → Among y s.tasks → AreClaimedApart (task_after s m k x) (task_after s m k y)
   quiet m k f q x a y c p e1 e2 =
       task_no s m k o f x a ∙ apart x a y c p (sym (key_same s m k o f q x a) ∙ e1) (sym (key_same s m k o f q y c) ∙ e2) ∙ sym (task_no s m k o f y c)
 
+  -- and where one comes
   row_apart : (m : ℕ) (k : EntryKind) → Finds s k → (x : TaskRow) → Among x s.tasks → (y : TaskRow) → Among y s.tasks → AreClaimedApart (task_after s m k x) (task_after s m k y)
   row_apart m (kind.Claim b t id) f x a y c p e1 e2 =
       task_no s m (kind.Claim b t id) o f x a

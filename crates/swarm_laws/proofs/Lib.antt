@@ -16,3 +16,4 @@ pub mod Tracks
 mod Order
 mod ClaimLaw
 mod RepeatLaws
+mod Worked

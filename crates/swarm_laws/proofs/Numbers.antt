@@ -35,6 +35,7 @@ noted_no m event.Ping text x = refl
 noted_no m event.Quarantine text x = refl
 noted_no m event.Unquarantine text x = refl
 
+-- nor that of a bot
 pub bot_no : (s : PoolState) (m : ℕ) (k : EntryKind) → IsSound s → Finds s k → IsFitting s k → (x : BotRow) → Among x s.bots → (bot_after m k x).no ≡ x.no
 bot_no s m k o f g x a =
     bot_by (λ (y : BotRow). y.no ≡ x.no) s m o x a (record {
@@ -51,10 +52,12 @@ bot_no s m k o f g x a =
 
 -- added rows have the next numbers
 
+-- a task has the next number
 next_task : (s : PoolState) (m : ℕ) (k : EntryKind) → Finds s k → AreNumbered no_of_task (1 + length s.tasks) (added_tasks m k)
 next_task s m (kind.New t who request state slice from) f = (let next = f.next in omega (arith, next), tt)
 next_task s m k f = tt
 
+-- and so has a bot
 next_bot : (s : PoolState) (m : ℕ) (k : EntryKind) → IsSound s → Finds s k → AreNumbered no_of_bot (1 + length s.bots) (added_bots s m k)
 next_bot s m (kind.Handshake b id session dims q) o f = by_old f (bot_of s b) refl
   where
@@ -70,6 +73,7 @@ tasks_numbered s e o follows =
     let f = finds s e follows in
     numbered_after no_of_task (task_after s e.moment e.kind) 1 s.tasks (added_tasks e.moment e.kind) (task_no s e.moment e.kind o f) o.tasks_numbered (next_task s e.moment e.kind f)
 
+-- and so are bots
 pub bots_numbered : (s : PoolState) (e : Entry) → IsSound s → MayFollow s e → AreNumbered no_of_bot 1 (after s e).bots
 bots_numbered s e o follows =
     let f = finds s e follows in

@@ -31,18 +31,21 @@ its_task s o name bot task attempt h =
     let key : claim_key task ≡ Some (attempt.bot, attempt.claim) = ap key_in h.attempted in
     claim_found s o bot.no attempt.claim task f.among (key ∙ ap (λ (n : ℕ). let z : Key = Some (n, attempt.claim) in z) h.by_bot)
 
+-- a claim of the run
 pub claim_again_law : ClaimAgain
 claim_again_law settings log who name moment pass bot task attempt c h r =
     let s : PoolState = replay (opening settings) log in
     let o : IsSound s = sound_replay (opening settings) log (opening_sound settings) c in
     rw (h.named, its_task s o name bot task attempt h, not_over task bot.no r) refl
 
+-- a claim of a run that has ended
 pub claim_over_law : ClaimIsOver
 claim_over_law settings log who name moment pass bot task attempt c h final =
     let s : PoolState = replay (opening settings) log in
     let o : IsSound s = sound_replay (opening settings) log (opening_sound settings) c in
     rw (h.named, its_task s o name bot task attempt h, final, h.attempted) refl
 
+-- a handshake of the session
 pub handshake_law : HandshakeAgain
 handshake_law s who name session q dims moment pass bot named e = rw (named, is_same bot.session session e) refl
 
@@ -56,10 +59,12 @@ heard_is m bot = ap (λ (d : Bool). let x : BotRow = record bot { contact = m; d
     by_marks false true = refl
     by_marks false false = refl
 
+-- lists that are changed alike are alike
 all_same : {A B : Type 0} (f g : A → B) → ((x : A) → f x ≡ g x) → (xs : List A) → map f xs ++ [] ≡ map g xs
 all_same f g e [] = refl
 all_same f g e (x ∷ xs) = cc (e x, all_same f g e xs)
 
+-- that a bot was heard
 pub contact_law : ContactChanges
 contact_law s m pass b =
     ap (λ (tasks : List TaskRow). let t : PoolState = record s { last = m; tasks = tasks; bots = map (λ (bot : BotRow). cond (bot.no == b) (heard m bot) bot) s.bots ++ [] } in t) (all_same (λ x. x) (λ x. x) (λ x. refl) s.tasks ∙ map-id s.tasks)

@@ -19,6 +19,7 @@ use Rattle.swarm_laws.proofs.Moments.{ahead_after}
 use Rattle.swarm_laws.proofs.Numbers.{tasks_numbered, bots_numbered}
 use Rattle.swarm_laws.proofs.Claimed.{claims_apart}
 
+-- the parts together
 pub sound_after : (s : PoolState) (e : Entry) → IsSound s → MayFollow s e → IsSound (after s e)
 sound_after s e o follows =
     let f = finds s e follows in
@@ -38,6 +39,7 @@ pub sound_replay : (s : PoolState) (log : List Entry) → IsSound s → IsCaused
 sound_replay s [] o caused = o
 sound_replay s (e ∷ log) o caused = sound_replay (after s e) log (sound_after s e o caused.0) caused.1
 
+-- a pool without rows is sound
 pub opening_sound : (settings : PoolSettings) → IsSound (opening settings)
 opening_sound settings =
     record {
@@ -51,5 +53,6 @@ opening_sound settings =
       claims = All-nil (λ (task : TaskRow). All (AreClaimedApart task) []);
     }
 
+-- so every pool is
 pub sound_always : StaysSound
 sound_always settings log caused = sound_replay (opening settings) log (opening_sound settings) caused

@@ -41,6 +41,7 @@ track P lasts s (y ∷ log) o c x n a e p =
 abbrev pub IsPast : TaskRow → Type 0
 IsPast x = waits x ≡ false
 
+-- this lasts
 pub past_lasts : Lasts IsPast
 past_lasts s m k o f x a p =
     task_by IsPast s m o x a k f (record {

@@ -1,3 +1,4 @@
+ghost use Rattle.swarm_laws.specs.Worked.{ItHappens};
 ghost use Rattle.swarm_model.specs.Claims.{ClaimsAreRight};
 ghost use Rattle.swarm_model.specs.Repeats.{ClaimAgain, ClaimIsOver, ContactChanges, HandshakeAgain};
 ghost use Rattle.swarm_model.specs.Soundness.{StaysSound};
@@ -20,4 +21,10 @@ pub fn repeats_act_once()
     ensures claim_over { ClaimIsOver }
     ensures handshake { HandshakeAgain }
     ensures contact { ContactChanges }
+{}
+
+/// A log in which a bot comes, claims a task, is heard again, and is lost with its run: it is one
+/// that a pool may have, so the laws speak of something.
+pub fn a_claim_happens()
+    ensures { ItHappens }
 {}
