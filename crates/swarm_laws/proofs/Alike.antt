@@ -13,9 +13,11 @@ use Rattle.swarm_model.specs.Answers.{dims_unless, text_unless}
 pub same_is : (a b : List ℕ) → same a b ≡ true → a ≡ b
 same_is a b e = (bytes_decides a b).0 e
 
+-- and what is the same tests the same
 pub is_same : (a b : List ℕ) → a ≡ b → same a b ≡ true
 is_same a b e = (bytes_decides a b).1 e
 
+-- a text is the same as itself
 pub same_self : (a : List ℕ) → same a a ≡ true
 same_self a = is_same a a refl
 
@@ -38,5 +40,6 @@ dims_are a b e = (slice_eq-Decides values_decide a b (same_dims a b) refl).0 e
 pub dims_told : (old new : BotDims) → unwrap_or (dims_unless old new) old ≡ new
 dims_told old new = cond_both (same_dims old new) None (Some new) (λ (r : Option BotDims). unwrap_or r old ≡ new) (λ t. dims_are old new t) (λ t. refl)
 
+-- so does a text
 pub text_told : (old new : List ℕ) → unwrap_or (text_unless old new) old ≡ new
 text_told old new = cond_both (same old new) None (Some new) (λ (r : Option (List ℕ)). unwrap_or r old ≡ new) (λ t. same_is old new t) (λ t. refl)

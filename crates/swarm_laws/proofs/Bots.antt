@@ -29,6 +29,7 @@ use Rattle.swarm_laws.proofs.Rows.{bot_by, bot_is, all_bots, no_fewer, claim_get
 
 -- no entry changes the settings
 
+-- a blob that is put leaves them
 put_settings : (s : PoolState) (m : ℕ) (digest : Text) (size : ℕ) → (put s m digest size).settings ≡ s.settings
 put_settings s m digest size = by_blob (blob_of s digest)
   where
@@ -41,10 +42,12 @@ put_settings s m digest size = by_blob (blob_of s digest)
     by_blob None = by_place (place_for s size)
     by_blob (Some blob) = refl
 
+-- a chunk that is kept leaves them
 chunk_settings : (s : PoolState) (m : ℕ) (chunk : Option Chunk) → (put_chunk s m chunk).settings ≡ s.settings
 chunk_settings s m None = refl
 chunk_settings s m (Some chunk) = put_settings s m chunk.digest chunk.size
 
+-- and so does every entry
 pub settings_same : (s : PoolState) (m : ℕ) (k : EntryKind) → (with_blobs s m k).settings ≡ s.settings
 settings_same s m (kind.Blob n true) = refl
 settings_same s m (kind.Blob n false) = refl
@@ -54,6 +57,7 @@ settings_same s m entry = refl
 
 -- what a bot's row holds makes a handshake that may be asked
 
+-- a poll that may be asked brings what a handshake may bring
 polled_fits : (settings : PoolSettings) (name session : List ℕ) (dims new : BotDims) (q text : List ℕ) → IsTrue (fits settings (ask.Handshake name session dims q)) → IsTrue (fits settings (ask.Poll name new text)) →
     IsTrue (fits settings (ask.Handshake name session new text))
 polled_fits settings name session dims new q text h p =
@@ -61,6 +65,7 @@ polled_fits settings name session dims new q text h p =
     let both = and_parts (fits_bot settings name new) (nat_le (length text) 256) p in
     and_from _ _ both.0 (and_from _ _ old.0 both.1)
 
+-- a short text may take the place of the quarantine
 told_fits : (settings : PoolSettings) (name session : List ℕ) (dims : BotDims) (q text : List ℕ) → IsTrue (fits settings (ask.Handshake name session dims q)) → nat_le (length text) 256 ≡ true →
     IsTrue (fits settings (ask.Handshake name session dims text))
 told_fits settings name session dims q text h low =
@@ -68,37 +73,46 @@ told_fits settings name session dims q text h low =
     let old = and_parts (is_name session) (nat_le (length q) 256) both.1 in
     and_from _ _ both.0 (and_from _ _ old.0 low)
 
+-- a streak of naps ends at 63
 few_naps : (hint : Bool) (x : BotRow) → x.streak ≤ 63 → streak_after hint x ≤ 63
 few_naps true x low = omega arith
 few_naps false x low = cond_both x.terminating x.streak (min 63 (x.streak + 1)) (λ (n : ℕ). n ≤ 63) (λ t. low) (λ t. omega arith)
 
 module _ (s : PoolState) (e : Entry) (o : IsSound s) (follows : MayFollow s e) where
+  -- what fits the pool fits it after the entry
   after_fits : (name session : List ℕ) (dims : BotDims) (q : List ℕ) → IsTrue (fits s.settings (ask.Handshake name session dims q)) → IsTrue (fits (after s e).settings (ask.Handshake name session dims q))
   after_fits name session dims q h =
       subst (λ (settings : PoolSettings). IsTrue (fits settings (ask.Handshake name session dims q))) (sym (settings_same s e.moment e.kind)) h
 
+  -- no task goes
   more_tasks : length s.tasks ≤ length (after s e).tasks
   more_tasks = no_fewer (task_after s e.moment e.kind) s.tasks (added_tasks e.moment e.kind)
 
+  -- a task that is there stays there
   still_task : (r : Option ℕ) → IfSome r (λ t. t ≤ length s.tasks) → IfSome r (λ t. t ≤ length (after s e).tasks)
   still_task r h = IfSome_then r h (λ t low. let l = more_tasks in omega (arith, l, low))
 
   module _ (x : BotRow) (sound : IsSoundBot s x) where
+    -- a row as it was
     kept_sound : IsSoundBot (after s e) x
     kept_sound =
         let was = sound.contact in
         let before = follows.not_before in
         record { contact = omega (arith, before, was); streak = sound.streak; known = after_fits x.name x.session x.dims x.quarantined sound.known; has_task = still_task x.task sound.has_task }
 
+    -- of a bot that is silent, and whose run is lost
     hushed_sound : IsSoundBot (after s e) (hushed x)
     hushed_sound = record { contact = kept_sound.contact; streak = sound.streak; known = kept_sound.known; has_task = tt }
 
+    -- of a bot that is marked dead, or terminating
     same_sound : (b : Bool) (term : Bool) → IsSoundBot (after s e) (record x { dead = b; terminating = term })
     same_sound b term = record { contact = kept_sound.contact; streak = sound.streak; known = kept_sound.known; has_task = kept_sound.has_task }
 
+    -- of a bot that was heard
     heard_sound : IsSoundBot (after s e) (heard e.moment x)
     heard_sound = record { contact = omega arith; streak = sound.streak; known = kept_sound.known; has_task = kept_sound.has_task }
 
+    -- that polled
     polled_sound : (dims : Option BotDims) (q : Option Text) (hint : Bool) → IsTrue (fits s.settings (ask.Poll x.name (unwrap_or dims x.dims) (unwrap_or q x.quarantined))) →
         IsSoundBot (after s e) (polled e.moment dims q hint x)
     polled_sound dims q hint may =
@@ -109,6 +123,7 @@ module _ (s : PoolState) (e : Entry) (o : IsSound s) (follows : MayFollow s e) w
           has_task = kept_sound.has_task;
         }
 
+    -- that began a task
     busied_sound : (b t : ℕ) (id : List ℕ) → FindsClaim s b t id → IsSoundBot (after s e) (busied e.moment t x)
     busied_sound b t id f =
         let named = f.task_named in
@@ -116,6 +131,7 @@ module _ (s : PoolState) (e : Entry) (o : IsSound s) (follows : MayFollow s e) w
         let more = more_tasks in
         record { contact = omega arith; streak = sound.streak; known = kept_sound.known; has_task = omega (arith, named, there, more) }
 
+    -- that told of itself
     noted_sound : (which : EventKind) (text : List ℕ) → fits_message which text ≡ true → IsSoundBot (after s e) (noted e.moment which text x)
     noted_sound event.Ping text may = heard_sound
     noted_sound event.Quarantine text may =
@@ -128,9 +144,11 @@ module _ (s : PoolState) (e : Entry) (o : IsSound s) (follows : MayFollow s e) w
     noted_sound event.Unquarantine text may =
         record { contact = omega arith; streak = sound.streak; known = after_fits x.name x.session x.dims [] (told_fits s.settings x.name x.session x.dims x.quarantined [] sound.known refl); has_task = kept_sound.has_task }
 
+  -- or that came with a new session
   greeted_sound : (b : ℕ) (id session : List ℕ) (dims : BotDims) (q : List ℕ) → IsTrue (fits s.settings (ask.Handshake id session dims q)) → IsSoundBot (after s e) (greeted e.moment b id session dims q)
   greeted_sound b id session dims q may = record { contact = omega arith; streak = omega arith; known = after_fits id session dims q may; has_task = tt }
 
+  -- a row that is added
   added_sound : (k : EntryKind) → IsFitting s k → (x : BotRow) → Among x (added_bots s e.moment k) → IsSoundBot (after s e) x
   added_sound (kind.Handshake b id session dims q) may x a = by_old (bot_of s b) a
     where

@@ -69,10 +69,12 @@ record Takes (dims : BotDims) (o : Option Slice) : Type 0 where
   is : o ≡ Some slice
   fits : matches dims slice.properties.dimensions ≡ true
 
+-- and no other is taken
 takes : (dims : BotDims) (o : Option Slice) → takes_slice dims o ≡ true → Takes dims o
 takes dims None e = absurd (cc (e))
 takes dims (Some slice) e = record { slice = slice; is = refl; fits = e }
 
+-- what a claim finds makes it right
 right_by : (s : PoolState) (log : List Entry) (moment pass b t : ℕ) (id : List ℕ) → IsSound s → list_any (is_claim_of t) log ≡ false → due_entry s moment pass ≡ None → FindsClaim s b t id → IsRightClaim s log moment b t
 right_by s log moment pass b t id o never none f =
     let g : Found (waits_for f.bot.dims) s.tasks f.task = claim_gets s b t id f in
@@ -95,6 +97,7 @@ right_by s log moment pass b t id o never none f =
           (λ other a w. comes_first f.task other (foremost_first (filter (waits_for f.bot.dims) s.tasks) f.task f.gets other (filter_has (waits_for f.bot.dims) s.tasks other a w)));
     }
 
+-- so each claim is right
 pub claims_right : ClaimsAreRight
 claims_right settings log e b t id c follows is =
     let s : PoolState = replay (opening settings) log in

@@ -18,6 +18,7 @@ use Rattle.swarm_model.specs.History.{MayFollow, IsDue, IsAnswered}
 abbrev pub Ahead : ℕ → PoolState → Type 0
 Ahead m s = All (λ d. m ≤ d.moment) (deadlines s)
 
+-- what goes before is not later
 earlier-first : (a b : Deadline) → is_earlier a b ≡ true → a.moment ≤ b.moment
 earlier-first a b e = by_less (nat_lt a.moment b.moment) refl
   where
@@ -30,14 +31,17 @@ earlier-first a b e = by_less (nat_lt a.moment b.moment) refl
         (let g : (a.moment == b.moment && rest) ≡ true = sym (ap (λ x. x || (a.moment == b.moment && rest)) h) ∙ e in
         let q : a.moment ≡ b.moment = eqb-true a.moment b.moment (and_parts (a.moment == b.moment) rest g).0 in omega (arith, q))
 
+-- and what does not is not earlier
 earlier-other : (a b : Deadline) → is_earlier a b ≡ false → b.moment ≤ a.moment
 earlier-other a b e = ltb-false a.moment b.moment (or_parts (nat_lt a.moment b.moment) _ e).0
 
+-- the earlier of two is not after either
 earlier-least : (best : Option Deadline) (d : Deadline) → IfSome best (λ b. (earlier best d).moment ≤ b.moment) × ((earlier best d).moment ≤ d.moment)
 earlier-least None d = (tt, omega arith)
 earlier-least (Some b) d =
     cond_both (is_earlier d b) d b (λ (x : Deadline). (x.moment ≤ b.moment) × (x.moment ≤ d.moment)) (λ t. (earlier-first d b t, omega arith)) (λ t. (omega arith, earlier-other d b t))
 
+-- what holds from a higher bound on holds from a lower one on
 if_below : (best : Option Deadline) (low high : ℕ) → low ≤ high → IfSome best (λ b. high ≤ b.moment) → IfSome best (λ b. low ≤ b.moment)
 if_below None low high l h = tt
 if_below (Some b) low high l h = omega (arith, l, h)
@@ -47,6 +51,7 @@ record IsLeast (m : ℕ) (best : Option Deadline) (ds : List Deadline) : Type 0 
   best_so_far : IfSome best (λ b. m ≤ b.moment)
   others : All (λ d. m ≤ d.moment) ds
 
+-- what a search finds is the least
 least : (best : Option Deadline) (ds : List Deadline) (r : Deadline) → fold sooner best ds ≡ Some r → IsLeast r.moment best ds
 least None [] r e = absurd (cc (e))
 least (Some b) [] r e =
@@ -62,6 +67,7 @@ least best (d ∷ ds) r e =
       others = All-cons (λ (x : Deadline). r.moment ≤ x.moment) d ds (omega (arith, low, near)) rest.others;
     }
 
+-- where it finds none, there is none
 none_of : (best : Option Deadline) (ds : List Deadline) → fold sooner best ds ≡ None → ds ≡ []
 none_of best [] e = refl
 none_of best (d ∷ ds) e = absurd (some_more (earlier best d) ds e)
@@ -86,6 +92,7 @@ pub record IsDueAt (s : PoolState) (moment pass : ℕ) (e : Entry) : Type 0 wher
   pub come : d.moment ≤ moment
   pub is : entry_of s pass d ≡ e
 
+-- an entry that is due comes from the next deadline
 pub due_at : (s : PoolState) (moment pass : ℕ) (e : Entry) → due_entry s moment pass ≡ Some e → IsDueAt s moment pass e
 due_at s moment pass e h = by_next (next_deadline s) refl h
   where
@@ -125,6 +132,7 @@ none_come s moment pass h = by_next (next_deadline s) refl h
     by_next None n g = subst (All Later) (sym (none_of None (deadlines s) n)) (All-nil Later)
     by_next (Some d) n g = by_come d (nat_le d.moment moment) n refl g
 
+-- so they lie ahead
 pub ahead_of_none : (s : PoolState) (moment pass : ℕ) → due_entry s moment pass ≡ None → Ahead moment s
 ahead_of_none s moment pass h = λ k x low. let later : moment < _ = none_come s moment pass h k x low in omega (arith, later)
 

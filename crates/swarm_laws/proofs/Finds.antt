@@ -122,6 +122,7 @@ position_within test start (x ∷ xs) place h = by_test (test x) h (position_wit
     by_test true g rest = (let e : start ≡ place = same_Some _ _ g in omega (arith, e))
     by_test false g rest = (let r = rest g in omega (arith, r))
 
+-- the same, where the list is a rest of another
 drop_within : (start : ℕ) (xs : List Slice) (place : ℕ) → place < start + length (drop start xs) → start ≤ length xs → place < length xs
 drop_within start xs place low few = omega (arith, length-drop start xs)
 
@@ -139,15 +140,18 @@ accepted_finds s who request (Some place) checked h =
 accepted_finds s who request None checked h =
     let many = (slices_counted request checked).0 in record { next = refl; idle = refl; checked = checked; has_slice = omega (arith, many) }
 
+-- a bot that is named is one of the pool, of that name
 bot_is : (s : PoolState) (name : List ℕ) (bot : BotRow) → bot_named s name ≡ Some bot → Found (is_called name) s.bots bot
 bot_is s name bot e = find_is (is_called name) s.bots bot e
 
+-- a handshake finds its bot, or room for a new one
 handshake_finds : (s : PoolState) (name session : List ℕ) (dims : BotDims) (q : List ℕ) → Adds s (handshake s name session dims q)
 handshake_finds s name session dims q =
     by_map (Adds s) (greet name session dims q) (bot_named s name) _ (λ bot e. cond_both (same bot.session session) _ _ (Adds s) (λ t. tt) (λ t.
     let f = bot_is s name bot e in inr (record { bot = bot; among = f.among; named = refl; called = f.passes }))) (λ unknown.
     by_when (Adds s) (nat_le s.settings.most_bots (length s.bots)) _ _ (λ t. tt) (λ t. inl (record { unknown = unknown; next = refl })))
 
+-- a poll finds nothing that any fact needs
 poll_finds : (s : PoolState) (dims : BotDims) (q : List ℕ) (bot : BotRow) → Adds s (poll s dims q bot)
 poll_finds s dims q bot =
     by_when (Adds s) bot.dead _ _ (λ t. tt) (λ t.
@@ -156,6 +160,7 @@ poll_finds s dims q bot =
     by_when (Adds s) (not (is_empty q)) _ _ (λ t. tt) (λ t.
     by_when (Adds s) (is_some (first s dims)) _ _ (λ t. tt) (λ t. tt)))))
 
+-- a claim finds a fit bot that runs nothing, and the first task that waits for it
 claim_finds : (s : PoolState) (id : List ℕ) (bot : BotRow) → Among bot s.bots → Adds s (claim s id bot)
 claim_finds s id bot a =
     by_map (Adds s) (claim_again bot) (claimed s bot.no id) _ (λ task e. cond_both (is_final task.state) _ _ (Adds s) (λ t. tt) (λ t. tt)) (λ fresh.
@@ -164,6 +169,7 @@ claim_finds s id bot a =
     by_map (Adds s) (claims bot id) (first s bot.dims) _ (λ task gets.
     record { bot = bot; among = a; named = refl; fresh = fresh; fit = fit; idle = idle; task = task; gets = gets; task_named = refl }) (λ e. tt))))
 
+-- nor does an event
 event_finds : (s : PoolState) (which : EventKind) (text : List ℕ) (bot : BotRow) → Adds s (event which text bot)
 event_finds s which text bot = by_when (Adds s) (bot.dead && is_none bot.task) (unfit_told unfit.Dead) (answers reply.Noted (kind.Event bot.no which text)) (λ t. tt) (λ t. tt)
 
@@ -191,6 +197,7 @@ DueRow s cause.Bot n = ⊤
 abbrev IsOfRow : PoolState → Deadline → Type 0
 IsOfRow s d = DueRow s d.cause d.number
 
+-- a slice runs out where a task waits
 slice_row : (s : PoolState) (task : TaskRow) → Among task s.tasks → IfSome (slice_end task) (IsOfRow s)
 slice_row s task a = cond_both (waits task) _ None (λ (o : Option Deadline). IfSome o (IsOfRow s)) (λ w. by_slice w (current_slice task)) (λ w. tt)
   where
@@ -198,6 +205,7 @@ slice_row s task a = cond_both (waits task) _ None (λ (o : Option Deadline). If
     by_slice w None = tt
     by_slice w (Some slice) = record { task = task; among = a; named = refl; passes = w }
 
+-- a bot is silent where a task runs
 silence_row : (s : PoolState) (task : TaskRow) → Among task s.tasks → IfSome (silence_end s task) (IsOfRow s)
 silence_row s task a = cond_both (runs task) _ None (λ (o : Option Deadline). IfSome o (IsOfRow s)) (λ w. by_bot w (runner_of s task)) (λ w. tt)
   where
@@ -205,6 +213,7 @@ silence_row s task a = cond_both (runs task) _ None (λ (o : Option Deadline). I
     by_bot w None = tt
     by_bot w (Some bot) = record { task = task; among = a; named = refl; passes = w }
 
+-- so each deadline is that of a row
 deadline_row : (s : PoolState) → All (IsOfRow s) (deadlines s)
 deadline_row s =
     All-append (IsOfRow s) (filter_map slice_end s.tasks) _ (all_filter_map slice_end (IsOfRow s) s.tasks (slice_row s))
@@ -218,11 +227,13 @@ settled_finds s cause.Slice n h = record { waiting = h; goes = refl }
 settled_finds s cause.Silence n h = h
 settled_finds s cause.Bot n h = tt
 
+-- and so does the entry that is due
 due_finds : (s : PoolState) (m pass : ℕ) (e : Entry) → due_entry s m pass ≡ Some e → Finds s e.kind
 due_finds s m pass e h =
     let found = due_at s m pass e h in
     subst (λ (x : Entry). Finds s x.kind) found.is (settled_finds s found.d.cause found.d.number (due_has (IsOfRow s) s m pass e (deadline_row s) h))
 
+-- the entry of an answer has the kind that the answer adds
 adds_finds : (s : PoolState) (m pass : ℕ) (adds : Option EntryKind) (e : Entry) → IfSome adds (Finds s) → option_map (entry_at m pass) adds ≡ Some e → Finds s e.kind
 adds_finds s m pass None e h g = absurd (cc (g))
 adds_finds s m pass (Some k) e h g = subst (λ (x : Entry). Finds s x.kind) (same_Some _ _ g) h
@@ -245,6 +256,7 @@ served_kind s e follows = served_of s e.kind (finds s e follows)
 abbrev pub IsFitting : PoolState → EntryKind → Type 0
 IsFitting s k = MatchBool (is_deadline k) ⊤ (IsSomeAnd (asks s k) (λ asked. IsTrue (fits s.settings asked.request)))
 
+-- an entry that may follow stands for such a request
 pub fitting : (s : PoolState) (e : Entry) → MayFollow s e → IsFitting s e.kind
 fitting s e follows = by_cause (is_deadline e.kind) (asks s e.kind) follows.has_cause
   where

@@ -57,18 +57,22 @@ record IsHeard (s : PoolState) (k : EntryKind) : Type 0 where
 abbrev Stands : PoolState → List ℕ → ℕ → Request → Told → Type 0
 Stands s who m request told = IfSome told.adds (λ k. IsOwn s who m request k ⊎ IsHeard s k)
 
+-- a new task stands for itself
 new_stands : (s : PoolState) (who : List ℕ) (m : ℕ) (task : NewTask) (o : Option ℕ) → Stands s who m (ask.New task) (accepted_at s who task o)
 new_stands s who m task (Some place) = inl (record { asked = record { who = who; request = ask.New task }; is = refl; same_request = refl; alike = refl; no_deadline = refl })
 new_stands s who m task None = inl (record { asked = record { who = who; request = ask.New task }; is = refl; same_request = refl; alike = refl; no_deadline = refl })
 
 -- requests of a bot that is known by its name
 module _ (s : PoolState) (o : IsSound s) (who : List ℕ) (m : ℕ) (name : List ℕ) (bot : BotRow) (named : bot_named s name ≡ Some bot) where
+  -- the bot is one of the pool
   found : Found (is_called name) s.bots bot
   found = find_is (is_called name) s.bots bot named
 
+  -- and has the name
   name_is : bot.name ≡ name
   name_is = same_is bot.name name found.passes
 
+  -- the answer may say that it was heard
   heard : (request : Request) (reply : Reply) → Stands s who m request (answers reply (kind.Contact bot.no))
   heard request reply = inr (record { bot = bot; among = found.among; called = ap (bot_named s) name_is ∙ named; says = refl })
 
@@ -76,12 +80,14 @@ module _ (s : PoolState) (o : IsSound s) (who : List ℕ) (m : ℕ) (name : List
   by_row : (request_of : BotRow → Asked) → option_map request_of (bot_of s bot.no) ≡ Some (request_of bot)
   by_row request_of = ap (option_map request_of) (find_bot s o bot bot.no found.among refl)
 
+  -- a handshake of a known bot stands for itself, or says that the bot was heard
   greet_stands : (session : List ℕ) (dims : BotDims) (q : List ℕ) → Stands s who m (ask.Handshake name session dims q) (greet name session dims q bot)
   greet_stands session dims q =
       cond_both (same bot.session session) (answers (reply.Shaken name) (kind.Contact bot.no)) (answers (reply.Shaken name) (kind.Handshake bot.no name session dims q)) (Stands s who m (ask.Handshake name session dims q))
       (λ t. heard (ask.Handshake name session dims q) (reply.Shaken name))
       (λ t. inl (record { asked = by_nobody (ask.Handshake name session dims q); is = refl; same_request = refl; alike = refl; no_deadline = refl }))
 
+  -- a poll stands for itself, with what it does not tell filled in from the row
   polls_stands : (dims : BotDims) (q : List ℕ) (hint : Bool) (reply : Reply) → Stands s who m (ask.Poll name dims q) (polls bot dims q hint reply)
   polls_stands dims q hint reply =
       inl (record {
@@ -94,6 +100,7 @@ module _ (s : PoolState) (o : IsSound s) (who : List ℕ) (m : ℕ) (name : List
         no_deadline = refl;
       })
 
+  -- in each of its answers
   poll_stands : (dims : BotDims) (q : List ℕ) → Stands s who m (ask.Poll name dims q) (poll s dims q bot)
   poll_stands dims q =
       by_when P bot.dead _ _ (λ t. tt) (λ t.
@@ -160,10 +167,12 @@ tell_stands s who m (ask.Terminate name) o = by_with (Stands s who m (ask.Termin
 
 -- such an entry has its cause
 
+-- what is answered has its cause
 caused : (s : PoolState) (e : Entry) (b : Bool) (r : Option Asked) (asked : Asked) → b ≡ false → r ≡ Some asked → IsAnswered s e asked → MatchBool b (IsDue s e) (IsSomeAnd r (IsAnswered s e))
 caused s e b r asked p q h = rw (p, q) h
 
 module _ (s : PoolState) (o : IsSound s) (who : List ℕ) (moment pass : ℕ) (none : due_entry s moment pass ≡ None) where
+  -- the request for which it stands is answered by it
   own_answered : (request : Request) → IsTrue (fits s.settings request) → (k : EntryKind) (f : IsOwn s who moment request k) → (tell s who moment request).adds ≡ Some k → IsAnswered s (entry_at moment pass k) f.asked
   own_answered request may k f adds =
       record {
@@ -172,6 +181,7 @@ module _ (s : PoolState) (o : IsSound s) (who : List ℕ) (moment pass : ℕ) (n
         gives = ap (option_map (entry_at moment pass)) (ap (λ (r : Request). (tell s f.asked.who moment r).adds) f.same_request ∙ ap (λ (t : Told). t.adds) f.alike ∙ adds);
       }
 
+  -- and the handshake with what the row holds is answered by this
   heard_answered : (bot : BotRow) → Among bot s.bots → bot_named s bot.name ≡ Some bot → IsAnswered s (entry_at moment pass (kind.Contact bot.no)) (handshake_of bot)
   heard_answered bot a called =
       record { nothing_due = none; may_ask = (bot_is s o bot a).known; gives = ap (option_map (entry_at moment pass)) again }
@@ -218,6 +228,7 @@ due_settled s moment pass e due =
     let at = due_at s moment pass e due in
     subst (IsSettled pass moment) at.is (settled_is s at.d.cause at.d.number, refl, at.come)
 
+-- an entry of a deadline is caused by what is due
 by_deadline : (b : Bool) (P Q : Type 0) → b ≡ true → P → MatchBool b P Q
 by_deadline b P Q e p = rw e p
 

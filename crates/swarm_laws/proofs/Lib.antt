@@ -6,6 +6,8 @@ pub mod Rows
 pub mod Tasks
 pub mod Bots
 pub mod Runs
+pub mod Numbers
+pub mod Claimed
 pub mod Moments
 pub mod Sound
 pub mod Alike
@@ -13,3 +15,5 @@ pub mod Following
 pub mod Tracks
 mod Order
 mod ClaimLaw
+mod RepeatLaws
+mod Worked

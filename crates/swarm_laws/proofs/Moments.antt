@@ -1,5 +1,5 @@
 -- No deadline lies before the last moment.
-use Rattle.std.proofs.Common.{◌≡◌, ℕ, ◌+◌, ◌≤◌, ◌==◌, List, [], ◌∷◌, ◌++◌, refl, ap, sym, ◌∙◌, subst, cond, true, false, Bool, Option, Some, None, IfSome, eqb-true, arith, filter_map}
+use Rattle.std.proofs.Common.{◌≡◌, ℕ, ◌+◌, ◌≤◌, ◌==◌, List, [], ◌∷◌, ◌++◌, map, refl, ap, sym, ◌∙◌, subst, cond, true, false, Bool, Option, Some, None, IfSome, eqb-true, arith, filter_map}
 use Rattle.std.specs.Prelude.{if◌then◌else◌}
 use Rattle.std.specs.List.{All}
 use Rattle.std.specs.Option.{option_map, option_map_or, option_and_then}
@@ -33,27 +33,9 @@ use Rattle.swarm_laws.proofs.Finds.{Finds, IsFitting, finds, fitting, waits, run
 use Rattle.swarm_laws.proofs.Rows.{task_by, bot_by, all_tasks, all_bots, find_bot}
 use Rattle.swarm_laws.proofs.Tasks.{end_final, last_final, not_pending, runner_lost, runner_moved, added_idle}
 use Rattle.swarm_laws.proofs.Bots.{settings_same}
+use Rattle.swarm_laws.proofs.Numbers.{bot_no}
 
--- no entry changes the number of a bot
-noted_no : (m : ℕ) (e : EventKind) (text : List ℕ) (x : BotRow) → (noted m e text x).no ≡ x.no
-noted_no m event.Ping text x = refl
-noted_no m event.Quarantine text x = refl
-noted_no m event.Unquarantine text x = refl
-
-pub bot_no : (s : PoolState) (m : ℕ) (k : EntryKind) → IsSound s → Finds s k → IsFitting s k → (x : BotRow) → Among x s.bots → (bot_after m k x).no ≡ x.no
-bot_no s m k o f g x a =
-    bot_by (λ (y : BotRow). y.no ≡ x.no) s m o x a (record {
-      same = refl;
-      hushes = refl;
-      dies = refl;
-      greets = λ b id session dims q is may. sym is;
-      polls = λ dims q hint may. refl;
-      busies = λ b t id found. refl;
-      hears = refl;
-      notes = λ e text may. noted_no m e text x;
-      stops = refl;
-    }) k f g
-
+-- a bot that told of itself was heard at that moment
 noted_contact : (m : ℕ) (e : EventKind) (text : List ℕ) (x : BotRow) → (noted m e text x).contact ≡ m
 noted_contact m event.Ping text x = refl
 noted_contact m event.Quarantine text x = refl
@@ -85,6 +67,7 @@ slice_from m x l = cond_both (waits x) (option_map (slice_limit x) (current_slic
 slice_none : (m : ℕ) (x : TaskRow) → waits x ≡ false → SliceAhead m x
 slice_none m x e = subst (λ (b : Bool). IfSome (cond b (option_map (slice_limit x) (current_slice x)) None) (λ d. m ≤ d.moment)) (sym e) tt
 
+-- a task that moved has a slice from this moment on, or waits no more
 slice_moved : (s : PoolState) (m : ℕ) (x : TaskRow) → SliceAhead m (moved m (next_of s x) x)
 slice_moved s m x = by_place (admit s x.request.task_slices (x.slice + 1))
   where
@@ -92,6 +75,7 @@ slice_moved s m x = by_place (admit s x.request.task_slices (x.slice + 1))
     by_place None = slice_none m (moved m (outcome.Ended (last_state x)) x) (not_pending (last_state x) (last_final x))
     by_place (Some place) = slice_from m (moved m (outcome.Slice place) x) (omega arith)
 
+-- a new task has one from this moment on
 added_slice : (m : ℕ) (k : EntryKind) (x : TaskRow) → Among x (added_tasks m k) → SliceAhead m x
 added_slice m (kind.New t who request state slice from) x a =
     each_one (SliceAhead m) (new_row m t who request state slice from) (slice_from m (new_row m t who request state slice from) (omega arith)) x a
@@ -105,6 +89,7 @@ PairAhead m bot task = runner task ≡ Some bot.no → m ≤ bot.contact + task.
 abbrev BotAhead : ℕ → ℕ → BotRow → Type 0
 BotAhead life m x = x.dead ≡ false → m ≤ x.contact + life
 
+-- a bot that was heard at the moment dies later
 bot_fresh : (life m : ℕ) (x : BotRow) → x.contact ≡ m → BotAhead life m x
 bot_fresh life m x e h = omega (arith, e)
 
@@ -116,18 +101,22 @@ record RowsAhead (m : ℕ) (s : PoolState) : Type 0 where
 
 -- from deadlines to rows
 
+-- what holds of two lists holds of the first
 all_left : {X : Type 0} (P : X → Type 0) (xs ys : List X) → All P (xs ++ ys) → All P xs
 all_left P xs ys h = all P xs (λ x a. each P (xs ++ ys) h x (among_left x xs ys a))
 
+-- and of the second
 all_right : {X : Type 0} (P : X → Type 0) (xs ys : List X) → All P (xs ++ ys) → All P ys
 all_right P xs ys h = all P ys (λ x a. each P (xs ++ ys) h x (among_right x xs ys a))
 
+-- a run and its bot make a deadline
 silence_of : (s : PoolState) (x : TaskRow) (bot : BotRow) → bot_of s bot.no ≡ Some bot → (c : Bool) (attempt : Option Attempt) → cond c (option_map (λ (a : Attempt). a.bot) attempt) None ≡ Some bot.no →
     cond c (option_map (silence_limit x) (option_and_then (λ (a : Attempt). bot_of s a.bot) attempt)) None ≡ Some (silence_limit x bot)
 silence_of s x bot g false attempt r = absurd (cc (r))
 silence_of s x bot g true None r = absurd (cc (r))
 silence_of s x bot g true (Some a) r = ap (option_map (silence_limit x)) (ap (bot_of s) (same_Some _ _ r) ∙ g)
 
+-- all deadlines lie ahead, so the rows say so
 rows_ahead : (s : PoolState) (m : ℕ) → IsSound s → Ahead m s → RowsAhead m s
 rows_ahead s m o h =
     record {
@@ -158,6 +147,7 @@ rows_ahead s m o h =
 
 -- and back
 
+-- a deadline of a run comes from its bot
 pair_back : (s : PoolState) (m : ℕ) (x : TaskRow) (c : Bool) (attempt : Option Attempt) →
     ((b : BotRow) → Among b s.bots → cond c (option_map (λ (a : Attempt). a.bot) attempt) None ≡ Some b.no → m ≤ b.contact + x.request.bot_ping_tolerance_secs) →
     IfSome (cond c (option_map (silence_limit x) (option_and_then (λ (a : Attempt). bot_of s a.bot) attempt)) None) (λ d. m ≤ d.moment)
@@ -169,6 +159,7 @@ pair_back s m x true (Some a) p = by_bot (bot_of s a.bot) refl
     by_bot None g = tt
     by_bot (Some bot) g = (let f : Found (is_bot a.bot) s.bots bot = find_is (is_bot a.bot) s.bots bot g in p bot f.among (ap (λ n. Some n) (sym (eqb-true bot.no a.bot f.passes))))
 
+-- the rows say so, and all deadlines lie ahead
 ahead_rows : (s : PoolState) (m : ℕ) → RowsAhead m s → Ahead m s
 ahead_rows s m r =
     All-append P (filter_map slice_end s.tasks) _ (all_filter_map slice_end P s.tasks r.slices)
@@ -181,8 +172,15 @@ ahead_rows s m r =
 
 -- rows after an entry
 
+abbrev tasks_then : PoolState → ℕ → EntryKind → List TaskRow
+tasks_then s m k = map (task_after s m k) s.tasks ++ added_tasks m k
+
+abbrev bots_then : PoolState → ℕ → EntryKind → List BotRow
+bots_then s m k = map (bot_after m k) s.bots ++ added_bots s m k
+
 module _ (s : PoolState) (m : ℕ) (k : EntryKind) (o : IsSound s) (f : Finds s k) (g : IsFitting s k) where
-  slices_after : RowsAhead m s → All (SliceAhead m) (after s (record { moment = m; pass = 0; kind = k })).tasks
+  -- of slices
+  slices_after : RowsAhead m s → All (SliceAhead m) (tasks_then s m k)
   slices_after r =
       all_tasks (SliceAhead m) s m k
       (λ x a. task_by (SliceAhead m) s m o x a k f (record {
@@ -214,6 +212,7 @@ module _ (s : PoolState) (m : ℕ) (k : EntryKind) (o : IsSound s) (f : Finds s 
       subst (λ (z : EntryKind). m ≤ (bot_after m z x).contact + n) (sym is)
       (cond_both (x.no == b) (busied m t x) x (λ (y : BotRow). m ≤ y.contact + n) (λ e. omega arith) (λ e. absurd (eqb-false x.no b e named)))
 
+  -- of a bot and a task that were there
   pair_row : (b : BotRow) → Among b s.bots → (x : TaskRow) → Among x s.tasks → PairAhead m b x → PairAhead m (bot_after m k b) (task_after s m k x)
   pair_row b c x a h =
       task_by (PairAhead m (bot_after m k b)) s m o x a k f (record {
@@ -223,13 +222,15 @@ module _ (s : PoolState) (m : ℕ) (k : EntryKind) (o : IsSound s) (f : Finds s 
         begins = λ n t id is found w r. begun_ahead b x.request.bot_ping_tolerance_secs n t id is (sym (same_Some _ _ r ∙ bot_no s m k o f g b c));
       })
 
-  pairs_after : RowsAhead m s → All (λ b. All (PairAhead m b) (after s (record { moment = m; pass = 0; kind = k })).tasks) (after s (record { moment = m; pass = 0; kind = k })).bots
+  -- of all pairs
+  pairs_after : RowsAhead m s → All (λ b. All (PairAhead m b) (tasks_then s m k)) (bots_then s m k)
   pairs_after r =
-      all_bots (λ (b : BotRow). All (PairAhead m b) (after s (record { moment = m; pass = 0; kind = k })).tasks) s m k
+      all_bots (λ (b : BotRow). All (PairAhead m b) (tasks_then s m k)) s m k
       (λ b c. all_tasks (PairAhead m (bot_after m k b)) s m k (λ x a. pair_row b c x a (r.pairs b c x a)) (λ x a e. absurd (cc (e, added_idle s m k f x a))))
       (λ b c. all_tasks (PairAhead m b) s m k (λ x a e. let l = added_contact s m k b c in omega (arith, l)) (λ x a e. let l = added_contact s m k b c in omega (arith, l)))
 
-  bots_after : (life : ℕ) → ((b : BotRow) → Among b s.bots → BotAhead life m b) → All (BotAhead life m) (after s (record { moment = m; pass = 0; kind = k })).bots
+  -- of bots
+  bots_after : (life : ℕ) → ((b : BotRow) → Among b s.bots → BotAhead life m b) → All (BotAhead life m) (bots_then s m k)
   bots_after life r =
       all_bots (BotAhead life m) s m k
       (λ x a. bot_by (BotAhead life m) s m o x a (record {

@@ -17,6 +17,7 @@ before p i q j = nat_lt p q || (p == q && nat_lt i j)
 abbrev NotBefore : ℕ → ℕ → ℕ → ℕ → Type 0
 NotBefore p i q j = (q < p) ⊎ ((p ≡ q) × (j ≤ i))
 
+-- where the test fails
 not_before : (p i q j : ℕ) → before p i q j ≡ false → NotBefore p i q j
 not_before p i q j e = by_order (cases_order p q)
   where
@@ -28,10 +29,12 @@ not_before p i q j e = by_order (cases_order p q)
     by_order (inr (inl less)) = absurd (cc (lt-ltb p q less, parts.0))
     by_order (inr (inr more)) = inl more
 
+-- and back
 is_not_before : (p i q j : ℕ) → NotBefore p i q j → before p i q j ≡ false
 is_not_before p i q j (inl more) = or_from _ _ (le-ltb p q (omega (arith, more))) (and_left (p == q) (nat_lt i j) (ne_eqb p q (λ e. omega (arith, more, e))))
 is_not_before p i q j (inr f) = or_from _ _ (le-ltb p q (let e = f.0 in omega (arith, e))) (and_right (p == q) (nat_lt i j) (le-ltb i j f.1))
 
+-- where it holds, the other way round does not
 is_before : (p i q j : ℕ) → before p i q j ≡ true → NotBefore q j p i
 is_before p i q j e = elim (nat_lt p q) as (λ b. nat_lt p q ≡ b → NotBefore q j p i) [
   | true ↦ (λ h. inl (ltb-true p q h))
@@ -39,6 +42,7 @@ is_before p i q j e = elim (nat_lt p q) as (λ b. nat_lt p q ≡ b → NotBefore
       let r = and_parts (p == q) (nat_lt i j) g in let l : i < j = ltb-true i j r.1 in inr (sym (eqb-true p q r.0), omega (arith, l))))
 ] refl
 
+-- what is not before in two steps is not before
 chain_numbers : (p i q j r k : ℕ) → NotBefore p i q j → NotBefore q j r k → NotBefore p i r k
 chain_numbers p i q j r k (inl a) (inl b) = inl (omega (arith, a, b))
 chain_numbers p i q j r k (inl a) (inr b) = let e = b.0 in inl (omega (arith, a, e))
@@ -47,17 +51,21 @@ chain_numbers p i q j r k (inr a) (inr b) = let e = a.1 in let f = b.1 in inr (a
 
 -- the same on rows
 
+-- the numbers of two rows
 from_rows : (a b : TaskRow) → goes_before a b ≡ false → NotBefore a.request.priority a.no b.request.priority b.no
 from_rows a b e = not_before a.request.priority a.no b.request.priority b.no e
 
+-- in two steps
 chain : (a b c : TaskRow) → goes_before a b ≡ false → goes_before b c ≡ false → goes_before a c ≡ false
 chain a b c e f =
     is_not_before a.request.priority a.no c.request.priority c.no
     (chain_numbers a.request.priority a.no b.request.priority b.no c.request.priority c.no (from_rows a b e) (from_rows b c f))
 
+-- the other way round
 flip : (a b : TaskRow) → goes_before a b ≡ true → goes_before b a ≡ false
 flip a b e = is_not_before b.request.priority b.no a.request.priority a.no (is_before a.request.priority a.no b.request.priority b.no e)
 
+-- none goes before itself
 own : (a : TaskRow) → goes_before a a ≡ false
 own a = is_not_before a.request.priority a.no a.request.priority a.no (inr (refl, omega arith))
 
@@ -70,6 +78,7 @@ record IsFirst (best : Option TaskRow) (xs : List TaskRow) (r : TaskRow) : Type 
   best_so_far : IfSome best (λ b. goes_before b r ≡ false)
   others : (y : TaskRow) → Among y xs → goes_before y r ≡ false
 
+-- what a search finds is the first
 first_of : (best : Option TaskRow) (xs : List TaskRow) (r : TaskRow) → fold foremost best xs ≡ Some r → IsFirst best xs r
 first_of None [] r e = absurd (cc (e))
 first_of (Some b) [] r e = record { best_so_far = subst (λ (z : TaskRow). goes_before b z ≡ false) (same_Some _ _ e) (own b); others = λ y a. elim a [ ] }

@@ -34,9 +34,11 @@ module _ (s : PoolState) (o : IsSound s) where
   pub task_is : (x : TaskRow) → Among x s.tasks → IsSoundTask s x
   task_is x a = each (IsSoundTask s) s.tasks o.tasks x a
 
+  -- of a bot
   pub bot_is : (x : BotRow) → Among x s.bots → IsSoundBot s x
   bot_is x a = each (IsSoundBot s) s.bots o.bots x a
 
+  -- of a bot and a task
   pub agree : (b : BotRow) → Among b s.bots → (x : TaskRow) → Among x s.tasks → Agree b x
   agree b a x c = each (Agree b) s.tasks (each (λ (z : BotRow). All (Agree z) s.tasks) s.bots o.runs b a) x c
 
@@ -44,6 +46,7 @@ module _ (s : PoolState) (o : IsSound s) where
   pub one_task : (x y : TaskRow) → Among x s.tasks → Among y s.tasks → x.no ≡ y.no → x ≡ y
   one_task x y a b e = number_tells no_of_task 1 s.tasks o.tasks_numbered x y a b e
 
+  -- so are bots
   pub one_bot : (x y : BotRow) → Among x s.bots → Among y s.bots → x.no ≡ y.no → x ≡ y
   one_bot x y a b e = number_tells no_of_bot 1 s.bots o.bots_numbered x y a b e
 
@@ -51,6 +54,7 @@ module _ (s : PoolState) (o : IsSound s) where
   pub find_task : (x : TaskRow) (n : ℕ) → Among x s.tasks → x.no ≡ n → task_of s n ≡ Some x
   find_task x n a e = subst (λ (k : ℕ). task_of s k ≡ Some x) e (number_finds no_of_task 1 s.tasks o.tasks_numbered x a)
 
+  -- and so is a bot
   pub find_bot : (x : BotRow) (n : ℕ) → Among x s.bots → x.no ≡ n → bot_of s n ≡ Some x
   find_bot x n a e = subst (λ (k : ℕ). bot_of s k ≡ Some x) e (number_finds no_of_bot 1 s.bots o.bots_numbered x a)
 
@@ -79,6 +83,7 @@ fold_is best (x ∷ xs) r e = by_best best (fold_is (foremost best x) xs r e)
     by_best b (inl g) = in_front b (first_is b g)
     by_best b (inr a) = inr (later a)
 
+-- and where there is none so far, one of the others
 pub foremost_is : (xs : List TaskRow) (r : TaskRow) → fold foremost None xs ≡ Some r → Among r xs
 foremost_is xs r e = by_start (fold_is None xs r e)
   where
@@ -90,6 +95,7 @@ foremost_is xs r e = by_start (fold_is None xs r e)
 pub claim_gets : (s : PoolState) (b t : ℕ) (id : List ℕ) (f : FindsClaim s b t id) → Found (waits_for f.bot.dims) s.tasks f.task
 claim_gets s b t id f = filter_is (waits_for f.bot.dims) s.tasks f.task (foremost_is (filter (waits_for f.bot.dims) s.tasks) f.task f.gets)
 
+-- that has the number
 pub claim_waits : (s : PoolState) (b t : ℕ) (id : List ℕ) → FindsClaim s b t id → HasTask s t waits
 claim_waits s b t id f =
     let g = claim_gets s b t id f in
@@ -102,6 +108,7 @@ pub record HasRun (s : PoolState) (b t : ℕ) : Type 0 where
   pub named : bot.no ≡ b
   pub task : bot.task ≡ Some t
 
+-- a run that is found is that of a row
 pub run_is : (s : PoolState) (b t : ℕ) → run_of_bot s b ≡ Some t → HasRun s b t
 run_is s b t e = by_bot (bot_of s b) refl e
   where
@@ -129,6 +136,7 @@ pub record Stays (P : TaskRow → Type 0) (s : PoolState) (m : ℕ) (k : EntryKi
   pub begins : (b t : ℕ) (id : List ℕ) → k ≡ kind.Claim b t id → FindsClaim s b t id → waits x ≡ true → P (begun m b id x)
 
 module _ (P : TaskRow → Type 0) (s : PoolState) (m : ℕ) (o : IsSound s) (x : TaskRow) (a : Among x s.tasks) where
+  -- a task of a bot that comes anew is lost
   lost_by : (k : EntryKind) → Stays P s m k x → (b : ℕ) (run : Option ℕ) → run_of_bot s b ≡ run → P (if_some (lost_at m) run x)
   lost_by k p b None e = p.same
   lost_by k p b (Some t) e =
@@ -164,6 +172,7 @@ pub record Keeps (P : BotRow → Type 0) (s : PoolState) (m : ℕ) (x : BotRow) 
   pub stops : P (terminated x)
 
 module _ (P : BotRow → Type 0) (s : PoolState) (m : ℕ) (o : IsSound s) (x : BotRow) (a : Among x s.bots) (p : Keeps P s m x) where
+  -- the row of a number
   at_bot : (b : ℕ) (y : BotRow) → ((x.no == b) ≡ true → P y) → P (if x.no == b then y else x)
   at_bot b y h = cond_both (x.no == b) y x P h (λ n. p.same)
 
@@ -190,6 +199,7 @@ pub all_tasks : (P : TaskRow → Type 0) (s : PoolState) (m : ℕ) (k : EntryKin
     All P (map (task_after s m k) s.tasks ++ added_tasks m k)
 all_tasks P s m k p q = all P _ (each_append P (map (task_after s m k) s.tasks) (added_tasks m k) (each_map P (task_after s m k) s.tasks p) q)
 
+-- so it is with bots
 pub all_bots : (P : BotRow → Type 0) (s : PoolState) (m : ℕ) (k : EntryKind) → ((x : BotRow) → Among x s.bots → P (bot_after m k x)) → ((x : BotRow) → Among x (added_bots s m k) → P x) →
     All P (map (bot_after m k) s.bots ++ added_bots s m k)
 all_bots P s m k p q = all P _ (each_append P (map (bot_after m k) s.bots) (added_bots s m k) (each_map P (bot_after m k) s.bots p) q)

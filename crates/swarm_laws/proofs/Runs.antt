@@ -30,6 +30,7 @@ use Rattle.swarm_laws.proofs.Tasks.{runner_waits, runner_lost, runner_moved, add
 abbrev Same : Option ℕ → ℕ → Option ℕ → ℕ → Type 0
 Same bt tn r bn = (bt ≡ Some tn) ↔ (r ≡ Some bn)
 
+-- neither names the other
 neither : (tn bn : ℕ) → Same None tn None bn
 neither tn bn = (λ e. absurd (cc (e)), λ e. absurd (cc (e)))
 
@@ -73,6 +74,7 @@ rests b bn tn bt r false p h f = h
 agree_by : (bot : BotRow) (task : TaskRow) (bt r : Option ℕ) (tn bn : ℕ) → bot.task ≡ bt → task.no ≡ tn → runner task ≡ r → bot.no ≡ bn → Same bt tn r bn → Agree bot task
 agree_by bot task bt r tn bn p q u v h = rw (p, q, u, v) h
 
+-- the runner of a task that changes at a number
 runner_at : (t : ℕ) (f : TaskRow → TaskRow) (y : TaskRow) → runner (task_at t f y) ≡ cond (y.no == t) (runner (f y)) (runner y)
 runner_at t f y = by_test (y.no == t)
   where
@@ -80,9 +82,11 @@ runner_at t f y = by_test (y.no == t)
     by_test true = refl
     by_test false = refl
 
+-- its number
 task_no_at : (t : ℕ) (f : TaskRow → TaskRow) (y : TaskRow) → (f y).no ≡ y.no → (task_at t f y).no ≡ y.no
 task_no_at t f y e = cond_both (y.no == t) (f y) y (λ (z : TaskRow). z.no ≡ y.no) (λ n. e) (λ n. refl)
 
+-- the run of a bot that changes at a number
 task_of_at : (b : ℕ) (f : BotRow → BotRow) (x : BotRow) → (bot_at b f x).task ≡ cond (x.no == b) (f x).task x.task
 task_of_at b f x = by_test (x.no == b)
   where
@@ -90,14 +94,17 @@ task_of_at b f x = by_test (x.no == b)
     by_test true = refl
     by_test false = refl
 
+-- or that falls silent
 hushed_task : (c : Bool) (x : BotRow) → (cond c (hushed x) x).task ≡ cond c None x.task
 hushed_task true x = refl
 hushed_task false x = refl
 
+-- a number below a bound
 within : (r : Option ℕ) (n k : ℕ) → IfSome r (λ t. t ≤ n) → r ≡ Some k → k ≤ n
 within None n k h e = absurd (cc (e))
 within (Some t) n k h e = let same : t ≡ k = same_Some _ _ e in omega (arith, h, same)
 
+-- an event leaves the run
 noted_agree : (m : ℕ) (e : EventKind) (text : List ℕ) (x : BotRow) (y : TaskRow) → Agree x y → Agree (noted m e text x) y
 noted_agree m event.Ping text x y h = h
 noted_agree m event.Quarantine text x y h = h
@@ -109,9 +116,11 @@ no_run s None task a e h = absurd (cc (e))
 no_run s (Some n) task a e h = eqb-false task.no n (find_none _ s.tasks h task a) (sym (same_Some _ _ e))
 
 module _ (s : PoolState) (o : IsSound s) where
+  -- so no task runs on it
   pub idle_bot : (bot : BotRow) → Among bot s.bots → run_on s bot ≡ None → (task : TaskRow) → Among task s.tasks → runner task ≡ Some bot.no → ⊥
   idle_bot bot a idle task c e = no_run s bot.task task c ((agree s o bot a task c).1 e) idle
 
+  -- a task that waits runs nowhere, and moves so
   moved_agree : (m : ℕ) (x : BotRow) (y : TaskRow) → waits y ≡ true → Agree x y → Agree x (moved m (next_of s y) y)
   moved_agree m x y w h =
       agree_by x (moved m (next_of s y) y) x.task None y.no x.no refl (no_moved (next_of s y)) (runner_moved s m y w) refl

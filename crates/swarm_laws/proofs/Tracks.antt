@@ -12,7 +12,8 @@ use Rattle.swarm_laws.proofs.Lists.{Among, among_map, among_left}
 use Rattle.swarm_laws.proofs.Finds.{Finds, finds, waits}
 use Rattle.swarm_laws.proofs.Rows.{task_by}
 use Rattle.swarm_laws.proofs.Tasks.{end_final, not_pending}
-use Rattle.swarm_laws.proofs.Sound.{task_no, sound_after}
+use Rattle.swarm_laws.proofs.Numbers.{task_no}
+use Rattle.swarm_laws.proofs.Sound.{sound_after}
 
 -- the row of the same number in the end
 pub record Tracked (P : TaskRow → Type 0) (s : PoolState) (number : ℕ) : Type 0 where
@@ -40,6 +41,7 @@ track P lasts s (y ∷ log) o c x n a e p =
 abbrev pub IsPast : TaskRow → Type 0
 IsPast x = waits x ≡ false
 
+-- this lasts
 pub past_lasts : Lasts IsPast
 past_lasts s m k o f x a p =
     task_by IsPast s m o x a k f (record {

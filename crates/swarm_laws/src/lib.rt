@@ -11,4 +11,4 @@
 
 mod laws;
 
-pub use laws::{claims_are_right, stays_sound};
+pub use laws::{a_claim_happens, claims_are_right, repeats_act_once, stays_sound};

@@ -13,6 +13,7 @@ pub mod Deadlines
 pub mod History
 pub mod Soundness
 pub mod Claims
+pub mod Repeats
 pub mod Points
 pub mod Kept
 pub mod Examples

@@ -49,6 +49,14 @@ pub record IsSoundBot (s : PoolState) (bot : BotRow) : Type 0 where
 abbrev pub Agree : BotRow → TaskRow → Type 0
 Agree bot task = (bot.task ≡ Some task.no) ↔ (runner task ≡ Some bot.no)
 
+-- the bot of a task's attempt, and the id of its claim
+abbrev pub claim_key : TaskRow → Option (ℕ × List ℕ)
+claim_key task = option_map (λ attempt. (attempt.bot, attempt.claim)) task.attempt
+
+-- tasks that one bot claimed under one id are one
+abbrev pub AreClaimedApart : TaskRow → TaskRow → Type 0
+AreClaimedApart a b = (claim : ℕ × List ℕ) → claim_key a ≡ Some claim → claim_key b ≡ Some claim → a.no ≡ b.no
+
 pub record IsSound (s : PoolState) : Type 0 where
   pub last : s.last ≤ 2 ^ 40
   pub tasks_numbered : AreNumbered no_of_task 1 s.tasks
@@ -57,6 +65,7 @@ pub record IsSound (s : PoolState) : Type 0 where
   pub bots : All (IsSoundBot s) s.bots
   pub ahead : All (λ d. s.last ≤ d.moment) (deadlines s)
   pub runs : All (λ bot. All (Agree bot) s.tasks) s.bots
+  pub claims : All (λ task. All (AreClaimedApart task) s.tasks) s.tasks
 
 -- each entry keeps a pool sound
 abbrev pub StaysSound : Type 0

@@ -1,0 +1,22 @@
+-- The worked log, entry by entry.
+use Rattle.std.proofs.Common.{refl, lit≤}
+use Rattle.swarm_laws.specs.Worked.{ItHappens}
+
+-- each entry may follow those before it
+pub it_happens : ItHappens
+it_happens = (
+  record { not_before = lit≤ tt; not_late = lit≤ tt; has_cause = record { nothing_due = refl; may_ask = refl; gives = refl } },
+  (
+    record { not_before = lit≤ tt; not_late = lit≤ tt; has_cause = record { nothing_due = refl; may_ask = refl; gives = refl } },
+    (
+      record { not_before = lit≤ tt; not_late = lit≤ tt; has_cause = record { nothing_due = refl; may_ask = refl; gives = refl } },
+      (
+        record { not_before = lit≤ tt; not_late = lit≤ tt; has_cause = record { nothing_due = refl; may_ask = refl; gives = refl } },
+        (
+          record { not_before = lit≤ tt; not_late = lit≤ tt; has_cause = refl },
+          (record { not_before = lit≤ tt; not_late = lit≤ tt; has_cause = refl }, tt),
+        ),
+      ),
+    ),
+  ),
+)

@@ -1,0 +1,27 @@
+-- A log in which a bot comes, claims a task, is heard once more, and falls silent.
+use Rattle.std.specs.Prelude.{List, [], ◌∷◌, None, codes}
+use Rattle.dimensions.specs.declared.bot_dims.BotDims.{BotDims}
+use Rattle.swarm_model.specs.declared.task_state.TaskState.TheVariants.{Pending}
+use Rattle.swarm_model.specs.declared.entry.Entry.{Entry}
+use Rattle.swarm_model.specs.declared.entry.EntryKind.TheVariants as kind
+use Rattle.swarm_model.specs.Answers.{entry_at}
+use Rattle.swarm_model.specs.Effects.{opening}
+use Rattle.swarm_model.specs.Examples.{settings, small_task}
+use Rattle.swarm_model.specs.History.{IsCaused}
+
+abbrev pub small_dims : BotDims
+small_dims = (codes "id", codes "bot-1" ∷ []) ∷ (codes "pool", codes "default" ∷ []) ∷ []
+
+abbrev pub worked_log : List Entry
+worked_log =
+    entry_at 1000 0 (kind.New 1 (codes "ana") (small_task 600) Pending 0 None)
+    ∷ entry_at 1001 0 (kind.Handshake 1 (codes "bot-1") (codes "session-1") small_dims [])
+    ∷ entry_at 1002 0 (kind.Claim 1 1 (codes "claim-1"))
+    ∷ entry_at 1003 0 (kind.Contact 1)
+    ∷ entry_at 1603 0 (kind.Dead 1)
+    ∷ entry_at 2203 0 (kind.Silence 1)
+    ∷ []
+
+-- it is a log that a pool may have
+abbrev pub ItHappens : Type 0
+ItHappens = IsCaused (opening settings) worked_log

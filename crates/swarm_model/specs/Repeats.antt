@@ -1,0 +1,63 @@
+-- What comes of a request that is sent again.
+use Rattle.std.specs.Prelude.{◌≡◌, ℕ, Bool, false, ◌==◌, List, IsTrue, Option, Some, None, map, is_some, if◌then◌else◌}
+use Rattle.dimensions.specs.declared.bot_dims.BotDims.{BotDims}
+use Rattle.swarm_model.specs.declared.pool_settings.PoolSettings.{PoolSettings}
+use Rattle.swarm_model.specs.declared.attempt.Attempt.{Attempt}
+use Rattle.swarm_model.specs.declared.task_row.TaskRow.{TaskRow}
+use Rattle.swarm_model.specs.declared.bot_row.BotRow.{BotRow}
+use Rattle.swarm_model.specs.declared.pool_state.PoolState.{PoolState}
+use Rattle.swarm_model.specs.declared.entry.Entry.{Entry}
+use Rattle.swarm_model.specs.declared.entry.EntryKind.TheVariants as kind
+use Rattle.swarm_model.specs.declared.request.Request.TheVariants as ask
+use Rattle.swarm_model.specs.declared.reply.Reply.{Reply}
+use Rattle.swarm_model.specs.declared.reply.Reply.TheVariants as reply
+use Rattle.swarm_model.specs.declared.rule.Rule.TheVariants as rule
+use Rattle.swarm_model.specs.declared.answer.Answer.{Answer}
+use Rattle.swarm_model.specs.Finding.{is_final, task_of, bot_named}
+use Rattle.swarm_model.specs.Answers.{answer, entry_at, run}
+use Rattle.swarm_model.specs.Effects.{opening, after}
+use Rattle.swarm_model.specs.History.{replay, IsCaused}
+use Rattle.swarm_model.specs.Soundness.{runner}
+
+-- the reply, and the entry that says only that the bot was heard
+abbrev pub hears : ℕ → ℕ → BotRow → Reply → Answer
+hears moment pass bot answer = record { reply = answer; entry = Some (entry_at moment pass (kind.Contact bot.no)) }
+
+-- a bot of a pool that a log led to, with a task of the pool that it claimed
+pub record HasClaimed (s : PoolState) (name : List ℕ) (bot : BotRow) (task : TaskRow) (attempt : Attempt) : Type 0 where
+  pub named : bot_named s name ≡ Some bot
+  pub there : task_of s task.no ≡ Some task
+  pub attempted : task.attempt ≡ Some attempt
+  pub by_bot : attempt.bot ≡ bot.no
+
+-- a claim under the id of the attempt that the bot runs tells the run again
+abbrev pub ClaimAgain : Type 0
+ClaimAgain =
+    (settings : PoolSettings) (log : List Entry) (who name : List ℕ) (moment pass : ℕ) (bot : BotRow) (task : TaskRow) (attempt : Attempt)
+    → IsCaused (opening settings) log → HasClaimed (replay (opening settings) log) name bot task attempt → runner task ≡ Some bot.no
+    → answer (replay (opening settings) log) who moment pass (ask.Claim name attempt.claim) ≡ hears moment pass bot (run task)
+
+-- once its attempt has ended it is refused, and adds nothing
+abbrev pub ClaimIsOver : Type 0
+ClaimIsOver =
+    (settings : PoolSettings) (log : List Entry) (who name : List ℕ) (moment pass : ℕ) (bot : BotRow) (task : TaskRow) (attempt : Attempt)
+    → IsCaused (opening settings) log → HasClaimed (replay (opening settings) log) name bot task attempt → IsTrue (is_final task.state)
+    → answer (replay (opening settings) log) who moment pass (ask.Claim name attempt.claim)
+    ≡ record { reply = reply.No (rule.ClaimOver task.no attempt.try_no task.state); entry = None }
+
+-- a handshake with the session that the bot has says only that the bot was heard
+abbrev pub HandshakeAgain : Type 0
+HandshakeAgain =
+    (s : PoolState) (who name session quarantined : List ℕ) (dims : BotDims) (moment pass : ℕ) (bot : BotRow) → bot_named s name ≡ Some bot → bot.session ≡ session
+    → answer s who moment pass (ask.Handshake name session dims quarantined) ≡ hears moment pass bot (reply.Shaken name)
+
+-- a bot that was heard: its contact, and its dead mark where it runs a task
+abbrev pub only_heard : ℕ → BotRow → BotRow
+only_heard moment bot = record bot { contact = moment; dead = if is_some bot.task then false else bot.dead }
+
+-- that a bot was heard changes only that, and the last moment
+abbrev pub ContactChanges : Type 0
+ContactChanges =
+    (s : PoolState) (moment pass b : ℕ)
+    → after s (entry_at moment pass (kind.Contact b))
+    ≡ record s { last = moment; bots = map (λ bot. if bot.no == b then only_heard moment bot else bot) s.bots }
