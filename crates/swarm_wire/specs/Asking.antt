@@ -54,7 +54,7 @@ unfoldable pub new_of : List PoolSettings → Data → Result Asked WireFault
 new_of pools d = do
   task ← unless_broken (task_in d)
   place ← pool_named pools (pool_of_task task)
-  if is_built d task then Ok (asked place (ask.New task)) else Err fault.NotBuilt
+  if is_built d then Ok (asked place (ask.New task)) else Err fault.NotBuilt
 
 -- the task of an id, where the settings have a pool at its place
 unfoldable pub result_at : List PoolSettings → ℕ → Result Asked WireFault

@@ -1,5 +1,5 @@
 -- The request for a task in a body: its fields, in the order of their rules, and what isn't served.
-use Rattle.std.specs.Prelude.{ℕ, Bool, false, not, ◌&&◌, ◌||◌, List, [], ◌∷◌, is_some, decimal, Option, Some, None, Result, Ok, Err, codes}
+use Rattle.std.specs.Prelude.{ℕ, Bool, false, not, ◌||◌, ◌==◌, List, [], ◌∷◌, length, is_some, decimal, Option, Some, None, Result, Ok, Err, codes}
 use Rattle.std.specs.List.{list_any}
 use Rattle.std.specs.Option.{option_map_or}
 use Rattle.serde_json.specs.Data.{Data}
@@ -11,10 +11,9 @@ use Rattle.task_props.specs.declared.raw_task.RawSlice.{RawSlice}
 use Rattle.task_props.specs.declared.raw_task.RawProperties.{RawProperties}
 use Rattle.task_props.specs.declared.new_task.NewTask.{NewTask}
 use Rattle.task_props.specs.Broken.{first_broken_task}
-use Rattle.task_props.specs.Checked.{is_served}
 use Rattle.task_props.specs.Reading.{task_of}
 use Rattle.swarm_wire.specs.Readings.{at, inside, ◌>>=◌}
-use Rattle.swarm_wire.specs.Fields.{text_of, object_of, present, text_at, number_at, flag_at, list_in, object_at, each_at, unknown_key, unless_unknown}
+use Rattle.swarm_wire.specs.Fields.{text_of, object_of, values_of, present, text_at, number_at, flag_at, list_in, object_at, each_at, unknown_key, unless_unknown}
 
 -- a text of a command, at its place
 abbrev pub text_item : ℕ → Data → Result (List ℕ) PropFault
@@ -35,14 +34,14 @@ pair_item place d = do
   pair ← at (decimal place) (object_of d)
   inside (decimal place) (pair_in pair)
 
--- the keys of properties that aren't served
+-- the keys of properties that aren't served; `inputs` may be an empty list
 abbrev pub unserved_properties : List (List ℕ)
 unserved_properties =
-    codes "env" ∷ codes "caches" ∷ codes "inputs" ∷ codes "outputs" ∷ codes "execution_timeout_secs"
+    codes "env" ∷ codes "caches" ∷ codes "outputs" ∷ codes "execution_timeout_secs"
     ∷ codes "io_timeout_secs" ∷ codes "grace_period_secs" ∷ codes "idempotent" ∷ []
 
 abbrev pub property_keys : List (List ℕ)
-property_keys = codes "command" ∷ codes "dimensions" ∷ unserved_properties
+property_keys = codes "command" ∷ codes "dimensions" ∷ codes "inputs" ∷ unserved_properties
 
 unfoldable pub properties_in : Data → Result RawProperties PropFault
 properties_in d = do
@@ -100,17 +99,27 @@ holds_any keys d = list_any (holds d) keys
 abbrev pub unserved_fields : List (List ℕ)
 unserved_fields = codes "bot_ping_tolerance_secs" ∷ codes "request_uuid" ∷ []
 
+abbrev pub is_empty_list : Result (List Data) PropRule → Bool
+is_empty_list (Ok ds) = length ds == 0
+is_empty_list (Err rule) = false
+
+-- anything but an empty list
+abbrev pub is_not_empty : Data → Bool
+is_not_empty d = not (is_empty_list (values_of d))
+
+unfoldable pub has_inputs : Data → Bool
+has_inputs properties = option_map_or is_not_empty (present (codes "inputs") properties) false
+
+abbrev pub are_unserved : Data → Bool
+are_unserved properties = holds_any unserved_properties properties || has_inputs properties
+
 unfoldable pub is_unserved_slice : Data → Bool
-is_unserved_slice slice = option_map_or (holds_any unserved_properties) (present (codes "properties") slice) false
+is_unserved_slice slice = option_map_or are_unserved (present (codes "properties") slice) false
 
 abbrev pub any_item : (Data → Bool) → Result (List Data) PropRule → Bool
 any_item test (Ok ds) = list_any test ds
 any_item test (Err rule) = false
 
--- a field that isn't served is present
-unfoldable pub has_unserved : Data → Bool
-has_unserved d = holds_any unserved_fields d || any_item is_unserved_slice (list_in (codes "task_slices") d)
-
--- one slice that waits, and no field that isn't served
-unfoldable pub is_built : Data → NewTask → Bool
-is_built d task = not (has_unserved d) && is_served task
+-- no field that isn't served is present
+unfoldable pub is_built : Data → Bool
+is_built d = not (holds_any unserved_fields d || any_item is_unserved_slice (list_in (codes "task_slices") d))

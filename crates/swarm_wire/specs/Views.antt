@@ -1,6 +1,6 @@
 -- What is shown of a task.
-use Rattle.std.specs.Prelude.{ℕ, ℤ, ◌/◌, ◌%◌, false, List, [], ◌∷◌, ◌++◌, map, Option, Some, None, codes}
-use Rattle.std.specs.Fmt.{digits}
+use Rattle.std.specs.Prelude.{ℕ, ℤ, List, map, Option, Some, None, codes}
+use Rattle.hex.specs.Hex.{encode_lower}
 use Rattle.serde_json.specs.Data.{Data, null, number, unsigned, string, array, object, Members, member, no_members}
 use Rattle.serde_json.specs.Find.{of_integer}
 use Rattle.serde_json.specs.View.{items_of}
@@ -20,19 +20,10 @@ abbrev pub or_null : {A : Type 0} → (A → Data) → Option A → Data
 or_null show None = null
 or_null show (Some x) = show x
 
--- a byte in two digits
-abbrev pub hex_byte : ℕ → List ℕ
-hex_byte byte = digits 16 false (byte / 16) ++ digits 16 false (byte % 16)
-
--- bytes in lower-case hexadecimal
-abbrev pub hex_text : List ℕ → List ℕ
-hex_text [] = []
-hex_text (byte ∷ bytes) = hex_byte byte ++ hex_text bytes
-
 unfoldable pub file_data : File → Data
 file_data file =
     object
-    (member (codes "digest") (string (hex_text file.digest))
+    (member (codes "digest") (string (encode_lower file.digest))
     (member (codes "path") (string file.path)
     (member (codes "size") (whole file.size) no_members)))
 

@@ -30,8 +30,9 @@ fn number_of(value: &Value) -> Result<i128, PropRule>
     }
 }
 
+/// The items of a value that must be a list.
 #[tactic(auto, using(crate::proofs::Lists::list_of_items))]
-fn values_of(value: &Value) -> Result<&[Value], PropRule>
+pub(crate) fn values_of(value: &Value) -> Result<&[Value], PropRule>
     ensures { Gives (λ vs. map view vs.now) result (spec_values_of (view value.now)) }
 {
     match value.as_array() {

@@ -8,7 +8,7 @@
 //! the last value counts.
 //! [`show_reply`] is the body of a reply, exactly `body_of` of `specs/Bodies.antt`: compact, with
 //! the keys of each object in the order of their bytes. Any answer may give way to want of memory.
-//! The crate stands on `swarm_policy`, `swarm_model` and `task_props`, and on `serde_json`.
+//! The crate stands on `swarm_policy`, `swarm_model` and `task_props`, and on `serde_json` and `hex`.
 #![tactic(auto)]
 
 mod asked;

@@ -27,7 +27,7 @@ fn ask_new(alloc: Global, pools: &[PoolSettings], body: &Value) -> Result<Asked,
     let Some(place) = place_of(pools, task.pool()) else {
         return Err(WireFault::NoPool);
     };
-    if is_built(body, &task) {
+    if is_built(body) {
         Ok(Asked {
             place,
             request: Request::New(task),

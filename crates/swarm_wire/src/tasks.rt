@@ -1,7 +1,7 @@
 //! The request for a task in a body.
 ghost use Rattle.std.specs.Prelude.{◌≡◌, IfOk, map, option_map, true, codes};
 ghost use Rattle.serde_json.specs.View.{view};
-ghost use Rattle.task_props.specs.Checked.{is_sound_task};
+ghost use Rattle.task_props.specs.Checked.{is_checked};
 ghost use Rattle.swarm_wire.specs.Readings.{Reads, each_from};
 ghost use Rattle.swarm_wire.specs.Fields.{each_at, unknown_key as spec_unknown_key};
 ghost use Rattle.swarm_wire.specs.Tasks.{text_item, property_keys, pair_in, pair_item, properties_in, properties_at, slice_in, slice_item, fields_of, checked, task_in};
@@ -18,9 +18,9 @@ use task_props::{NewTask, PropFault, PropRule, RawProperties, RawSlice, RawTask}
 const PROPERTY_KEYS: [&str; 10] = [
     "command",
     "dimensions",
+    "inputs",
     "env",
     "caches",
-    "inputs",
     "outputs",
     "execution_timeout_secs",
     "io_timeout_secs",
@@ -198,7 +198,7 @@ fn read_fields(alloc: Global, body: &Value) -> Result<RawTask, PropFault>
 #[tactic(auto, unfolding(crate::specs::Tasks::checked))]
 fn check(alloc: Global, raw: RawTask) -> Result<NewTask, PropFault>
     ensures exact { Reads result (checked raw) }
-    ensures sound { IfOk result (λ task. is_sound_task task ≡ true) }
+    ensures checked { IfOk result (λ task. is_checked task ≡ true) }
 {
     NewTask::check(alloc, raw)
 }
@@ -208,7 +208,7 @@ fn check(alloc: Global, raw: RawTask) -> Result<NewTask, PropFault>
 #[tactic(auto, unfolding(crate::specs::Tasks::task_in))]
 pub(crate) fn read_task(alloc: Global, body: &Value) -> Result<NewTask, PropFault>
     ensures exact { Reads result (task_in (view body.now)) }
-    ensures sound { IfOk result (λ task. is_sound_task task ≡ true) }
+    ensures checked { IfOk result (λ task. is_checked task ≡ true) }
 {
     let raw = read_fields(alloc, body)?;
     check(alloc, raw)

@@ -64,6 +64,11 @@ fn bodies(rt: HostRuntime) -> Result<(), Fail> {
         ("", "new of 0"),
         (",\"env\":null,\"foo\":null", "new of 0"),
         (",\"env\":[]", "not_built"),
+        (",\"inputs\":null", "new of 0"),
+        (",\"inputs\":[]", "new of 0"),
+        (",\"inputs\":[null]", "not_built"),
+        (",\"inputs\":5", "not_built"),
+        (",\"inputs\":[],\"outputs\":[]", "not_built"),
         (",\"foo\":1", "task_slices.0.properties.foo unknown"),
         (
             ",\"foo\":1,\"env\":[]",
@@ -113,6 +118,33 @@ fn bodies(rt: HostRuntime) -> Result<(), Fail> {
         ),
     ] {
         let asked = read(alloc, &settings, Route::NewTask, body);
+        assert_eq!(rt; told(alloc, asked)?.as_str(), wanted);
+    }
+    Ok(())
+}
+
+#[test]
+fn slices_in_bodies(rt: HostRuntime) -> Result<(), Fail> {
+    let alloc = rt.alloc();
+    let settings = open_settings(alloc)?;
+    for (waits, pool, program, more, wanted) in [
+        ("true", "default", "b", "", "new of 0"),
+        ("false", "default", "b", "", "new of 0"),
+        ("false", "default", "b", ",\"env\":[]", "not_built"),
+        ("false", "default", "a", "", "task_slices repeated"),
+        (
+            "false",
+            "default",
+            "a",
+            ",\"env\":[]",
+            "task_slices repeated",
+        ),
+        ("false", "other", "b", "", "task_slices pool"),
+    ] {
+        let body = format!(in alloc;
+            "{{\"task_slices\":[{{\"expiration_secs\":600,\"wait_for_capacity\":true,\"properties\":{{\"command\":[\"a\"],\"dimensions\":[{{\"key\":\"pool\",\"value\":\"default\"}}]}}}},{{\"expiration_secs\":60,\"wait_for_capacity\":{waits},\"properties\":{{\"command\":[\"{program}\"],\"dimensions\":[{{\"key\":\"pool\",\"value\":\"{pool}\"}}]{more}}}}}]}}"
+        )?;
+        let asked = read(alloc, &settings, Route::NewTask, body.as_str());
         assert_eq!(rt; told(alloc, asked)?.as_str(), wanted);
     }
     Ok(())

@@ -2,18 +2,16 @@
 ghost use Rattle.std.specs.Prelude.{◌≡◌, map, codes};
 ghost use Rattle.std.specs.List.{list_any};
 ghost use Rattle.serde_json.specs.View.{view};
-ghost use Rattle.swarm_wire.specs.Tasks.{holds as spec_holds, holds_any as spec_holds_any, is_unserved_slice as spec_is_unserved_slice, has_unserved as spec_has_unserved, is_built as spec_is_built, any_item};
+ghost use Rattle.swarm_wire.specs.Tasks.{holds as spec_holds, holds_any as spec_holds_any, is_not_empty as spec_is_not_empty, has_inputs as spec_has_inputs, are_unserved as spec_are_unserved, is_unserved_slice as spec_is_unserved_slice, is_built as spec_is_built, any_item, unserved_properties};
 ghost use Rattle.swarm_wire.specs.Fields.{list_in as spec_list_in};
 
-use crate::fields::{list_in, present};
+use crate::fields::{list_in, present, values_of};
 use serde_json::Value;
-use task_props::NewTask;
 
-/// The keys of properties that aren't served.
-const PROPERTIES: [&str; 8] = [
+/// The keys of properties that aren't served, but for `inputs`.
+const PROPERTIES: [&str; 7] = [
     "env",
     "caches",
-    "inputs",
     "outputs",
     "execution_timeout_secs",
     "io_timeout_secs",
@@ -39,12 +37,43 @@ fn holds_any(value: &Value, keys: &[&str]) -> bool
     false
 }
 
+fn holds_unserved(properties: &Value) -> bool
+    ensures { result ≡ spec_holds_any unserved_properties (view properties.now) }
+{
+    holds_any(properties, &PROPERTIES)
+}
+
+fn is_not_empty(value: &Value) -> bool
+    ensures { result ≡ spec_is_not_empty (view value.now) }
+{
+    match values_of(value) {
+        Ok(values) => !values.is_empty(),
+        Err(_) => true,
+    }
+}
+
+#[tactic(auto, unfolding(crate::specs::Tasks::has_inputs))]
+fn has_inputs(properties: &Value) -> bool
+    ensures { result ≡ spec_has_inputs (view properties.now) }
+{
+    match present(properties, "inputs") {
+        Some(inputs) => is_not_empty(inputs),
+        None => false,
+    }
+}
+
+fn are_unserved(properties: &Value) -> bool
+    ensures { result ≡ spec_are_unserved (view properties.now) }
+{
+    holds_unserved(properties) || has_inputs(properties)
+}
+
 #[tactic(auto, unfolding(crate::specs::Tasks::is_unserved_slice))]
 fn is_unserved_slice(slice: &Value) -> bool
     ensures { result ≡ spec_is_unserved_slice (view slice.now) }
 {
     match present(slice, "properties") {
-        Some(properties) => holds_any(properties, &PROPERTIES),
+        Some(properties) => are_unserved(properties),
         None => false,
     }
 }
@@ -69,18 +98,10 @@ fn has_unserved_slice(body: &Value) -> bool
     }
 }
 
-#[tactic(auto, unfolding(crate::specs::Tasks::has_unserved))]
-fn has_unserved(body: &Value) -> bool
-    ensures { result ≡ spec_has_unserved (view body.now) }
-{
-    holds_any(body, &["bot_ping_tolerance_secs", "request_uuid"]) || has_unserved_slice(body)
-}
-
-/// Whether the task of a body is served: it has one slice, which waits, and the body has no field
-/// that isn't served.
+/// Whether no field that isn't served is present in the body of a task.
 #[tactic(auto, unfolding(crate::specs::Tasks::is_built))]
-pub(crate) fn is_built(body: &Value, task: &NewTask) -> bool
-    ensures { result ≡ spec_is_built (view body.now) task.now }
+pub(crate) fn is_built(body: &Value) -> bool
+    ensures { result ≡ spec_is_built (view body.now) }
 {
-    !has_unserved(body) && task.is_served()
+    !(holds_any(body, &["bot_ping_tolerance_secs", "request_uuid"]) || has_unserved_slice(body))
 }

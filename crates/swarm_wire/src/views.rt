@@ -1,8 +1,8 @@
 //! What is shown of a task.
-ghost use Rattle.std.specs.Prelude.{◌≡◌, ◌<◌, IfOk, map, string_bytes};
+ghost use Rattle.std.specs.Prelude.{◌≡◌, ◌<◌, IfOk, map};
 ghost use Rattle.serde_json.specs.Data.{string, put};
 ghost use Rattle.serde_json.specs.View.{view, members_view};
-ghost use Rattle.swarm_wire.specs.Views.{whole, signed, or_null, hex_byte as spec_hex_byte, hex_text as spec_hex_text, file_data, files_data, run_data, last_members as spec_last_members, task_data};
+ghost use Rattle.swarm_wire.specs.Views.{whole, signed, or_null, file_data, files_data, run_data, last_members as spec_last_members, task_data};
 
 use crate::ids::{run_id, task_id};
 use crate::states::state_name;
@@ -10,7 +10,7 @@ use dimensions::Text;
 use serde_json::{Map, Value, json};
 use std::alloc::{AllocError, Global};
 use swarm_model::TaskView;
-use task_props::{Digest, File};
+use task_props::File;
 
 fn text_or_null(alloc: Global, text: &Option<Text>) -> Result<Value, AllocError>
     ensures { IfOk result (λ value. view value ≡ or_null string text.now) }
@@ -49,29 +49,11 @@ fn run_or_null(alloc: Global, place: u32, run: Option<(u32, u32)>) -> Result<Val
     }
 }
 
-fn byte_text(alloc: Global, byte: u8) -> Result<String, AllocError>
-    ensures { IfOk result (λ text. string_bytes text ≡ spec_hex_byte byte) }
-{
-    let high = byte / 16;
-    let low = byte % 16;
-    format!(in alloc; "{high:x}{low:x}")
-}
-
-fn digest_text(alloc: Global, digest: &Digest) -> Result<String, AllocError>
-    ensures { IfOk result (λ text. string_bytes text ≡ spec_hex_text digest.now) }
-{
-    let mut text = String::new(alloc);
-    for byte in digest {
-        text.push_str(byte_text(alloc, *byte)?.as_str())?;
-    }
-    Ok(text)
-}
-
 #[tactic(auto, unfolding(crate::specs::Views::file_data))]
 fn file_value(alloc: Global, file: &File) -> Result<Value, AllocError>
     ensures { IfOk result (λ value. view value ≡ file_data file.now) }
 {
-    let digest = digest_text(alloc, &file.digest)?;
+    let digest = hex::encode(alloc, file.digest.as_slice())?;
     let path = file.path.as_str();
     let size = file.size;
     json!(in alloc; {"digest": digest, "path": path, "size": size})

@@ -1,7 +1,6 @@
-use Rattle.std.proofs.Common.{sym, ◌∙◌}
 use Rattle.swarm_wire.proofs.Fitting.{new_fits}
 use Rattle.swarm_wire.proofs.request.ask_new.Goals as goal
 
 pub returns-then-is_built-clause-fits : goal.returns-then-is_built-clause-fits
 returns-then-is_built-clause-fits c =
-    new_fits c.args.pools.now c.in-Some.place _ c.in_ok-task.task c.in_ok-task.ensures.sound (sym c.is_built.ensures ∙ c.if-is_built.true) (rw c.pool.ensures at c.in-Some.ensures.named)
+    new_fits c.args.pools.now c.in-Some.place c.in_ok-task.task c.in_ok-task.ensures.checked (rw c.pool.ensures at c.in-Some.ensures.named)
