@@ -14,6 +14,6 @@ pub mod Alike
 pub mod Following
 pub mod Tracks
 mod Order
-mod ClaimLaw
+pub mod ClaimLaw
 mod RepeatLaws
 mod Worked
