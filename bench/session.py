@@ -8,11 +8,17 @@ asked, how many requests, seconds, requests per second, microseconds a request, 
 memory of the process in MiB, which is never less than the script's own, some 14. The replies are
 counted; a run that answers otherwise is an error. The program is built by the first
 `./swarm session`.
+
+The lines on settling are about one CountTasks, on a connection that was held open until the slices
+of so many tasks had run out: the deadlines that it settles, the seconds from writing it to its
+reply, deadlines per second, microseconds a deadline, and the memory.
 """
+import json
 import os
 import subprocess
 import sys
 import tempfile
+import threading
 import time
 
 HERE = os.path.dirname(os.path.dirname(os.path.abspath(__file__)))
@@ -21,6 +27,9 @@ NEW_TASK = (
     b'{"command":["true"],"dimensions":[{"key":"pool","value":"default"}]}}]}'
 )
 COUNT = b'{"pool":"default"}'
+COUNT_EXPIRED = b'{"pool":"default","state":"EXPIRED"}'
+# Longer than the requests of a run take, so that no NewTask settles anything.
+SLICE_SECS = 5
 
 
 def request(call, body):
@@ -65,10 +74,63 @@ def measure(program, name, rows, asked, count):
     seconds, memory, good = run(program, parts)
     if good != rows + count:
         sys.exit("%s: %d of %d requests were answered well" % (name, good, rows + count))
-    per_second = (rows + count) / seconds
+    show(name, rows + count, seconds, memory)
+
+
+def read_reply(told):
+    """The status line of the next reply, the front that it tells, and its body."""
+    status, size, front = told.readline(), 0, None
+    while (line := told.readline()) not in (b"\r\n", b""):
+        name, _, value = line.partition(b":")
+        if name == b"Content-Length":
+            size = int(value)
+        elif name == b"X-Swarming-Front":
+            front = int(value)
+    return status, front, told.read(size)
+
+
+def check_reply(name, told, front):
+    """The body of the next reply, which must be good and have this front."""
+    status, told_front, body = read_reply(told)
+    if status != b"HTTP/1.1 200 OK\r\n" or told_front != front:
+        sys.exit("%s: %r with front %s, where %d is right" % (name, status, told_front, front))
+    return json.loads(body)
+
+
+def measure_settling(program, rows):
+    name = "settling %d deadlines" % rows
+    task = NEW_TASK.replace(b":600,", b":%d," % SLICE_SECS)
+    child = subprocess.Popen([program, "session"], stdin=subprocess.PIPE, stdout=subprocess.PIPE)
+    asked = request(b"NewTask", task) * rows
+    writer = threading.Thread(target=lambda: (child.stdin.write(asked), child.stdin.flush()))
+    writer.start()
+    for row in range(rows):
+        check_reply(name, child.stdout, row + 1)
+    writer.join()
+    # The program's moments are whole seconds, so no deadline is later than this.
+    time.sleep(SLICE_SECS + 0.1)
+    begun = time.monotonic()
+    child.stdin.write(request(b"CountTasks", COUNT_EXPIRED))
+    child.stdin.flush()
+    counted = check_reply(name, child.stdout, 2 * rows)
+    seconds = time.monotonic() - begun
+    if counted != {"count": rows}:
+        sys.exit("%s: %s" % (name, counted))
+    child.stdin.close()
+    rest = child.stdout.read()
+    _, status, usage = os.wait4(child.pid, 0)
+    child.returncode = os.waitstatus_to_exitcode(status)
+    if child.returncode != 0 or rest:
+        sys.exit("%s ended with status %d and %r" % (program, child.returncode, rest))
+    show(name, rows, seconds, usage.ru_maxrss / 1024)
+
+
+def show(name, count, seconds, memory):
+    per_second = count / seconds
     print(
         "%-32s %8d %8.3f s %10.0f /s %8.2f us %8.1f MiB"
-        % (name, rows + count, seconds, per_second, 1e6 / per_second, memory)
+        % (name, count, seconds, per_second, 1e6 / per_second, memory),
+        flush=True,
     )
 
 
@@ -84,6 +146,8 @@ def main():
         measure(program, "NewTask", 0, request(b"NewTask", NEW_TASK), count)
     measure(program, "GetResult of the first of 500", 500, request(b"GetResult", b'{"task_id":"10"}'), 65000)
     measure(program, "GetResult of the last of 500", 500, request(b"GetResult", b'{"task_id":"1f40"}'), 65000)
+    for rows in (1000, 5000, 10000):
+        measure_settling(program, rows)
 
 
 main()

@@ -8,7 +8,9 @@ mod bodies;
 mod fronts;
 mod heads;
 mod limits;
+mod moments;
 mod reading;
+mod slices;
 mod turns;
 
 const PATH: &str = "/prpc/swarming.v2.Tasks/NewTask";
@@ -19,8 +21,8 @@ const NEW_TASK: &[u8] =
 const PENDING: &str =
     "HTTP/1.1 200 OK\r\nContent-Length: 34\r\nContent-Type: application/json\r\nX-Swarming-Front: ";
 
-const NOT_BUILT_TASK: &str =
-    "HTTP/1.1 501 Not Implemented\r\nContent-Length: 34\r\nContent-Type: application/json\r\n\r\n{\"code\":\"not_built\",\"what\":\"task\"}";
+const NO_RESOURCE: &str =
+    "HTTP/1.1 200 OK\r\nContent-Length: 38\r\nContent-Type: application/json\r\nX-Swarming-Front: ";
 
 const OUT_OF_RANGE: &str =
     "HTTP/1.1 400 Bad Request\r\nContent-Length: 75\r\nContent-Type: application/json\r\n\r\n{\"code\":\"bad_field\",\"field\":\"task_slices.0.expiration_secs\",\"rule\":\"range\"}";
@@ -36,6 +38,9 @@ const NO_TASK: &str =
 
 const NO_TASK_OF_ONE: &str =
     "HTTP/1.1 404 Not Found\r\nContent-Length: 18\r\nContent-Type: application/json\r\nX-Swarming-Front: 1\r\n\r\n{\"code\":\"no_task\"}";
+
+const AHEAD_OF_ONE: &str =
+    "HTTP/1.1 409 Conflict\r\nContent-Length: 33\r\nContent-Type: application/json\r\nX-Swarming-Front: 1\r\n\r\n{\"code\":\"front_ahead\",\"length\":1}";
 
 const COUNTS_ONE: &str =
     "HTTP/1.1 200 OK\r\nContent-Length: 11\r\nContent-Type: application/json\r\nX-Swarming-Front: 1\r\n\r\n{\"count\":1}";
@@ -58,6 +63,13 @@ const DEFAULT: &str = "{\"pool\":\"default\"}";
 /// The reply that a front and a task's id stand in.
 fn pending(alloc: Global, front: u32, id: &str) -> Result<String, AllocError> {
     format!(in alloc; "{PENDING}{front}\r\n\r\n{{\"state\":\"PENDING\",\"task_id\":\"{id}\"}}")
+}
+
+/// The reply for a task that ended at once, since none of its slices is open.
+fn no_resource(alloc: Global, front: u32, id: &str) -> Result<String, AllocError> {
+    format!(in alloc;
+        "{NO_RESOURCE}{front}\r\n\r\n{{\"state\":\"NO_RESOURCE\",\"task_id\":\"{id}\"}}"
+    )
 }
 
 /// A request for a small task whose slice expires after these seconds, as they are spelled.

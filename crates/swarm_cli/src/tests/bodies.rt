@@ -1,19 +1,26 @@
 //! Bodies of requests for a task, each with what it is answered. The answers were worked out by
 //! hand from the rules that `docs/protocol.md` states.
 
-use crate::tests::{PATH, pending, run_over};
+use crate::tests::{PATH, no_resource, pending, run_over};
 use std::alloc::{AllocError, Global};
 use std::process::Abort;
 use std::test::Fail;
+
+mod orders;
+mod properties;
+mod slices;
 
 /// What a body is answered.
 #[derive(Clone, Copy, Debug, PartialEq, Eq)]
 enum Answer {
     /// The task is PENDING.
     Accepted,
+    /// The task has ended as NO_RESOURCE.
+    NoResource,
     BadJson,
     /// A rule is broken at a field, as it stands in the reply.
     Breaks(&'static str, &'static str),
+    NoPool,
     NotBuilt,
 }
 
@@ -35,6 +42,11 @@ fn refused(alloc: Global, status: &str, body: &str) -> Result<String, AllocError
 fn accepted(alloc: Global, count: u32) -> Result<String, AllocError> {
     let id = format!(in alloc; "{count:x}0")?;
     pending(alloc, count, id.as_str())
+}
+
+fn ended(alloc: Global, count: u32) -> Result<String, AllocError> {
+    let id = format!(in alloc; "{count:x}0")?;
+    no_resource(alloc, count, id.as_str())
 }
 
 fn broken(alloc: Global, field: &str, rule: &str) -> Result<String, AllocError> {
@@ -63,8 +75,13 @@ impl Asked {
                 self.accepted = self.accepted.saturating_add(1);
                 accepted(alloc, self.accepted)?
             }
+            Answer::NoResource => {
+                self.accepted = self.accepted.saturating_add(1);
+                ended(alloc, self.accepted)?
+            }
             Answer::BadJson => refused(alloc, "400 Bad Request", r#"{"code":"bad_json"}"#)?,
             Answer::Breaks(field, rule) => broken(alloc, field, rule)?,
+            Answer::NoPool => refused(alloc, "404 Not Found", r#"{"code":"no_pool"}"#)?,
             Answer::NotBuilt => refused(
                 alloc,
                 "501 Not Implemented",
@@ -344,14 +361,15 @@ fn other_fields_of_a_slice(rt: HostRuntime) -> Result<(), Fail> {
             r#""wait_for_capacity":true"#,
             Answer::Breaks("task_slices.0.expiration_secs", "range"),
         ),
-        (r#""expiration_secs":600"#, Answer::NotBuilt),
+        // A slice that doesn't wait isn't open where there is no bot.
+        (r#""expiration_secs":600"#, Answer::NoResource),
         (
             r#""expiration_secs":600,"wait_for_capacity":false"#,
-            Answer::NotBuilt,
+            Answer::NoResource,
         ),
         (
             r#""expiration_secs":600,"wait_for_capacity":null"#,
-            Answer::NotBuilt,
+            Answer::NoResource,
         ),
         (
             r#""expiration_secs":600,"wait_for_capacity":true"#,
@@ -427,575 +445,15 @@ fn lists_of_slices(rt: HostRuntime) -> Result<(), Fail> {
         let body = with_slices(alloc, slices)?;
         asked.ask(alloc, body.as_bytes(), answer)?;
     }
+    // One slice so many times.
     for (count, answer) in [
         (1, Answer::Accepted),
-        (2, Answer::NotBuilt),
-        (8, Answer::NotBuilt),
+        (2, Answer::Breaks("task_slices", "repeated")),
+        (8, Answer::Breaks("task_slices", "repeated")),
         (9, Answer::Breaks("task_slices", "count")),
     ] {
         let slices = listed(alloc, SLICE, count)?;
         let body = format!(in alloc; r#"{{"task_slices":[{slices}]}}"#)?;
-        asked.ask(alloc, body.as_bytes(), answer)?;
-    }
-    asked.compare(&rt, alloc)
-}
-
-#[test]
-fn commands(rt: HostRuntime) -> Result<(), Fail> {
-    let alloc = rt.alloc();
-    let mut asked = Asked::new(alloc);
-    for (command, answer) in [
-        (
-            "null",
-            Answer::Breaks("task_slices.0.properties.command", "missing"),
-        ),
-        (
-            r#""true""#,
-            Answer::Breaks("task_slices.0.properties.command", "type"),
-        ),
-        (
-            "{}",
-            Answer::Breaks("task_slices.0.properties.command", "type"),
-        ),
-        (
-            "[]",
-            Answer::Breaks("task_slices.0.properties.command", "count"),
-        ),
-        (
-            "[null]",
-            Answer::Breaks("task_slices.0.properties.command.0", "type"),
-        ),
-        (
-            r#"["a",null]"#,
-            Answer::Breaks("task_slices.0.properties.command.1", "type"),
-        ),
-        (
-            r#"["a",5]"#,
-            Answer::Breaks("task_slices.0.properties.command.1", "type"),
-        ),
-        (
-            r#"["a",["b"],5]"#,
-            Answer::Breaks("task_slices.0.properties.command.1", "type"),
-        ),
-        (
-            r#"[""]"#,
-            Answer::Breaks("task_slices.0.properties.command.0", "count"),
-        ),
-        (
-            r#"["",5]"#,
-            Answer::Breaks("task_slices.0.properties.command.1", "type"),
-        ),
-        (
-            r#"["","\u0000"]"#,
-            Answer::Breaks("task_slices.0.properties.command.0", "count"),
-        ),
-        (
-            r#"["a\u0000"]"#,
-            Answer::Breaks("task_slices.0.properties.command.0", "grammar"),
-        ),
-        (
-            r#"["a","\u0000"]"#,
-            Answer::Breaks("task_slices.0.properties.command.1", "grammar"),
-        ),
-        (r#"["a","",""]"#, Answer::Accepted),
-        (r#"["\u0001\u007f","é"]"#, Answer::Accepted),
-    ] {
-        let body = with_command(alloc, command)?;
-        asked.ask(alloc, body.as_bytes(), answer)?;
-    }
-    asked.compare(&rt, alloc)
-}
-
-#[test]
-fn pairs_of_dimensions(rt: HostRuntime) -> Result<(), Fail> {
-    let alloc = rt.alloc();
-    let mut asked = Asked::new(alloc);
-    for (pair, answer) in [
-        (r#"{"key":"a","value":"b"}"#, Answer::Accepted),
-        (
-            "null",
-            Answer::Breaks("task_slices.0.properties.dimensions.1", "type"),
-        ),
-        (
-            "5",
-            Answer::Breaks("task_slices.0.properties.dimensions.1", "type"),
-        ),
-        (
-            r#"["a","b"]"#,
-            Answer::Breaks("task_slices.0.properties.dimensions.1", "type"),
-        ),
-        (
-            "{}",
-            Answer::Breaks("task_slices.0.properties.dimensions.1", "grammar"),
-        ),
-        (
-            r#"{"key":"a"}"#,
-            Answer::Breaks("task_slices.0.properties.dimensions.1", "grammar"),
-        ),
-        (
-            r#"{"value":"b"}"#,
-            Answer::Breaks("task_slices.0.properties.dimensions.1", "grammar"),
-        ),
-        (
-            r#"{"key":"a","value":null}"#,
-            Answer::Breaks("task_slices.0.properties.dimensions.1", "grammar"),
-        ),
-        (
-            r#"{"key":null,"value":"b"}"#,
-            Answer::Breaks("task_slices.0.properties.dimensions.1", "grammar"),
-        ),
-        (
-            r#"{"key":5,"value":5}"#,
-            Answer::Breaks("task_slices.0.properties.dimensions.1.key", "type"),
-        ),
-        (
-            r#"{"key":"","value":["b"],"x":1}"#,
-            Answer::Breaks("task_slices.0.properties.dimensions.1.value", "type"),
-        ),
-        (
-            r#"{"key":"","value":"b","x":1,"Y":1}"#,
-            Answer::Breaks("task_slices.0.properties.dimensions.1.Y", "unknown"),
-        ),
-        (r#"{"key":"a","value":"b","x":null}"#, Answer::Accepted),
-    ] {
-        let pairs = format!(in alloc; "[{POOL},{pair}]")?;
-        let body = with_dimensions(alloc, pairs.as_str())?;
-        asked.ask(alloc, body.as_bytes(), answer)?;
-    }
-    asked.compare(&rt, alloc)
-}
-
-#[test]
-fn keys_and_values(rt: HostRuntime) -> Result<(), Fail> {
-    let alloc = rt.alloc();
-    let mut asked = Asked::new(alloc);
-    for (key, value) in [
-        ("", "b"),
-        ("1a", "b"),
-        ("a b", "b"),
-        ("a:", "b"),
-        ("é", "b"),
-        ("a", ""),
-        ("a", " "),
-        ("a", " b"),
-        ("a", "b "),
-        ("a", "b| c"),
-        ("a", "b |c"),
-        ("a", "b\\u0000"),
-        ("a", "\\u001fb"),
-        ("a", "\\u007f"),
-        // Broken in two ways: the grammar comes before the empty alternative.
-        ("a", "| b"),
-        ("a", "|\\u0001"),
-    ] {
-        let body = with_pair(alloc, key, value)?;
-        asked.ask(
-            alloc,
-            body.as_bytes(),
-            Answer::Breaks("task_slices.0.properties.dimensions.1", "grammar"),
-        )?;
-    }
-    for value in ["b||c", "|b", "b|", "|"] {
-        let body = with_pair(alloc, "a", value)?;
-        asked.ask(
-            alloc,
-            body.as_bytes(),
-            Answer::Breaks("task_slices.0.properties.dimensions.1", "alternative"),
-        )?;
-    }
-    for (key, value) in [
-        ("A.b-c_9", "b c"),
-        ("-a", "b|c|b"),
-        ("_", "\\u0080é"),
-        (".", "1"),
-        ("id", "b|c"),
-    ] {
-        let body = with_pair(alloc, key, value)?;
-        asked.ask(alloc, body.as_bytes(), Answer::Accepted)?;
-    }
-    asked.compare(&rt, alloc)
-}
-
-#[test]
-fn lists_of_dimensions(rt: HostRuntime) -> Result<(), Fail> {
-    let alloc = rt.alloc();
-    let mut asked = Asked::new(alloc);
-    for (pairs, answer) in [
-        (
-            "null",
-            Answer::Breaks("task_slices.0.properties.dimensions", "missing"),
-        ),
-        (
-            "5",
-            Answer::Breaks("task_slices.0.properties.dimensions", "type"),
-        ),
-        (
-            "{}",
-            Answer::Breaks("task_slices.0.properties.dimensions", "type"),
-        ),
-        // No pool, two pools, a pool with alternatives.
-        (
-            "[]",
-            Answer::Breaks("task_slices.0.properties.dimensions", "pool"),
-        ),
-        (
-            r#"[{"key":"a","value":"b"}]"#,
-            Answer::Breaks("task_slices.0.properties.dimensions", "pool"),
-        ),
-        (
-            r#"[{"key":"pool","value":"default"},{"key":"pool","value":"other"}]"#,
-            Answer::Breaks("task_slices.0.properties.dimensions", "pool"),
-        ),
-        (
-            r#"[{"key":"pool","value":"default|other"}]"#,
-            Answer::Breaks("task_slices.0.properties.dimensions", "pool"),
-        ),
-        // Two ids, and no pool beside them.
-        (
-            r#"[{"key":"id","value":"a"},{"key":"pool","value":"default"},{"key":"id","value":"b"}]"#,
-            Answer::Breaks("task_slices.0.properties.dimensions", "id"),
-        ),
-        (
-            r#"[{"key":"id","value":"a"},{"key":"id","value":"b"}]"#,
-            Answer::Breaks("task_slices.0.properties.dimensions", "pool"),
-        ),
-        // A key twice, and a pair twice.
-        (
-            r#"[{"key":"a","value":"2"},{"key":"pool","value":"default"},{"key":"a","value":"1"}]"#,
-            Answer::Accepted,
-        ),
-        (
-            r#"[{"key":"a","value":"1"},{"key":"pool","value":"default"},{"key":"a","value":"1"}]"#,
-            Answer::Breaks("task_slices.0.properties.dimensions.2", "repeated"),
-        ),
-        (
-            r#"[{"key":"pool","value":"default"},{"key":"pool","value":"default"}]"#,
-            Answer::Breaks("task_slices.0.properties.dimensions.1", "repeated"),
-        ),
-        // The first broken pair is told, and that before the rules on all pairs.
-        (
-            r#"[{"key":"a","value":"1"},{"key":"a","value":"1"},{"key":"1","value":"1"}]"#,
-            Answer::Breaks("task_slices.0.properties.dimensions.1", "repeated"),
-        ),
-        (
-            r#"[{"key":"a","value":"|"},{"key":"1","value":"1"}]"#,
-            Answer::Breaks("task_slices.0.properties.dimensions.0", "alternative"),
-        ),
-        (
-            r#"[{"key":"1","value":"1"},{"key":"a","value":null,"b":0}]"#,
-            Answer::Breaks("task_slices.0.properties.dimensions.1.b", "unknown"),
-        ),
-    ] {
-        let body = with_dimensions(alloc, pairs)?;
-        asked.ask(alloc, body.as_bytes(), answer)?;
-    }
-    asked.compare(&rt, alloc)
-}
-
-#[test]
-fn other_properties(rt: HostRuntime) -> Result<(), Fail> {
-    let alloc = rt.alloc();
-    let mut asked = Asked::new(alloc);
-    for (more, answer) in [
-        // Keys that aren't known; null is as absent.
-        (
-            r#""foo":1"#,
-            Answer::Breaks("task_slices.0.properties.foo", "unknown"),
-        ),
-        (
-            r#""foo":[]"#,
-            Answer::Breaks("task_slices.0.properties.foo", "unknown"),
-        ),
-        (r#""foo":null"#, Answer::Accepted),
-        (r#""foo":1,"foo":null"#, Answer::Accepted),
-        (
-            r#""bar":null,"foo":1"#,
-            Answer::Breaks("task_slices.0.properties.foo", "unknown"),
-        ),
-        (
-            r#""Command":["a"]"#,
-            Answer::Breaks("task_slices.0.properties.Command", "unknown"),
-        ),
-        (
-            r#""name":"a""#,
-            Answer::Breaks("task_slices.0.properties.name", "unknown"),
-        ),
-        (
-            r#""":0"#,
-            Answer::Breaks("task_slices.0.properties.", "unknown"),
-        ),
-        (
-            r#""a\"\\b":0"#,
-            Answer::Breaks(r#"task_slices.0.properties.a\"\\b"#, "unknown"),
-        ),
-        // The first of two in the order of bytes.
-        (
-            r#""bar":1,"Foo":1"#,
-            Answer::Breaks("task_slices.0.properties.Foo", "unknown"),
-        ),
-        (
-            r#""é":1,"zoo":1"#,
-            Answer::Breaks("task_slices.0.properties.zoo", "unknown"),
-        ),
-        // Keys that are known and aren't served.
-        (r#""env":[{"key":"A","value":"b"}]"#, Answer::NotBuilt),
-        (r#""env":null"#, Answer::Accepted),
-        (r#""caches":[]"#, Answer::NotBuilt),
-        (r#""outputs":["a"]"#, Answer::NotBuilt),
-        (r#""execution_timeout_secs":0"#, Answer::NotBuilt),
-        (r#""io_timeout_secs":60"#, Answer::NotBuilt),
-        (r#""grace_period_secs":30"#, Answer::NotBuilt),
-        (r#""idempotent":false"#, Answer::NotBuilt),
-        // Rules that are broken come first.
-        (
-            r#""env":[],"foo":1"#,
-            Answer::Breaks("task_slices.0.properties.foo", "unknown"),
-        ),
-        (
-            r#""env":[],"command":[]"#,
-            Answer::Breaks("task_slices.0.properties.command", "count"),
-        ),
-        (r#""command":[],"command":["b"]"#, Answer::Accepted),
-    ] {
-        let properties = format!(in alloc; r#""command":["true"],"dimensions":[{POOL}],{more}"#)?;
-        let body = with_properties(alloc, properties.as_str())?;
-        asked.ask(alloc, body.as_bytes(), answer)?;
-    }
-    asked.compare(&rt, alloc)
-}
-
-#[test]
-fn the_first_of_two_broken_rules(rt: HostRuntime) -> Result<(), Fail> {
-    let alloc = rt.alloc();
-    let mut asked = Asked::new(alloc);
-    for (members, field, rule) in [
-        // Fields are tried in their own order, whatever the body's.
-        (r#""task_slices":5,"priority":"","name":5"#, "name", "type"),
-        (r#""task_slices":[],"priority":256"#, "priority", "range"),
-        (
-            r#""task_slices":[],"priority":256,"name":"\u0001""#,
-            "name",
-            "grammar",
-        ),
-        // What is missing or of a wrong type comes before all other rules.
-        (r#""priority":256"#, "task_slices", "missing"),
-        (r#""priority":256,"task_slices":5"#, "task_slices", "type"),
-        (
-            r#""name":"\u0001","task_slices":[{}]"#,
-            "task_slices.0.properties",
-            "missing",
-        ),
-        (
-            r#""task_slices":[{"wait_for_capacity":1}]"#,
-            "task_slices.0.wait_for_capacity",
-            "type",
-        ),
-        (
-            r#""task_slices":[{"properties":{"command":[],"dimensions":[]}},null]"#,
-            "task_slices.1",
-            "type",
-        ),
-        (
-            r#""task_slices":[{"expiration_secs":""},null]"#,
-            "task_slices.0.expiration_secs",
-            "type",
-        ),
-        (
-            r#""task_slices":[{"properties":{"dimensions":5}}]"#,
-            "task_slices.0.properties.command",
-            "missing",
-        ),
-        (
-            r#""task_slices":[{"properties":{"command":[""],"dimensions":5}}]"#,
-            "task_slices.0.properties.dimensions",
-            "type",
-        ),
-        (
-            r#""request_uuid":5,"task_slices":[5]"#,
-            "task_slices.0",
-            "type",
-        ),
-        // So do unknown keys, after the known ones of their object.
-        (
-            r#""name":"\u0001","task_slices":[{"properties":{"command":[],"dimensions":[],"foo":1}}]"#,
-            "task_slices.0.properties.foo",
-            "unknown",
-        ),
-        (
-            r#""task_slices":[{"properties":{"command":[],"foo":1}}]"#,
-            "task_slices.0.properties.dimensions",
-            "missing",
-        ),
-        (
-            r#""task_slices":[{"properties":{"command":[],"dimensions":[{"x":1},{"key":5}],"foo":1}}]"#,
-            "task_slices.0.properties.dimensions.0.x",
-            "unknown",
-        ),
-        (
-            r#""task_slices":[{"properties":{"command":[],"dimensions":[],"foo":1}},5]"#,
-            "task_slices.0.properties.foo",
-            "unknown",
-        ),
-        // The other rules, field by field.
-        (
-            r#""task_slices":[{"properties":{"command":[],"dimensions":[]}}]"#,
-            "task_slices.0.expiration_secs",
-            "range",
-        ),
-        (
-            r#""task_slices":[{"expiration_secs":1,"properties":{"command":[],"dimensions":[]}}]"#,
-            "task_slices.0.properties.command",
-            "count",
-        ),
-        (
-            r#""task_slices":[{"expiration_secs":1,"properties":{"command":["a"],"dimensions":[]}},{"properties":{"command":[],"dimensions":[]}}]"#,
-            "task_slices.0.properties.dimensions",
-            "pool",
-        ),
-        (
-            r#""task_slices":[{"expiration_secs":1,"properties":{"command":["a"],"dimensions":[{"key":"pool","value":"a"}]}},{"properties":{"command":[],"dimensions":[]}}]"#,
-            "task_slices.1.expiration_secs",
-            "range",
-        ),
-    ] {
-        let body = format!(in alloc; "{{{members}}}")?;
-        asked.ask(alloc, body.as_bytes(), Answer::Breaks(field, rule))?;
-    }
-    asked.compare(&rt, alloc)
-}
-
-#[test]
-fn long_names_and_commands(rt: HostRuntime) -> Result<(), Fail> {
-    let alloc = rt.alloc();
-    let mut asked = Asked::new(alloc);
-    for (unit, times, answer) in [
-        ("a", 256, Answer::Accepted),
-        ("a", 257, Answer::Breaks("name", "count")),
-        // Bytes and not characters are counted: this letter has two.
-        ("é", 128, Answer::Accepted),
-        ("é", 129, Answer::Breaks("name", "count")),
-        ("\\u0001", 256, Answer::Breaks("name", "grammar")),
-        ("\\u0001", 257, Answer::Breaks("name", "count")),
-    ] {
-        let name = repeated(alloc, unit, times)?;
-        let body = format!(in alloc; r#"{{"name":"{name}","task_slices":[{SLICE}]}}"#)?;
-        asked.ask(alloc, body.as_bytes(), answer)?;
-    }
-    for (item, times, answer) in [
-        (r#""a""#, 64, Answer::Accepted),
-        (
-            r#""a""#,
-            65,
-            Answer::Breaks("task_slices.0.properties.command", "count"),
-        ),
-        (
-            r#""""#,
-            65,
-            Answer::Breaks("task_slices.0.properties.command", "count"),
-        ),
-    ] {
-        let texts = listed(alloc, item, times)?;
-        let command = format!(in alloc; "[{texts}]")?;
-        let body = with_command(alloc, command.as_str())?;
-        asked.ask(alloc, body.as_bytes(), answer)?;
-    }
-    for (unit, times, answer) in [
-        ("a", 4096, Answer::Accepted),
-        (
-            "a",
-            4097,
-            Answer::Breaks("task_slices.0.properties.command.1", "count"),
-        ),
-        ("é", 2048, Answer::Accepted),
-        (
-            "é",
-            2049,
-            Answer::Breaks("task_slices.0.properties.command.1", "count"),
-        ),
-        (
-            "\\u0000",
-            4097,
-            Answer::Breaks("task_slices.0.properties.command.1", "count"),
-        ),
-    ] {
-        let text = repeated(alloc, unit, times)?;
-        let command = format!(in alloc; r#"["a","{text}"]"#)?;
-        let body = with_command(alloc, command.as_str())?;
-        asked.ask(alloc, body.as_bytes(), answer)?;
-    }
-    asked.compare(&rt, alloc)
-}
-
-#[test]
-fn long_and_many_dimensions(rt: HostRuntime) -> Result<(), Fail> {
-    let alloc = rt.alloc();
-    let mut asked = Asked::new(alloc);
-    for (unit, times, answer) in [
-        ("a", 64, Answer::Accepted),
-        (
-            "a",
-            65,
-            Answer::Breaks("task_slices.0.properties.dimensions.1", "grammar"),
-        ),
-    ] {
-        let key = repeated(alloc, unit, times)?;
-        let body = with_pair(alloc, key.as_str(), "b")?;
-        asked.ask(alloc, body.as_bytes(), answer)?;
-    }
-    for (unit, times, answer) in [
-        ("b", 256, Answer::Accepted),
-        (
-            "b",
-            257,
-            Answer::Breaks("task_slices.0.properties.dimensions.1", "grammar"),
-        ),
-        ("é", 128, Answer::Accepted),
-        (
-            "é",
-            129,
-            Answer::Breaks("task_slices.0.properties.dimensions.1", "grammar"),
-        ),
-        (
-            "|",
-            257,
-            Answer::Breaks("task_slices.0.properties.dimensions.1", "grammar"),
-        ),
-    ] {
-        let value = repeated(alloc, unit, times)?;
-        let body = with_pair(alloc, "a", value.as_str())?;
-        asked.ask(alloc, body.as_bytes(), answer)?;
-    }
-    // The pool and so many more pairs.
-    for (more, answer) in [
-        (31, Answer::Accepted),
-        (
-            32,
-            Answer::Breaks("task_slices.0.properties.dimensions", "count"),
-        ),
-    ] {
-        let mut pairs = String::from_str(alloc, POOL)?;
-        for number in 0..more {
-            let pair = format!(in alloc; r#",{{"key":"a","value":"{number}"}}"#)?;
-            pairs.push_str(pair.as_str())?;
-        }
-        let list = format!(in alloc; "[{pairs}]")?;
-        let body = with_dimensions(alloc, list.as_str())?;
-        asked.ask(alloc, body.as_bytes(), answer)?;
-    }
-    // One pair so many times.
-    for (times, answer) in [
-        (
-            32,
-            Answer::Breaks("task_slices.0.properties.dimensions.1", "repeated"),
-        ),
-        (
-            33,
-            Answer::Breaks("task_slices.0.properties.dimensions", "count"),
-        ),
-    ] {
-        let pairs = listed(alloc, POOL, times)?;
-        let list = format!(in alloc; "[{pairs}]")?;
-        let body = with_dimensions(alloc, list.as_str())?;
         asked.ask(alloc, body.as_bytes(), answer)?;
     }
     asked.compare(&rt, alloc)

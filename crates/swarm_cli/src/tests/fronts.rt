@@ -2,8 +2,8 @@
 //! that `docs/protocol.md` states.
 
 use crate::tests::{
-    BAD_JSON, COUNTS_ONE, DEFAULT, NEW_TASK, NO_POOL, NO_TASK, NO_TASK_OF_ONE, STATE_BREAKS, TASK,
-    and_pending, asking, followed, pending, run_over,
+    AHEAD_OF_ONE, BAD_JSON, COUNTS_ONE, DEFAULT, NEW_TASK, NO_POOL, NO_TASK, NO_TASK_OF_ONE,
+    STATE_BREAKS, TASK, and_pending, asking, followed, pending, run_over,
 };
 use std::test::Fail;
 
@@ -24,9 +24,6 @@ const AFTER_BREAKS: &str =
 
 const AHEAD_OF_NONE: &str =
     "HTTP/1.1 409 Conflict\r\nContent-Length: 33\r\nContent-Type: application/json\r\nX-Swarming-Front: 0\r\n\r\n{\"code\":\"front_ahead\",\"length\":0}";
-
-const AHEAD_OF_ONE: &str =
-    "HTTP/1.1 409 Conflict\r\nContent-Length: 33\r\nContent-Type: application/json\r\nX-Swarming-Front: 1\r\n\r\n{\"code\":\"front_ahead\",\"length\":1}";
 
 const NO_TASK_OF_NONE: &str =
     "HTTP/1.1 404 Not Found\r\nContent-Length: 18\r\nContent-Type: application/json\r\nX-Swarming-Front: 0\r\n\r\n{\"code\":\"no_task\"}";

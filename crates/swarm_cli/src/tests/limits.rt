@@ -3,24 +3,24 @@
 ghost use Rattle.std.specs.Prelude.{◌≡◌, ◌≤◌, IfOk, IsTrue, length};
 ghost use Rattle.swarm_model.specs.Settings.{AreOpen, are_settings};
 
-use crate::tests::{NEW_TASK, NOT_BUILT_TASK, PATH, pending};
+use crate::tests::{NEW_TASK, PATH, pending};
 use dimensions::{Seq, TryCopy};
 use std::alloc::{AllocError, Global};
 use std::test::Fail;
 use swarm_history::PlainDoor;
-use swarm_http::{Ended, MemoryLink, StepClock, session};
+use swarm_http::{Clock, Ended, MemoryLink, StepClock, session};
 use swarm_model::{PoolSettings, Settings};
 use swarm_plain::ListPool;
 use swarm_policy::open_settings;
 
-const LOG_FULL: &str =
+pub(crate) const LOG_FULL: &str =
     "HTTP/1.1 503 Service Unavailable\r\nContent-Length: 19\r\nContent-Type: application/json\r\n\r\n{\"code\":\"log_full\"}";
 
-const ONE_TASK_IS_ALL: &str =
+pub(crate) const ONE_TASK_IS_ALL: &str =
     "HTTP/1.1 503 Service Unavailable\r\nContent-Length: 36\r\nContent-Type: application/json\r\nX-Swarming-Front: 1\r\n\r\n{\"code\":\"pool_tasks_full\",\"limit\":1}";
 
 /// The open settings with these limits.
-fn limited(
+pub(crate) fn limited(
     alloc: Global,
     most_tasks: u32,
     most_entries: u32,
@@ -59,20 +59,25 @@ fn limited(
 
 /// How a session ended, and what it wrote.
 #[derive(Drop)]
-struct Served {
-    ended: Ended,
-    link: MemoryLink,
+pub(crate) struct Served {
+    pub(crate) ended: Ended,
+    pub(crate) link: MemoryLink,
 }
 
-fn serve(alloc: Global, settings: &Settings, input: &[u8]) -> Result<Served, AllocError>
+/// Serves a connection over a new pool of these settings.
+pub(crate) fn serve<C: Clock>(
+    alloc: Global,
+    settings: &Settings,
+    clock: &mut C,
+    input: &[u8],
+) -> Result<Served, AllocError>
     requires one { length settings.now.pools ≡ 1 }
     requires rules { IsTrue (are_settings settings.now) }
     requires open { AreOpen settings.now }
 {
     let mut door = PlainDoor::<ListPool>::new(alloc, settings)?;
-    let mut clock = StepClock { at: 1000, step: 0 };
     let mut link = MemoryLink::new(alloc, Vec::from_slice(alloc, input)?, 1000, Vec::new(alloc));
-    let ended = session(alloc, settings, &mut door, &mut clock, &mut link);
+    let ended = session(alloc, settings, &mut door, clock, &mut link);
     Ok(Served { ended, link })
 }
 
@@ -110,7 +115,8 @@ fn limits_of_a_pool(rt: HostRuntime) -> Result<(), Fail> {
         (1, 1, 18, first, ONE_TASK_IS_ALL),
     ] {
         let settings = limited(alloc, most_tasks, most_entries, most_weight)?;
-        let served = serve(alloc, &settings, input.as_slice())?;
+        let mut clock = StepClock { at: 1000, step: 0 };
+        let served = serve(alloc, &settings, &mut clock, input.as_slice())?;
         assert_eq!(rt; served.ended, Ended::Closed);
         let expected = format!(in alloc; "{one}{two}")?;
         assert_eq!(rt; served.link.output(), expected.as_bytes());
@@ -118,16 +124,30 @@ fn limits_of_a_pool(rt: HostRuntime) -> Result<(), Fail> {
     Ok(())
 }
 
+/// A task of two slices and the small one behind it, over a pool of these weights.
 #[test]
-fn a_second_slice(rt: HostRuntime) -> Result<(), Fail> {
+fn the_weight_of_a_second_slice(rt: HostRuntime) -> Result<(), Fail> {
     let alloc = rt.alloc();
-    let settings = limited(alloc, 1, 1, 18)?;
     let mut input = Vec::from_slice(alloc, two_slices(alloc)?.as_bytes())?;
     input.extend_from_slice(NEW_TASK)?;
-    let served = serve(alloc, &settings, input.as_slice())?;
-    assert_eq!(rt; served.ended, Ended::Closed);
-    let after = pending(alloc, 1, "10")?;
-    let expected = format!(in alloc; "{NOT_BUILT_TASK}{after}")?;
-    assert_eq!(rt; served.link.output(), expected.as_bytes());
+    let first = pending(alloc, 1, "10")?;
+    let second = pending(alloc, 2, "20")?;
+    let first = first.as_str();
+    let second = second.as_str();
+    // Its entry weighs 34: `ana`, `true` and `false`, and twice `pool` and `default`.
+    for (most_weight, one, two) in [
+        (52, first, second),
+        (51, first, LOG_FULL),
+        (34, first, LOG_FULL),
+        (33, LOG_FULL, first),
+        (17, LOG_FULL, LOG_FULL),
+    ] {
+        let settings = limited(alloc, 2, 2, most_weight)?;
+        let mut clock = StepClock { at: 1000, step: 0 };
+        let served = serve(alloc, &settings, &mut clock, input.as_slice())?;
+        assert_eq!(rt; served.ended, Ended::Closed);
+        let expected = format!(in alloc; "{one}{two}")?;
+        assert_eq!(rt; served.link.output(), expected.as_bytes());
+    }
     Ok(())
 }

@@ -1,0 +1,338 @@
+//! Commands, dimensions and other properties of a slice.
+
+use crate::tests::bodies::{
+    Answer, Asked, POOL, with_command, with_dimensions, with_pair, with_properties,
+};
+use std::test::Fail;
+
+#[test]
+fn commands(rt: HostRuntime) -> Result<(), Fail> {
+    let alloc = rt.alloc();
+    let mut asked = Asked::new(alloc);
+    for (command, answer) in [
+        (
+            "null",
+            Answer::Breaks("task_slices.0.properties.command", "missing"),
+        ),
+        (
+            r#""true""#,
+            Answer::Breaks("task_slices.0.properties.command", "type"),
+        ),
+        (
+            "{}",
+            Answer::Breaks("task_slices.0.properties.command", "type"),
+        ),
+        (
+            "[]",
+            Answer::Breaks("task_slices.0.properties.command", "count"),
+        ),
+        (
+            "[null]",
+            Answer::Breaks("task_slices.0.properties.command.0", "type"),
+        ),
+        (
+            r#"["a",null]"#,
+            Answer::Breaks("task_slices.0.properties.command.1", "type"),
+        ),
+        (
+            r#"["a",5]"#,
+            Answer::Breaks("task_slices.0.properties.command.1", "type"),
+        ),
+        (
+            r#"["a",["b"],5]"#,
+            Answer::Breaks("task_slices.0.properties.command.1", "type"),
+        ),
+        (
+            r#"[""]"#,
+            Answer::Breaks("task_slices.0.properties.command.0", "count"),
+        ),
+        (
+            r#"["",5]"#,
+            Answer::Breaks("task_slices.0.properties.command.1", "type"),
+        ),
+        (
+            r#"["","\u0000"]"#,
+            Answer::Breaks("task_slices.0.properties.command.0", "count"),
+        ),
+        (
+            r#"["a\u0000"]"#,
+            Answer::Breaks("task_slices.0.properties.command.0", "grammar"),
+        ),
+        (
+            r#"["a","\u0000"]"#,
+            Answer::Breaks("task_slices.0.properties.command.1", "grammar"),
+        ),
+        (r#"["a","",""]"#, Answer::Accepted),
+        (r#"["\u0001\u007f","é"]"#, Answer::Accepted),
+    ] {
+        let body = with_command(alloc, command)?;
+        asked.ask(alloc, body.as_bytes(), answer)?;
+    }
+    asked.compare(&rt, alloc)
+}
+
+#[test]
+fn pairs_of_dimensions(rt: HostRuntime) -> Result<(), Fail> {
+    let alloc = rt.alloc();
+    let mut asked = Asked::new(alloc);
+    for (pair, answer) in [
+        (r#"{"key":"a","value":"b"}"#, Answer::Accepted),
+        (
+            "null",
+            Answer::Breaks("task_slices.0.properties.dimensions.1", "type"),
+        ),
+        (
+            "5",
+            Answer::Breaks("task_slices.0.properties.dimensions.1", "type"),
+        ),
+        (
+            r#"["a","b"]"#,
+            Answer::Breaks("task_slices.0.properties.dimensions.1", "type"),
+        ),
+        (
+            "{}",
+            Answer::Breaks("task_slices.0.properties.dimensions.1", "grammar"),
+        ),
+        (
+            r#"{"key":"a"}"#,
+            Answer::Breaks("task_slices.0.properties.dimensions.1", "grammar"),
+        ),
+        (
+            r#"{"value":"b"}"#,
+            Answer::Breaks("task_slices.0.properties.dimensions.1", "grammar"),
+        ),
+        (
+            r#"{"key":"a","value":null}"#,
+            Answer::Breaks("task_slices.0.properties.dimensions.1", "grammar"),
+        ),
+        (
+            r#"{"key":null,"value":"b"}"#,
+            Answer::Breaks("task_slices.0.properties.dimensions.1", "grammar"),
+        ),
+        (
+            r#"{"key":5,"value":5}"#,
+            Answer::Breaks("task_slices.0.properties.dimensions.1.key", "type"),
+        ),
+        (
+            r#"{"key":"","value":["b"],"x":1}"#,
+            Answer::Breaks("task_slices.0.properties.dimensions.1.value", "type"),
+        ),
+        (
+            r#"{"key":"","value":"b","x":1,"Y":1}"#,
+            Answer::Breaks("task_slices.0.properties.dimensions.1.Y", "unknown"),
+        ),
+        (r#"{"key":"a","value":"b","x":null}"#, Answer::Accepted),
+    ] {
+        let pairs = format!(in alloc; "[{POOL},{pair}]")?;
+        let body = with_dimensions(alloc, pairs.as_str())?;
+        asked.ask(alloc, body.as_bytes(), answer)?;
+    }
+    asked.compare(&rt, alloc)
+}
+
+#[test]
+fn keys_and_values(rt: HostRuntime) -> Result<(), Fail> {
+    let alloc = rt.alloc();
+    let mut asked = Asked::new(alloc);
+    for (key, value) in [
+        ("", "b"),
+        ("1a", "b"),
+        ("a b", "b"),
+        ("a:", "b"),
+        ("é", "b"),
+        ("a", ""),
+        ("a", " "),
+        ("a", " b"),
+        ("a", "b "),
+        ("a", "b| c"),
+        ("a", "b |c"),
+        ("a", "b\\u0000"),
+        ("a", "\\u001fb"),
+        ("a", "\\u007f"),
+        // Broken in two ways: the grammar comes before the empty alternative.
+        ("a", "| b"),
+        ("a", "|\\u0001"),
+    ] {
+        let body = with_pair(alloc, key, value)?;
+        asked.ask(
+            alloc,
+            body.as_bytes(),
+            Answer::Breaks("task_slices.0.properties.dimensions.1", "grammar"),
+        )?;
+    }
+    for value in ["b||c", "|b", "b|", "|"] {
+        let body = with_pair(alloc, "a", value)?;
+        asked.ask(
+            alloc,
+            body.as_bytes(),
+            Answer::Breaks("task_slices.0.properties.dimensions.1", "alternative"),
+        )?;
+    }
+    for (key, value) in [
+        ("A.b-c_9", "b c"),
+        ("-a", "b|c|b"),
+        ("_", "\\u0080é"),
+        (".", "1"),
+        ("id", "b|c"),
+    ] {
+        let body = with_pair(alloc, key, value)?;
+        asked.ask(alloc, body.as_bytes(), Answer::Accepted)?;
+    }
+    asked.compare(&rt, alloc)
+}
+
+#[test]
+fn lists_of_dimensions(rt: HostRuntime) -> Result<(), Fail> {
+    let alloc = rt.alloc();
+    let mut asked = Asked::new(alloc);
+    for (pairs, answer) in [
+        (
+            "null",
+            Answer::Breaks("task_slices.0.properties.dimensions", "missing"),
+        ),
+        (
+            "5",
+            Answer::Breaks("task_slices.0.properties.dimensions", "type"),
+        ),
+        (
+            "{}",
+            Answer::Breaks("task_slices.0.properties.dimensions", "type"),
+        ),
+        // No pool, two pools, a pool with alternatives.
+        (
+            "[]",
+            Answer::Breaks("task_slices.0.properties.dimensions", "pool"),
+        ),
+        (
+            r#"[{"key":"a","value":"b"}]"#,
+            Answer::Breaks("task_slices.0.properties.dimensions", "pool"),
+        ),
+        (
+            r#"[{"key":"pool","value":"default"},{"key":"pool","value":"other"}]"#,
+            Answer::Breaks("task_slices.0.properties.dimensions", "pool"),
+        ),
+        (
+            r#"[{"key":"pool","value":"default|other"}]"#,
+            Answer::Breaks("task_slices.0.properties.dimensions", "pool"),
+        ),
+        // Two ids, and no pool beside them.
+        (
+            r#"[{"key":"id","value":"a"},{"key":"pool","value":"default"},{"key":"id","value":"b"}]"#,
+            Answer::Breaks("task_slices.0.properties.dimensions", "id"),
+        ),
+        (
+            r#"[{"key":"id","value":"a"},{"key":"id","value":"b"}]"#,
+            Answer::Breaks("task_slices.0.properties.dimensions", "pool"),
+        ),
+        // A key twice, and a pair twice.
+        (
+            r#"[{"key":"a","value":"2"},{"key":"pool","value":"default"},{"key":"a","value":"1"}]"#,
+            Answer::Accepted,
+        ),
+        (
+            r#"[{"key":"a","value":"1"},{"key":"pool","value":"default"},{"key":"a","value":"1"}]"#,
+            Answer::Breaks("task_slices.0.properties.dimensions.2", "repeated"),
+        ),
+        (
+            r#"[{"key":"pool","value":"default"},{"key":"pool","value":"default"}]"#,
+            Answer::Breaks("task_slices.0.properties.dimensions.1", "repeated"),
+        ),
+        // The first broken pair is told, and that before the rules on all pairs.
+        (
+            r#"[{"key":"a","value":"1"},{"key":"a","value":"1"},{"key":"1","value":"1"}]"#,
+            Answer::Breaks("task_slices.0.properties.dimensions.1", "repeated"),
+        ),
+        (
+            r#"[{"key":"a","value":"|"},{"key":"1","value":"1"}]"#,
+            Answer::Breaks("task_slices.0.properties.dimensions.0", "alternative"),
+        ),
+        (
+            r#"[{"key":"1","value":"1"},{"key":"a","value":null,"b":0}]"#,
+            Answer::Breaks("task_slices.0.properties.dimensions.1.b", "unknown"),
+        ),
+    ] {
+        let body = with_dimensions(alloc, pairs)?;
+        asked.ask(alloc, body.as_bytes(), answer)?;
+    }
+    asked.compare(&rt, alloc)
+}
+
+#[test]
+fn other_properties(rt: HostRuntime) -> Result<(), Fail> {
+    let alloc = rt.alloc();
+    let mut asked = Asked::new(alloc);
+    for (more, answer) in [
+        // Keys that aren't known; null is as absent.
+        (
+            r#""foo":1"#,
+            Answer::Breaks("task_slices.0.properties.foo", "unknown"),
+        ),
+        (
+            r#""foo":[]"#,
+            Answer::Breaks("task_slices.0.properties.foo", "unknown"),
+        ),
+        (r#""foo":null"#, Answer::Accepted),
+        (r#""foo":1,"foo":null"#, Answer::Accepted),
+        (
+            r#""bar":null,"foo":1"#,
+            Answer::Breaks("task_slices.0.properties.foo", "unknown"),
+        ),
+        (
+            r#""Command":["a"]"#,
+            Answer::Breaks("task_slices.0.properties.Command", "unknown"),
+        ),
+        (
+            r#""name":"a""#,
+            Answer::Breaks("task_slices.0.properties.name", "unknown"),
+        ),
+        (
+            r#""":0"#,
+            Answer::Breaks("task_slices.0.properties.", "unknown"),
+        ),
+        (
+            r#""a\"\\b":0"#,
+            Answer::Breaks(r#"task_slices.0.properties.a\"\\b"#, "unknown"),
+        ),
+        // The first of two in the order of bytes.
+        (
+            r#""bar":1,"Foo":1"#,
+            Answer::Breaks("task_slices.0.properties.Foo", "unknown"),
+        ),
+        (
+            r#""é":1,"zoo":1"#,
+            Answer::Breaks("task_slices.0.properties.zoo", "unknown"),
+        ),
+        // Keys that are known and aren't served.
+        (r#""env":[{"key":"A","value":"b"}]"#, Answer::NotBuilt),
+        (r#""env":null"#, Answer::Accepted),
+        (r#""caches":[]"#, Answer::NotBuilt),
+        (r#""inputs":[{"path":"a"}]"#, Answer::NotBuilt),
+        (r#""inputs":[null]"#, Answer::NotBuilt),
+        (r#""inputs":{}"#, Answer::NotBuilt),
+        // No inputs at all are served.
+        (r#""inputs":[]"#, Answer::Accepted),
+        (r#""inputs":null"#, Answer::Accepted),
+        (r#""outputs":["a"]"#, Answer::NotBuilt),
+        (r#""outputs":[]"#, Answer::NotBuilt),
+        (r#""execution_timeout_secs":0"#, Answer::NotBuilt),
+        (r#""io_timeout_secs":60"#, Answer::NotBuilt),
+        (r#""grace_period_secs":30"#, Answer::NotBuilt),
+        (r#""idempotent":false"#, Answer::NotBuilt),
+        // Rules that are broken come first.
+        (
+            r#""env":[],"foo":1"#,
+            Answer::Breaks("task_slices.0.properties.foo", "unknown"),
+        ),
+        (
+            r#""env":[],"command":[]"#,
+            Answer::Breaks("task_slices.0.properties.command", "count"),
+        ),
+        (r#""env":[],"inputs":[]"#, Answer::NotBuilt),
+        (r#""command":[],"command":["b"]"#, Answer::Accepted),
+    ] {
+        let properties = format!(in alloc; r#""command":["true"],"dimensions":[{POOL}],{more}"#)?;
+        let body = with_properties(alloc, properties.as_str())?;
+        asked.ask(alloc, body.as_bytes(), answer)?;
+    }
+    asked.compare(&rt, alloc)
+}
