@@ -15,6 +15,7 @@ use Rattle.swarm_model.specs.Fits.{fits}
 use Rattle.swarm_wire.specs.declared.asked.Asked.{Asked}
 use Rattle.swarm_wire.specs.declared.asked.WireFault.{WireFault}
 use Rattle.swarm_wire.specs.declared.asked.WireFault.TheVariants as fault
+use Rattle.swarm_wire.specs.declared.addressed.Addressed.{Addressed}
 use Rattle.swarm_wire.specs.declared.route.Route.{Route}
 use Rattle.swarm_wire.specs.declared.route.Route.TheVariants as route
 use Rattle.swarm_wire.specs.Readings.{◌>>=◌}
@@ -24,6 +25,7 @@ use Rattle.swarm_wire.specs.Ids.{place_of_id, task_of_id, try_of_id}
 use Rattle.swarm_wire.specs.Tasks.{task_in, is_built}
 use Rattle.swarm_wire.specs.Results.{id_in}
 use Rattle.swarm_wire.specs.Counts.{count_in}
+use Rattle.swarm_wire.specs.BotCalls.{handshake_in, poll_in, claim_in, event_in, terminate_in}
 
 -- the value that a body is, where it is UTF-8 and JSON
 abbrev pub reading : List ℕ → Option Data
@@ -74,10 +76,22 @@ count_of pools d = do
   place ← pool_named pools fields.0
   Ok (asked place (ask.Count fields.1))
 
+-- a request to the pool of its name
+unfoldable pub addressed_asks : List PoolSettings → Result Addressed PropFault → Result Asked WireFault
+addressed_asks pools reading = do
+  addressed ← unless_broken reading
+  place ← pool_named pools addressed.pool
+  Ok (asked place addressed.request)
+
 abbrev pub object_asks : List PoolSettings → Route → Data → Result Asked WireFault
 object_asks pools route.NewTask d = new_of pools d
 object_asks pools route.GetResult d = result_of pools d
 object_asks pools route.CountTasks d = count_of pools d
+object_asks pools route.Handshake d = addressed_asks pools (handshake_in d)
+object_asks pools route.Poll d = addressed_asks pools (poll_in d)
+object_asks pools route.Claim d = addressed_asks pools (claim_in d)
+object_asks pools route.Event d = addressed_asks pools (event_in d)
+object_asks pools route.TerminateBot d = addressed_asks pools (terminate_in d)
 
 -- what is no object breaks a rule of no field
 unfoldable pub value_asks : List PoolSettings → Route → Data → Result Asked WireFault

@@ -81,6 +81,10 @@ flag_in key d = or_absent flag_of (Ok false) (present key d)
 unfoldable pub list_in : List ℕ → Data → Result (List Data) PropRule
 list_in key d = or_absent values_of (Err Missing) (present key d)
 
+-- an absent list is empty
+unfoldable pub items_in : List ℕ → Data → Result (List Data) PropRule
+items_in key d = or_absent values_of (Ok []) (present key d)
+
 -- an object that must be there
 unfoldable pub object_in : List ℕ → Data → Result Data PropRule
 object_in key d = or_absent object_of (Err Missing) (present key d)
@@ -108,6 +112,10 @@ object_at key d = at key (object_in key d)
 -- a list that must be there, read item by item
 abbrev pub each_at : {A : Type 0} → (ℕ → Data → Result A PropFault) → List ℕ → Data → Result (List A) PropFault
 each_at read key d = list_at key d >>= (λ ds. inside key (each_from read 0 ds))
+
+-- a list that may be absent, read item by item
+abbrev pub items_at : {A : Type 0} → (ℕ → Data → Result A PropFault) → List ℕ → Data → Result (List A) PropFault
+items_at read key d = at key (items_in key d) >>= (λ ds. inside key (each_from read 0 ds))
 
 -- ---- keys that aren't known
 

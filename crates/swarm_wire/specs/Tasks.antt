@@ -70,8 +70,9 @@ unfoldable pub fields_of : Data → Result RawTask PropFault
 fields_of d = do
   name ← text_at (codes "name") d
   priority ← number_at (codes "priority") d
+  tolerance ← number_at (codes "bot_ping_tolerance_secs") d
   slices ← each_at slice_item (codes "task_slices") d
-  Ok (record { name = name; priority = priority; task_slices = slices })
+  Ok (record { name = name; priority = priority; bot_ping_tolerance_secs = tolerance; task_slices = slices })
 
 abbrev pub unless_broken : NewTask → Option (List ℕ × PropRule) → Result NewTask PropFault
 unless_broken task None = Ok task
@@ -97,7 +98,7 @@ unfoldable pub holds_any : List (List ℕ) → Data → Bool
 holds_any keys d = list_any (holds d) keys
 
 abbrev pub unserved_fields : List (List ℕ)
-unserved_fields = codes "bot_ping_tolerance_secs" ∷ codes "request_uuid" ∷ []
+unserved_fields = codes "request_uuid" ∷ []
 
 abbrev pub is_empty_list : Result (List Data) PropRule → Bool
 is_empty_list (Ok ds) = length ds == 0

@@ -1,8 +1,8 @@
 //! The fields of a JSON object, by their keys.
 ghost use Rattle.std.specs.Prelude.{◌≡◌, map, option_map};
 ghost use Rattle.serde_json.specs.View.{view};
-ghost use Rattle.swarm_wire.specs.Readings.{Gives, Reads, GivesUnlessMemory};
-ghost use Rattle.swarm_wire.specs.Fields.{present as spec_present, number_of as spec_number_of, values_of as spec_values_of, object_of as spec_object_of, text_in as spec_text_in, required_text_in as spec_required_text_in, number_in as spec_number_in, flag_in as spec_flag_in, list_in as spec_list_in, object_in as spec_object_in, text_at, required_text_at, number_at, flag_at, list_at, object_at};
+ghost use Rattle.swarm_wire.specs.Readings.{Gives, Reads, GivesUnlessMemory, at};
+ghost use Rattle.swarm_wire.specs.Fields.{present as spec_present, number_of as spec_number_of, values_of as spec_values_of, object_of as spec_object_of, text_in as spec_text_in, required_text_in as spec_required_text_in, number_in as spec_number_in, flag_in as spec_flag_in, list_in as spec_list_in, items_in as spec_items_in, object_in as spec_object_in, text_at, required_text_at, number_at, flag_at, list_at, object_at};
 
 use crate::faults::broken;
 use crate::numbers::text_number;
@@ -103,6 +103,17 @@ pub(crate) fn list_in<'v>(body: &'v Value, key: &str) -> Result<&'v [Value], Pro
     }
 }
 
+/// The items of a list; an absent one is empty.
+#[tactic(auto, unfolding(crate::specs::Fields::items_in))]
+fn items_in<'v>(body: &'v Value, key: &str) -> Result<&'v [Value], PropRule>
+    ensures { Gives (λ vs. map view vs.now) result (spec_items_in key.now (view body.now)) }
+{
+    match present(body, key) {
+        None => Ok(&[]),
+        Some(value) => values_of(value),
+    }
+}
+
 #[tactic(auto, unfolding(crate::specs::Fields::object_in))]
 fn object_in<'v>(body: &'v Value, key: &str) -> Result<&'v Value, PropRule>
     ensures { Gives (λ v. view v.now) result (spec_object_in key.now (view body.now)) }
@@ -166,6 +177,20 @@ pub(crate) fn read_list<'v>(
     ensures { GivesUnlessMemory (λ vs. map view vs.now) result (list_at key.now (view body.now)) }
 {
     match list_in(body, key) {
+        Ok(values) => Ok(values),
+        Err(rule) => Err(broken(alloc, key, rule)),
+    }
+}
+
+/// The items of a list; an absent one is empty.
+pub(crate) fn read_items<'v>(
+    alloc: Global,
+    body: &'v Value,
+    key: &str,
+) -> Result<&'v [Value], PropFault>
+    ensures { GivesUnlessMemory (λ vs. map view vs.now) result (at key.now (spec_items_in key.now (view body.now))) }
+{
+    match items_in(body, key) {
         Ok(values) => Ok(values),
         Err(rule) => Err(broken(alloc, key, rule)),
     }

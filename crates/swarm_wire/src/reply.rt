@@ -4,16 +4,17 @@ ghost use Rattle.serde_json.specs.View.{view};
 ghost use Rattle.task_props.specs.RuleNames.{rule_name};
 ghost use Rattle.swarm_wire.specs.States.{state_name as spec_state_name};
 ghost use Rattle.swarm_wire.specs.Ids.{task_id as spec_task_id};
-ghost use Rattle.swarm_wire.specs.Views.{whole};
-ghost use Rattle.swarm_wire.specs.Bodies.{unbuilt_name as spec_unbuilt_name, one_member as spec_one_member, two_members as spec_two_members, three_members as spec_three_members, refusal_data, reply_data, body_of};
+ghost use Rattle.swarm_wire.specs.Views.{whole, run_data};
+ghost use Rattle.swarm_wire.specs.Bodies.{unbuilt_name as spec_unbuilt_name, unfit_name as spec_unfit_name, one_member as spec_one_member, two_members as spec_two_members, three_members as spec_three_members, refusal_data, reply_data, body_of};
 
-use crate::ids::task_id;
+use crate::commands::{command_alone, nothing_value, run_value, sleep_value};
+use crate::ids::{run_id, task_id};
 use crate::states::state_name;
 use crate::views::task_value;
 use dimensions::{Seq, Text};
 use serde_json::{Value, json};
 use std::alloc::{AllocError, Global};
-use swarm_model::{Reply, Rule, TaskState, Unbuilt};
+use swarm_model::{Reply, Rule, TaskState, Unbuilt, Unfit};
 use task_props::PropRule;
 
 fn unbuilt_name(what: Unbuilt) -> &'static str
@@ -21,6 +22,16 @@ fn unbuilt_name(what: Unbuilt) -> &'static str
 {
     match what {
         Unbuilt::Task => "task",
+    }
+}
+
+fn unfit_name(why: Unfit) -> &'static str
+    ensures { result.now ≡ spec_unfit_name why }
+{
+    match why {
+        Unfit::Dead => "dead",
+        Unfit::Quarantined => "quarantined",
+        Unfit::Terminating => "terminating",
     }
 }
 
@@ -49,6 +60,35 @@ fn unbuilt_value(alloc: Global, code: &str, what: Unbuilt) -> Result<Value, Allo
     json!(in alloc; {"code": code, "what": name})
 }
 
+fn unfit_value(alloc: Global, why: Unfit) -> Result<Value, AllocError>
+    ensures { IfOk result (λ value. view value ≡ spec_two_members (codes "code") (string (codes "bot_unfit")) (codes "why") (string (spec_unfit_name why))) }
+{
+    let name = unfit_name(why);
+    json!(in alloc; {"code": "bot_unfit", "why": name})
+}
+
+fn busy_value(alloc: Global, place: u32, run: (u32, u32)) -> Result<Value, AllocError>
+    requires { place < 4 }
+    ensures { IfOk result (λ value. view value ≡ spec_two_members (codes "code") (string (codes "bot_busy")) (codes "run") (run_data place run)) }
+{
+    let id = run_id(alloc, place, run)?;
+    json!(in alloc; {"code": "bot_busy", "run": id})
+}
+
+fn over_value(
+    alloc: Global,
+    place: u32,
+    run: (u32, u32),
+    state: TaskState,
+) -> Result<Value, AllocError>
+    requires { place < 4 }
+    ensures { IfOk result (λ value. view value ≡ spec_three_members (codes "code") (string (codes "claim_over")) (codes "run") (run_data place run) (codes "state") (string (spec_state_name state))) }
+{
+    let id = run_id(alloc, place, run)?;
+    let name = state_name(state);
+    json!(in alloc; {"code": "claim_over", "run": id, "state": name})
+}
+
 fn field_value(alloc: Global, code: &str, field: &Text, rule: PropRule) -> Result<Value, AllocError>
     ensures { IfOk result (λ value. view value ≡ spec_three_members (codes "code") (string code.now) (codes "field") (string field.now) (codes "rule") (string (rule_name rule))) }
 {
@@ -57,8 +97,9 @@ fn field_value(alloc: Global, code: &str, field: &Text, rule: PropRule) -> Resul
     json!(in alloc; {"code": code, "field": field, "rule": name})
 }
 
-fn refusal_value(alloc: Global, rule: &Rule) -> Result<Value, AllocError>
-    ensures { IfOk result (λ value. view value ≡ refusal_data rule.now) }
+fn refusal_value(alloc: Global, place: u32, rule: &Rule) -> Result<Value, AllocError>
+    requires { place < 4 }
+    ensures { IfOk result (λ value. view value ≡ refusal_data place rule.now) }
 {
     match rule {
         Rule::BadHead => code_alone(alloc, "bad_head"),
@@ -71,7 +112,16 @@ fn refusal_value(alloc: Global, rule: &Rule) -> Result<Value, AllocError>
         Rule::NoCaller => code_alone(alloc, "no_caller"),
         Rule::NoPool => code_alone(alloc, "no_pool"),
         Rule::NoTask => code_alone(alloc, "no_task"),
+        Rule::NoBot => code_alone(alloc, "no_bot"),
+        Rule::BotUnfit { why } => unfit_value(alloc, *why),
+        Rule::BotBusy { task, try_no } => busy_value(alloc, place, (*task, *try_no)),
+        Rule::ClaimOver {
+            task,
+            try_no,
+            state,
+        } => over_value(alloc, place, (*task, *try_no), *state),
         Rule::PoolTasksFull { limit } => limit_value(alloc, "pool_tasks_full", *limit),
+        Rule::PoolBotsFull { limit } => limit_value(alloc, "pool_bots_full", *limit),
         Rule::LogFull => code_alone(alloc, "log_full"),
         Rule::FrontAhead { length } => length_value(alloc, "front_ahead", *length),
         Rule::WantOfMemory => code_alone(alloc, "want_of_memory"),
@@ -94,6 +144,13 @@ fn count_value(alloc: Global, count: u64) -> Result<Value, AllocError>
     json!(in alloc; {"count": count})
 }
 
+fn bot_value(alloc: Global, bot: &Text) -> Result<Value, AllocError>
+    ensures { IfOk result (λ value. view value ≡ spec_one_member (codes "bot_id") (string bot.now)) }
+{
+    let name = bot.as_str();
+    json!(in alloc; {"bot_id": name})
+}
+
 fn reply_value(alloc: Global, place: u32, reply: &Reply) -> Result<Value, AllocError>
     requires { place < 4 }
     ensures { IfOk result (λ value. view value ≡ reply_data place reply.now) }
@@ -102,7 +159,27 @@ fn reply_value(alloc: Global, place: u32, reply: &Reply) -> Result<Value, AllocE
         Reply::New { task, state } => new_value(alloc, place, *task, *state),
         Reply::Result(task) => task_value(alloc, place, task),
         Reply::Count { count } => count_value(alloc, *count),
-        Reply::No(rule) => refusal_value(alloc, rule),
+        Reply::Shaken { bot } => bot_value(alloc, bot),
+        Reply::Sleep { secs } => sleep_value(alloc, *secs),
+        Reply::ClaimHint => command_alone(alloc, "claim"),
+        Reply::Terminate => command_alone(alloc, "terminate"),
+        Reply::Run {
+            task,
+            try_no,
+            slice,
+            tolerance,
+            properties,
+        } => run_value(
+            alloc,
+            place,
+            (*task, *try_no),
+            *slice,
+            *tolerance,
+            properties,
+        ),
+        Reply::Skip => command_alone(alloc, "skip"),
+        Reply::Noted | Reply::Terminating => Ok(nothing_value(alloc)),
+        Reply::No(rule) => refusal_value(alloc, place, rule),
     }
 }
 

@@ -4,7 +4,9 @@ ghost use Rattle.swarm_model.specs.Fits.{fits};
 ghost use Rattle.swarm_model.specs.Settings.{AreOpen};
 ghost use Rattle.swarm_wire.specs.Asking.{Asks, FitsPool, new_of, object_asks, value_asks, asked_of};
 
+use crate::addressed::ask_named;
 use crate::body::read_body;
+use crate::bot_calls::{read_bot_event, read_claim, read_handshake, read_poll, read_terminate};
 use crate::counts::ask_count;
 use crate::pools::place_of;
 use crate::results::ask_result;
@@ -52,6 +54,11 @@ fn ask_object(
         Route::NewTask => ask_new(alloc, pools, body),
         Route::GetResult => ask_result(alloc, pools, body),
         Route::CountTasks => ask_count(alloc, pools, body),
+        Route::Handshake => ask_named(alloc, pools, read_handshake(alloc, body)),
+        Route::Poll => ask_named(alloc, pools, read_poll(alloc, body)),
+        Route::Claim => ask_named(alloc, pools, read_claim(alloc, body)),
+        Route::Event => ask_named(alloc, pools, read_bot_event(alloc, body)),
+        Route::TerminateBot => ask_named(alloc, pools, read_terminate(alloc, body)),
     }
 }
 

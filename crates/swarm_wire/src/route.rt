@@ -7,6 +7,11 @@ pub enum Route {
     NewTask,
     GetResult,
     CountTasks,
+    Handshake,
+    Poll,
+    Claim,
+    Event,
+    TerminateBot,
 }
 
 /// The call of a target.
@@ -18,6 +23,11 @@ pub fn route_of(target: &str) -> Option<Route>
         "/prpc/swarming.v2.Tasks/NewTask" => Some(Route::NewTask),
         "/prpc/swarming.v2.Tasks/GetResult" => Some(Route::GetResult),
         "/prpc/swarming.v2.Tasks/CountTasks" => Some(Route::CountTasks),
+        "/bot/handshake" => Some(Route::Handshake),
+        "/bot/poll" => Some(Route::Poll),
+        "/bot/claim" => Some(Route::Claim),
+        "/bot/event" => Some(Route::Event),
+        "/prpc/swarming.v2.Bots/TerminateBot" => Some(Route::TerminateBot),
         _ => None,
     }
 }

@@ -37,7 +37,8 @@ fn read_text_item(alloc: Global, place: usize, item: &Value) -> Result<Text, Pro
     }
 }
 
-fn read_texts(alloc: Global, items: &[Value]) -> Result<Seq<Text>, PropFault>
+/// A list of texts.
+pub(crate) fn read_texts(alloc: Global, items: &[Value]) -> Result<Seq<Text>, PropFault>
     ensures { Reads result (each_from text_item 0 (map view items.now)) }
 {
     let mut texts = Vec::new(alloc);
@@ -187,10 +188,12 @@ fn read_fields(alloc: Global, body: &Value) -> Result<RawTask, PropFault>
 {
     let name = read_text(alloc, body, "name")?;
     let priority = read_number(alloc, body, "priority")?;
+    let bot_ping_tolerance_secs = read_number(alloc, body, "bot_ping_tolerance_secs")?;
     let task_slices = read_task_slices(alloc, body)?;
     Ok(RawTask {
         name,
         priority,
+        bot_ping_tolerance_secs,
         task_slices,
     })
 }

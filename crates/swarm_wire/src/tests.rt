@@ -32,17 +32,58 @@ fn request_text(alloc: Global, asked: Asked) -> Result<String, Fail> {
         }
         Request::Count { state: None } => Ok(format!(in alloc; "count of {place}")?),
         Request::Count { state: Some(state) } => Ok(format!(in alloc; "{state:?} of {place}")?),
+        Request::Handshake {
+            bot,
+            session,
+            dims,
+            quarantined: _,
+        } => {
+            let bot = bot.as_str();
+            let session = session.as_str();
+            let keys = dims.pairs().len();
+            Ok(format!(in alloc; "handshake of {bot} {session} {keys} to {place}")?)
+        }
+        Request::Poll {
+            bot,
+            dims,
+            quarantined: _,
+        } => {
+            let bot = bot.as_str();
+            let keys = dims.pairs().len();
+            Ok(format!(in alloc; "poll of {bot} {keys} to {place}")?)
+        }
+        Request::Claim { bot, claim } => {
+            let bot = bot.as_str();
+            let claim = claim.as_str();
+            Ok(format!(in alloc; "claim of {bot} {claim} to {place}")?)
+        }
+        Request::Event { bot, kind, message } => {
+            let bot = bot.as_str();
+            let message = message.as_str();
+            Ok(format!(in alloc; "{kind:?} of {bot} {message} to {place}")?)
+        }
+        Request::Terminate { bot } => {
+            let bot = bot.as_str();
+            Ok(format!(in alloc; "end of {bot} to {place}")?)
+        }
     }
 }
 
-fn told(alloc: Global, asked: Result<Asked, WireFault>) -> Result<String, Fail> {
+/// What was read, or the first broken rule.
+pub(crate) fn told(alloc: Global, asked: Result<Asked, WireFault>) -> Result<String, Fail> {
     match asked {
         Ok(asked) => request_text(alloc, asked),
         Err(fault) => fault_text(alloc, fault),
     }
 }
 
-fn read(alloc: Global, settings: &Settings, route: Route, body: &str) -> Result<Asked, WireFault>
+/// Reads the body of a call.
+pub(crate) fn read(
+    alloc: Global,
+    settings: &Settings,
+    route: Route,
+    body: &str,
+) -> Result<Asked, WireFault>
     requires { AreOpen settings.now }
 {
     read_request(alloc, settings, route, body.as_bytes())
@@ -113,6 +154,14 @@ fn bodies(rt: HostRuntime) -> Result<(), Fail> {
         ),
         ("{\"priority\":\"-0\",\"task_slices\":[]}", "priority type"),
         (
+            "{\"bot_ping_tolerance_secs\":59,\"task_slices\":[]}",
+            "bot_ping_tolerance_secs range",
+        ),
+        (
+            "{\"bot_ping_tolerance_secs\":0,\"task_slices\":[]}",
+            "task_slices count",
+        ),
+        (
             "{\"request_uuid\":5,\"task_slices\":[null]}",
             "task_slices.0 type",
         ),
@@ -158,6 +207,14 @@ fn routes(rt: HostRuntime) -> Result<(), Fail> {
         (
             "/prpc/swarming.v2.Tasks/CountTasks",
             Some(Route::CountTasks),
+        ),
+        ("/bot/handshake", Some(Route::Handshake)),
+        ("/bot/poll", Some(Route::Poll)),
+        ("/bot/claim", Some(Route::Claim)),
+        ("/bot/event", Some(Route::Event)),
+        (
+            "/prpc/swarming.v2.Bots/TerminateBot",
+            Some(Route::TerminateBot),
         ),
         ("/prpc/swarming.v2.Tasks/GetResult/", None),
         ("/prpc/swarming.v2.Tasks/getresult", None),

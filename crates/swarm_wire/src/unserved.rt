@@ -103,5 +103,5 @@ fn has_unserved_slice(body: &Value) -> bool
 pub(crate) fn is_built(body: &Value) -> bool
     ensures { result ≡ spec_is_built (view body.now) }
 {
-    !(holds_any(body, &["bot_ping_tolerance_secs", "request_uuid"]) || has_unserved_slice(body))
+    !(holds_any(body, &["request_uuid"]) || has_unserved_slice(body))
 }

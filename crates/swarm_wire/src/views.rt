@@ -69,13 +69,15 @@ fn file_values(alloc: Global, files: &[File]) -> Result<Vec<Value>, AllocError>
     Ok(values)
 }
 
-fn files_value(alloc: Global, files: &[File]) -> Result<Value, AllocError>
+/// Files, each by its path, its digest and its size.
+pub(crate) fn files_value(alloc: Global, files: &[File]) -> Result<Value, AllocError>
     ensures { IfOk result (λ value. view value ≡ files_data files.now) }
 {
     Ok(Value::Array(file_values(alloc, files)?))
 }
 
-fn with(
+/// One more member.
+pub(crate) fn with(
     alloc: Global,
     members: Map<String, Value>,
     key: &str,
@@ -88,7 +90,8 @@ fn with(
     Ok(members)
 }
 
-fn with_text(
+/// One more member, a text.
+pub(crate) fn with_text(
     alloc: Global,
     members: Map<String, Value>,
     key: &str,

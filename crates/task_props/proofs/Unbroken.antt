@@ -10,7 +10,7 @@ use Rattle.task_props.specs.declared.new_task.NewTask.{NewTask}
 use Rattle.task_props.specs.declared.raw_task.RawTask.{RawTask}
 use Rattle.task_props.specs.declared.raw_task.RawSlice.{RawSlice}
 use Rattle.task_props.specs.declared.task_field.TaskField.TheVariants as task_field
-use Rattle.task_props.specs.FieldRules.{name_rule, priority_rule, range_rule, count_rule, broken_at}
+use Rattle.task_props.specs.FieldRules.{name_rule, priority_rule, meant_tolerance, tolerance_rule, range_rule, count_rule, broken_at}
 use Rattle.task_props.specs.Broken.{broken_slice, in_slice, first_broken_slice, first_broken_field}
 use Rattle.task_props.specs.Checked.{is_sound_slice, is_checked}
 use Rattle.task_props.specs.Reading.{natural, slice_of, task_of}
@@ -28,6 +28,7 @@ each_unbroken place (slice ∷ slices) none =
 record Parts (raw : RawTask) : Type 0 where
   pub name : name_rule raw.name ≡ None
   pub priority : priority_rule raw.priority ≡ None
+  pub tolerance : tolerance_rule (meant_tolerance raw.bot_ping_tolerance_secs) ≡ None
   pub count : count_rule 8 (length raw.task_slices) ≡ None
   pub slices : first_broken_slice 0 raw.task_slices ≡ None
 
@@ -38,11 +39,13 @@ parts : (raw : RawTask) → first_broken_field raw ≡ None → Parts raw
 parts raw none =
     let after_name = none-other (option_map (broken_at task_field.Name) (name_rule raw.name)) _ none in
     let after_priority = none-other (option_map (broken_at task_field.Priority) (priority_rule raw.priority)) _ after_name in
+    let after_tolerance = none-other (option_map (broken_at task_field.BotPingToleranceSecs) (tolerance_rule (meant_tolerance raw.bot_ping_tolerance_secs))) _ after_priority in
     record {
       name = here (broken_at task_field.Name) (name_rule raw.name) _ none;
       priority = here (broken_at task_field.Priority) (priority_rule raw.priority) _ after_name;
-      count = here (broken_at task_field.TaskSlices) (count_rule 8 (length raw.task_slices)) _ after_priority;
-      slices = none-other (option_map (broken_at task_field.TaskSlices) (count_rule 8 (length raw.task_slices))) _ after_priority;
+      tolerance = here (broken_at task_field.BotPingToleranceSecs) (tolerance_rule (meant_tolerance raw.bot_ping_tolerance_secs)) _ after_priority;
+      count = here (broken_at task_field.TaskSlices) (count_rule 8 (length raw.task_slices)) _ after_tolerance;
+      slices = none-other (option_map (broken_at task_field.TaskSlices) (count_rule 8 (length raw.task_slices))) _ after_tolerance;
     }
 
 pub slices_unbroken : (raw : RawTask) → first_broken_field raw ≡ None → All IsUnbroken raw.task_slices
@@ -57,5 +60,6 @@ pub task_unbroken : (raw : RawTask) (task : NewTask) → first_broken_field raw 
 task_unbroken raw task none is sound =
     let p = parts raw none in
     let priority = natural_in_range 0 255 raw.priority p.priority in
+    let tolerance = natural_in_range 60 1200 (meant_tolerance raw.bot_ping_tolerance_secs) p.tolerance in
     let sound = rw is at sound in
-    rw (is, p.name, priority, length-map raw.task_slices slice_of, p.count, sound) refl
+    rw (is, p.name, priority, tolerance, length-map raw.task_slices slice_of, p.count, sound) refl

@@ -13,7 +13,7 @@ use Rattle.task_props.specs.declared.task_field.SliceField.TheVariants as slice_
 use Rattle.task_props.specs.declared.raw_task.RawTask.{RawTask}
 use Rattle.task_props.specs.declared.raw_task.RawSlice.{RawSlice}
 use Rattle.task_props.specs.Fields.{task_path}
-use Rattle.task_props.specs.FieldRules.{name_rule, priority_rule, expiration_rule, count_rule, broken_at, broken_command, broken_dimensions}
+use Rattle.task_props.specs.FieldRules.{name_rule, priority_rule, meant_tolerance, tolerance_rule, expiration_rule, count_rule, broken_at, broken_command, broken_dimensions}
 use Rattle.task_props.specs.Reading.{slice_of}
 use Rattle.task_props.specs.Slices.{slices_rule}
 
@@ -36,6 +36,7 @@ abbrev pub first_broken_field : RawTask → Option (TaskField × PropRule)
 first_broken_field raw =
     option_map (broken_at task_field.Name) (name_rule raw.name)
     or_else option_map (broken_at task_field.Priority) (priority_rule raw.priority)
+    or_else option_map (broken_at task_field.BotPingToleranceSecs) (tolerance_rule (meant_tolerance raw.bot_ping_tolerance_secs))
     or_else option_map (broken_at task_field.TaskSlices) (count_rule 8 (length raw.task_slices))
     or_else first_broken_slice 0 raw.task_slices
 

@@ -6,7 +6,7 @@ use Rattle.dimensions.specs.Rules.{are_checked}
 use Rattle.task_props.specs.declared.properties.Properties.{Properties}
 use Rattle.task_props.specs.declared.slice.Slice.{Slice}
 use Rattle.task_props.specs.declared.new_task.NewTask.{NewTask}
-use Rattle.task_props.specs.FieldRules.{name_rule, priority_rule, expiration_rule, count_rule, broken_command}
+use Rattle.task_props.specs.FieldRules.{name_rule, priority_rule, tolerance_rule, expiration_rule, count_rule, broken_command}
 use Rattle.task_props.specs.Slices.{pool_of_slices, slices_rule}
 
 abbrev pub is_empty : {A : Type 0} → List A → Bool
@@ -38,7 +38,7 @@ abbrev pub is_checked : NewTask → Bool
 is_checked task =
     is_none (name_rule task.name)
     && is_none (priority_rule (pos task.priority))
-    && task.bot_ping_tolerance_secs == 1200
+    && is_none (tolerance_rule (pos task.bot_ping_tolerance_secs))
     && is_empty task.request_uuid
     && is_none (count_rule 8 (length task.task_slices))
     && list_all is_sound_slice task.task_slices

@@ -1,5 +1,6 @@
 -- The rule of each field of a request for a task: the first one that a value breaks.
-use Rattle.std.specs.Prelude.{ℕ, ◌+◌, ℤ, pos, int_le, Bool, not, ◌&&◌, ◌==◌, nat_le, nat_lt, List, [], ◌∷◌, length, Option, None}
+use Rattle.std.specs.Prelude.{ℕ, ◌+◌, ℤ, pos, int_le, if◌then◌else◌, Bool, not, ◌&&◌, ◌==◌, nat_le, nat_lt, List, [], ◌∷◌, length, Option, None}
+use Rattle.std.specs.Ordering.{int_eq}
 use Rattle.std.specs.List.{list_any}
 use Rattle.std.specs.Option.{option_map}
 use Rattle.std.specs.Char.{is_ascii_control}
@@ -25,6 +26,13 @@ range_rule low high number = when (not (int_le (pos low) number && int_le number
 
 abbrev pub priority_rule : ℤ → Option PropRule
 priority_rule number = range_rule 0 255 number
+
+-- 0 means 1200
+abbrev pub meant_tolerance : ℤ → ℤ
+meant_tolerance seconds = if int_eq seconds (pos 0) then pos 1200 else seconds
+
+abbrev pub tolerance_rule : ℤ → Option PropRule
+tolerance_rule seconds = range_rule 60 1200 seconds
 
 abbrev pub expiration_rule : ℤ → Option PropRule
 expiration_rule seconds = range_rule 1 604800 seconds

@@ -2,7 +2,7 @@
 use Rattle.std.specs.Prelude.{ℕ, List, ◌++◌, codes}
 use Rattle.std.specs.Fmt.{decimal}
 use Rattle.task_props.specs.declared.task_field.TaskField.{TaskField}
-use Rattle.task_props.specs.declared.task_field.TaskField.TheVariants.{Name, Priority, TaskSlices, InSlice}
+use Rattle.task_props.specs.declared.task_field.TaskField.TheVariants.{Name, Priority, BotPingToleranceSecs, TaskSlices, InSlice}
 use Rattle.task_props.specs.declared.task_field.SliceField.{SliceField}
 use Rattle.task_props.specs.declared.task_field.SliceField.TheVariants.{ExpirationSecs, Command, CommandText, Dimensions, Dimension}
 
@@ -17,5 +17,6 @@ slice_path (Dimension place) = codes "properties.dimensions." ++ decimal place
 abbrev pub task_path : TaskField → List ℕ
 task_path Name = codes "name"
 task_path Priority = codes "priority"
+task_path BotPingToleranceSecs = codes "bot_ping_tolerance_secs"
 task_path TaskSlices = codes "task_slices"
 task_path (InSlice slice field) = codes "task_slices." ++ (decimal slice ++ (codes "." ++ slice_path field))

@@ -7,6 +7,7 @@ use Rattle.task_props.specs.declared.new_task.NewTask.{NewTask}
 use Rattle.task_props.specs.declared.raw_task.RawTask.{RawTask}
 use Rattle.task_props.specs.declared.raw_task.RawSlice.{RawSlice}
 use Rattle.task_props.specs.declared.raw_task.RawProperties.{RawProperties}
+use Rattle.task_props.specs.FieldRules.{meant_tolerance}
 
 -- a number that is not negative
 abbrev pub natural : ℤ → ℕ
@@ -38,7 +39,7 @@ abbrev pub task_of : RawTask → NewTask
 task_of raw = record {
   name = raw.name;
   priority = natural raw.priority;
-  bot_ping_tolerance_secs = 1200;
+  bot_ping_tolerance_secs = natural (meant_tolerance raw.bot_ping_tolerance_secs);
   request_uuid = [];
   task_slices = map slice_of raw.task_slices;
 }

@@ -4,8 +4,8 @@ ghost use Rattle.task_props.specs.Broken.{broken_slice, first_broken_slice, firs
 ghost use Rattle.task_props.specs.Fields.{task_path};
 
 use crate::field_rules::{
-    MOST_SLICES, broken_command, broken_dimensions, count_rule, expiration_rule, name_rule,
-    priority_rule,
+    MOST_SLICES, broken_command, broken_dimensions, count_rule, expiration_rule, meant_tolerance,
+    name_rule, priority_rule, tolerance_rule,
 };
 use crate::{PropFault, PropRule, RawSlice, RawTask, SliceField, TaskField};
 use dimensions::Text;
@@ -51,6 +51,9 @@ pub(crate) fn first_broken_field(raw: &RawTask) -> Option<(TaskField, PropRule)>
     }
     if let Some(rule) = priority_rule(raw.priority) {
         return Some((TaskField::Priority, rule));
+    }
+    if let Some(rule) = tolerance_rule(meant_tolerance(raw.bot_ping_tolerance_secs)) {
+        return Some((TaskField::BotPingToleranceSecs, rule));
     }
     if let Some(rule) = count_rule(MOST_SLICES, raw.task_slices.as_slice().len()) {
         return Some((TaskField::TaskSlices, rule));

@@ -2,12 +2,16 @@
 ghost use Rattle.std.specs.Prelude.{◌≡◌, ◌≤◌, length, pos};
 ghost use Rattle.std.specs.List.{list_any};
 ghost use Rattle.std.specs.Char.{is_ascii_control};
-ghost use Rattle.task_props.specs.FieldRules.{name_rule, range_rule, priority_rule, expiration_rule, count_rule, text_rule, is_nul, first_broken_text, broken_command, rule_of, field_of, broken_dimensions};
+ghost use Rattle.task_props.specs.FieldRules.{name_rule, range_rule, priority_rule, meant_tolerance, tolerance_rule, expiration_rule, count_rule, text_rule, is_nul, first_broken_text, broken_command, field_of, broken_dimensions};
 
 use crate::{PropRule, SliceField};
 use dimensions::{DimRule, DimSet, Text};
 
 pub(crate) const HIGHEST_PRIORITY: u32 = 255;
+
+pub(crate) const SHORTEST_TOLERANCE_SECS: u32 = 60;
+
+pub(crate) const LONGEST_TOLERANCE_SECS: u32 = 1200;
 
 pub(crate) const LONGEST_EXPIRATION_SECS: u32 = 604_800;
 
@@ -51,6 +55,23 @@ pub(crate) fn priority_rule(number: i128) -> Option<PropRule>
     ensures { result ≡ priority_rule number }
 {
     range_rule(0, HIGHEST_PRIORITY, number)
+}
+
+/// The seconds that a number means: 0, as where a request names none, is the longest.
+pub(crate) fn meant_tolerance(seconds: i128) -> i128
+    ensures { result ≡ meant_tolerance seconds }
+{
+    if seconds == 0 {
+        LONGEST_TOLERANCE_SECS as i128
+    } else {
+        seconds
+    }
+}
+
+pub(crate) fn tolerance_rule(seconds: i128) -> Option<PropRule>
+    ensures { result ≡ tolerance_rule seconds }
+{
+    range_rule(SHORTEST_TOLERANCE_SECS, LONGEST_TOLERANCE_SECS, seconds)
 }
 
 pub(crate) fn expiration_rule(seconds: i128) -> Option<PropRule>
@@ -107,19 +128,6 @@ pub(crate) fn broken_command(texts: &[Text]) -> Option<(SliceField, PropRule)>
     first_broken_text(texts)
 }
 
-fn rule_of(rule: DimRule) -> PropRule
-    ensures { result ≡ rule_of rule }
-{
-    match rule {
-        DimRule::TooMany => PropRule::Count,
-        DimRule::BadKey | DimRule::BadValue => PropRule::Grammar,
-        DimRule::EmptyAlternative => PropRule::Alternative,
-        DimRule::Repeated => PropRule::Repeated,
-        DimRule::Pool => PropRule::Pool,
-        DimRule::Id => PropRule::Id,
-    }
-}
-
 fn field_of(rule: DimRule, place: u32) -> SliceField
     ensures { result ≡ field_of rule place }
 {
@@ -135,5 +143,5 @@ pub(crate) fn broken_dimensions(pairs: &[(Text, Text)]) -> Option<(SliceField, P
     ensures { result ≡ broken_dimensions pairs.now }
 {
     let (rule, place) = DimSet::broken(pairs)?;
-    Some((field_of(rule, place), rule_of(rule)))
+    Some((field_of(rule, place), PropRule::from(rule)))
 }

@@ -1,19 +1,17 @@
 use crate::broken::{fault_at, first_broken_field};
-use crate::field_rules::{MOST_SLICES, count_rule, name_rule, priority_rule};
+use crate::field_rules::{MOST_SLICES, count_rule, name_rule, priority_rule, tolerance_rule};
 use crate::reading::read_task;
 use crate::slices::{pool_of, slices_rule};
 use crate::{PropFault, RawTask, Slice, TaskField};
 use dimensions::{Seq, Text, TryCopy};
 use std::alloc::{AllocError, Global};
 
-/// The seconds of silence after which a bot is taken for dead, where a request names none.
-pub(crate) const ABSENT_TOLERANCE_SECS: u32 = 1200;
-
 /// A request for a task, after `swarming.v2.NewTaskRequest`. Lower priority numbers run first.
 #[derive(Debug, PartialEq, Drop)]
 pub struct NewTask {
     pub name: Text,
     pub priority: u32,
+    /// The seconds of silence of its bot that end a run.
     pub bot_ping_tolerance_secs: u32,
     pub request_uuid: Text,
     pub task_slices: Seq<Slice>,
@@ -50,7 +48,7 @@ impl NewTask {
     {
         name_rule(self.name.as_str()).is_none()
             && priority_rule(self.priority as i128).is_none()
-            && self.bot_ping_tolerance_secs == ABSENT_TOLERANCE_SECS
+            && tolerance_rule(self.bot_ping_tolerance_secs as i128).is_none()
             && self.request_uuid.as_str().is_empty()
             && count_rule(MOST_SLICES, self.task_slices.as_slice().len()).is_none()
             && self.has_sound_slices()
@@ -115,6 +113,7 @@ mod tests {
         Ok(RawTask {
             name: Text::new(alloc),
             priority: 255,
+            bot_ping_tolerance_secs: 0,
             task_slices: Seq::from_vec(task_slices),
         })
     }
@@ -128,6 +127,7 @@ mod tests {
         )?;
         assert!(rt; task.is_checked());
         assert_eq!(rt; task.priority, 255);
+        assert_eq!(rt; task.bot_ping_tolerance_secs, 1200);
         assert_eq!(rt; task.pool(), "default");
         assert!(rt; task.try_copy(alloc)? == task);
         Ok(())

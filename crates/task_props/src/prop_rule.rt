@@ -1,3 +1,5 @@
+use dimensions::DimRule;
+
 /// A rule that a field of a request keeps. Where a field breaks several, the first in the order
 /// of this list is told.
 #[derive(Debug, Clone, Copy, PartialEq, Eq)]
@@ -33,6 +35,25 @@ impl PropRule {
             PropRule::Alternative => "alternative",
             PropRule::Pool => "pool",
             PropRule::Id => "id",
+        }
+    }
+}
+
+/// What a rule on dimensions is among the rules on fields.
+impl From<DimRule> for PropRule {
+    ghost use Rattle.std.specs.Prelude.{◌≡◌};
+    ghost use Rattle.task_props.specs.FieldRules.{rule_of};
+
+    ghost from_gives = { λ broken rule. rule ≡ rule_of broken };
+
+    fn from(broken: DimRule) -> PropRule {
+        match broken {
+            DimRule::TooMany => PropRule::Count,
+            DimRule::BadKey | DimRule::BadValue => PropRule::Grammar,
+            DimRule::EmptyAlternative => PropRule::Alternative,
+            DimRule::Repeated => PropRule::Repeated,
+            DimRule::Pool => PropRule::Pool,
+            DimRule::Id => PropRule::Id,
         }
     }
 }

@@ -5,6 +5,7 @@ use dimensions::{Seq, Text};
 pub struct RawTask {
     pub name: Text,
     pub priority: i128,
+    pub bot_ping_tolerance_secs: i128,
     pub task_slices: Seq<RawSlice>,
 }
 

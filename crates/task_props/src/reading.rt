@@ -8,8 +8,10 @@ ghost use Rattle.task_props.specs.FieldRules.{range_rule, broken_command, broken
 ghost use Rattle.task_props.specs.Reading.{natural, properties_of, slice_of, task_of};
 ghost use Rattle.task_props.specs.Slices.{slices_rule};
 
-use crate::field_rules::{HIGHEST_PRIORITY, LONGEST_EXPIRATION_SECS};
-use crate::new_task::ABSENT_TOLERANCE_SECS;
+use crate::field_rules::{
+    HIGHEST_PRIORITY, LONGEST_EXPIRATION_SECS, LONGEST_TOLERANCE_SECS, SHORTEST_TOLERANCE_SECS,
+    meant_tolerance,
+};
 use crate::properties::ABSENT_GRACE_SECS;
 use crate::{NewTask, Properties, RawProperties, RawSlice, RawTask, Slice};
 use dimensions::{DimSet, Seq, Text};
@@ -80,7 +82,11 @@ pub(crate) fn read_task(alloc: Global, raw: RawTask) -> Result<NewTask, AllocErr
     Ok(NewTask {
         name: raw.name,
         priority: natural(0, HIGHEST_PRIORITY, raw.priority),
-        bot_ping_tolerance_secs: ABSENT_TOLERANCE_SECS,
+        bot_ping_tolerance_secs: natural(
+            SHORTEST_TOLERANCE_SECS,
+            LONGEST_TOLERANCE_SECS,
+            meant_tolerance(raw.bot_ping_tolerance_secs),
+        ),
         request_uuid: Text::new(alloc),
         task_slices: read_slices(alloc, raw.task_slices)?,
     })

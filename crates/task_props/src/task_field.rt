@@ -5,6 +5,7 @@ use std::fmt;
 pub enum TaskField {
     Name,
     Priority,
+    BotPingToleranceSecs,
     TaskSlices,
     InSlice { slice: u32, field: SliceField },
 }
@@ -50,6 +51,7 @@ impl fmt::Display for TaskField {
         match self {
             TaskField::Name => write!(f, "name"),
             TaskField::Priority => write!(f, "priority"),
+            TaskField::BotPingToleranceSecs => write!(f, "bot_ping_tolerance_secs"),
             TaskField::TaskSlices => write!(f, "task_slices"),
             TaskField::InSlice { slice, field } => write!(f, "task_slices.{slice}.{field}"),
         }

@@ -12,7 +12,7 @@ returns-clause-sound c =
     let task : NewTask = record {
       name = c.args.raw.name;
       priority = c.natural.result;
-      bot_ping_tolerance_secs = 1200;
+      bot_ping_tolerance_secs = c.natural-2.result;
       request_uuid = c.new.result;
       task_slices = c.in_ok-read_slices.field-0;
     } in

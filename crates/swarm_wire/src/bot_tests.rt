@@ -1,0 +1,260 @@
+use crate::tests::{read, told};
+use crate::{Route, show_reply};
+use dimensions::{DimSet, Seq, Text};
+use std::alloc::Global;
+use std::test::Fail;
+use swarm_model::{Reply, Rule, TaskState, Unfit};
+use swarm_policy::open_settings;
+use task_props::{Cache, File, Properties};
+
+#[test]
+fn handshakes_in_bodies(rt: HostRuntime) -> Result<(), Fail> {
+    let alloc = rt.alloc();
+    let settings = open_settings(alloc)?;
+    let n63 = "012345678901234567890123456789012345678901234567890123456789012";
+    for (bot, session, pair, pool, wanted) in [
+        (
+            "b1",
+            r#""s-1""#,
+            r#"{"key":"os","value":["Mac","Linux"],"x":1},"#,
+            "default",
+            "handshake of b1 s-1 3 to 0",
+        ),
+        ("", "5", "7,", "default", "session type"),
+        ("", "null", "7,", "default", "session missing"),
+        ("", r#""s 1""#, "7,", "default", "dimensions.0 type"),
+        (
+            "",
+            r#""s 1""#,
+            r#"{"value":["a",null]},"#,
+            "default",
+            "dimensions.0.value.1 type",
+        ),
+        ("", r#""s 1""#, "{},", "default", "bot_id count"),
+        ("b|1", r#""s 1""#, "{},", "default", "bot_id grammar"),
+        ("b1", r#""s 1""#, "{},", "default", "session grammar"),
+        ("b1", r#""s-1""#, "{},", "default", "dimensions.0 count"),
+        (
+            "b1",
+            r#""s-1""#,
+            r#"{"value":["a"]},"#,
+            "default",
+            "dimensions.0 grammar",
+        ),
+        (
+            "b1",
+            r#""s-1""#,
+            r#"{"key":"os","value":["a","a"]},"#,
+            "other",
+            "dimensions.0 repeated",
+        ),
+        ("b1", r#""s-1""#, "", r#"a","b"#, "dimensions pool"),
+        ("b2", r#""s-1""#, "", "other", "dimensions id"),
+        ("b1", r#""s-1""#, "", "other", "no_pool"),
+    ] {
+        let body = format!(in alloc;
+            r#"{{"bot_id":"{bot}","session":{session},"dimensions":[{pair}{{"key":"pool","value":["{pool}"]}},{{"key":"id","value":["b1"]}}]}}"#
+        )?;
+        let asked = read(alloc, &settings, Route::Handshake, body.as_str());
+        assert_eq!(rt; told(alloc, asked)?.as_str(), wanted);
+    }
+    for (end, wanted) in [("3", "dimensions pool"), ("34", "session count")] {
+        let body = format!(in alloc;
+            r#"{{"bot_id":"b1","session":"{n63}{end}","dimensions":[]}}"#
+        )?;
+        let asked = read(alloc, &settings, Route::Handshake, body.as_str());
+        assert_eq!(rt; told(alloc, asked)?.as_str(), wanted);
+    }
+    Ok(())
+}
+
+#[test]
+fn polls_in_bodies(rt: HostRuntime) -> Result<(), Fail> {
+    let alloc = rt.alloc();
+    let settings = open_settings(alloc)?;
+    let n64 = "0123456789012345678901234567890123456789012345678901234567890123";
+    let n256 = format!(in alloc; "{n64}{n64}{n64}{n64}")?;
+    for (pool, end, wanted) in [
+        ("default", r"", "poll of b1 2 to 0"),
+        ("other", "4", "quarantined count"),
+        ("other", "", "no_pool"),
+    ] {
+        let body = format!(in alloc;
+            r#"{{"bot_id":"b1","dimensions":[{{"key":"pool","value":["{pool}"]}},{{"key":"id","value":["b1"]}}],"quarantined":"{n256}{end}"}}"#
+        )?;
+        let asked = read(alloc, &settings, Route::Poll, body.as_str());
+        assert_eq!(rt; told(alloc, asked)?.as_str(), wanted);
+    }
+    // 65 pairs, each with no value.
+    let mut pairs = String::from_str(alloc, "{}")?;
+    for _ in 0..64 {
+        pairs.push_str(",{}")?;
+    }
+    let body = format!(in alloc; r#"{{"bot_id":"b1","dimensions":[{pairs}]}}"#)?;
+    let asked = read(alloc, &settings, Route::Poll, body.as_str());
+    assert_eq!(rt; told(alloc, asked)?.as_str(), "dimensions count");
+    Ok(())
+}
+
+#[test]
+fn other_calls_of_bots_in_bodies(rt: HostRuntime) -> Result<(), Fail> {
+    let alloc = rt.alloc();
+    let settings = open_settings(alloc)?;
+    for (route, pool, more, wanted) in [
+        (
+            Route::Claim,
+            r#""default""#,
+            r#""claim_id":"s-1-1""#,
+            "claim of b1 s-1-1 to 0",
+        ),
+        (Route::Claim, "5", r#""claim_id":"""#, "pool type"),
+        (
+            Route::Claim,
+            r#""""#,
+            r#""claim_id":null"#,
+            "claim_id missing",
+        ),
+        (Route::Claim, r#""""#, r#""claim_id":"""#, "claim_id count"),
+        (Route::Claim, r#""""#, r#""claim_id":"a""#, "no_pool"),
+        (
+            Route::Event,
+            r#""default""#,
+            r#""event":"ping""#,
+            "Ping of b1  to 0",
+        ),
+        (
+            Route::Event,
+            r#""default""#,
+            r#""event":"quarantine","message":"a\n""#,
+            "Quarantine of b1 a\n to 0",
+        ),
+        (
+            Route::Event,
+            r#""other""#,
+            r#""event":"quarantine""#,
+            "message count",
+        ),
+        (
+            Route::Event,
+            r#""other""#,
+            r#""event":"Ping","message":"a""#,
+            "event grammar",
+        ),
+        (
+            Route::Event,
+            r#""other""#,
+            r#""message":5"#,
+            "event missing",
+        ),
+        (
+            Route::TerminateBot,
+            r#""default""#,
+            r#""session":5"#,
+            "end of b1 to 0",
+        ),
+        (
+            Route::TerminateBot,
+            r#""other""#,
+            r#""bot_id":"b 1""#,
+            "bot_id grammar",
+        ),
+    ] {
+        let body = format!(in alloc; r#"{{"pool":{pool},"bot_id":"b1",{more}}}"#)?;
+        let asked = read(alloc, &settings, route, body.as_str());
+        assert_eq!(rt; told(alloc, asked)?.as_str(), wanted);
+    }
+    Ok(())
+}
+
+/// Properties with one of each.
+fn properties(alloc: Global) -> Result<Properties, Fail> {
+    let cache = Cache {
+        name: Text::from_str(alloc, "git")?,
+        path: Text::from_str(alloc, "c/git")?,
+    };
+    let input = File {
+        path: Text::from_str(alloc, "in/a")?,
+        digest: [0x0f; 32],
+        size: 12,
+    };
+    let pool = (
+        Text::from_str(alloc, "pool")?,
+        Text::from_str(alloc, "default")?,
+    );
+    let os = (Text::from_str(alloc, "os")?, Text::from_str(alloc, "Mac")?);
+    let pairs = vec![in alloc; pool, os]?;
+    let dimensions = DimSet::read(alloc, pairs.as_slice())?;
+    let variable = (Text::from_str(alloc, "A")?, Text::from_str(alloc, "b")?);
+    let output = Text::from_str(alloc, "out")?;
+    let program = Text::from_str(alloc, "ninja")?;
+    let flag = Text::from_str(alloc, "-v")?;
+    Ok(Properties {
+        command: Seq::from_vec(vec![in alloc; program, flag]?),
+        env: Seq::from_vec(vec![in alloc; variable]?),
+        dimensions,
+        caches: Seq::from_vec(vec![in alloc; cache]?),
+        inputs: Seq::from_vec(vec![in alloc; input]?),
+        outputs: Seq::from_vec(vec![in alloc; output]?),
+        execution_timeout_secs: 3600,
+        io_timeout_secs: 600,
+        grace_period_secs: 30,
+        idempotent: true,
+    })
+}
+
+#[test]
+fn replies_to_bots(rt: HostRuntime) -> Result<(), Fail> {
+    let alloc = rt.alloc();
+    for (reply, wanted) in [
+        (
+            Reply::Shaken {
+                bot: Text::from_str(alloc, "b1")?,
+            },
+            r#"{"bot_id":"b1"}"#,
+        ),
+        (
+            Reply::Sleep { secs: 16 },
+            r#"{"cmd":"sleep","duration":16}"#,
+        ),
+        (Reply::ClaimHint, r#"{"cmd":"claim"}"#),
+        (Reply::Terminate, r#"{"cmd":"terminate"}"#),
+        (
+            Reply::Run {
+                task: 1,
+                try_no: 1,
+                slice: 2,
+                tolerance: 60,
+                properties: properties(alloc)?,
+            },
+            r#"{"bot_ping_tolerance_secs":60,"cmd":"run","properties":{"caches":[{"name":"git","path":"c/git"}],"command":["ninja","-v"],"dimensions":[{"key":"os","value":"Mac"},{"key":"pool","value":"default"}],"env":[{"key":"A","value":"b"}],"execution_timeout_secs":3600,"grace_period_secs":30,"idempotent":true,"inputs":[{"digest":"0f0f0f0f0f0f0f0f0f0f0f0f0f0f0f0f0f0f0f0f0f0f0f0f0f0f0f0f0f0f0f0f","path":"in/a","size":12}],"io_timeout_secs":600,"outputs":["out"]},"run_id":"400011","slice":2}"#,
+        ),
+        (Reply::Skip, r#"{"cmd":"skip"}"#),
+        (Reply::Noted, "{}"),
+        (Reply::Terminating, "{}"),
+        (Reply::No(Rule::NoBot), r#"{"code":"no_bot"}"#),
+        (
+            Reply::No(Rule::BotUnfit { why: Unfit::Dead }),
+            r#"{"code":"bot_unfit","why":"dead"}"#,
+        ),
+        (
+            Reply::No(Rule::BotBusy { task: 2, try_no: 1 }),
+            r#"{"code":"bot_busy","run":"400021"}"#,
+        ),
+        (
+            Reply::No(Rule::ClaimOver {
+                task: 26,
+                try_no: 1,
+                state: TaskState::BotDied,
+            }),
+            r#"{"code":"claim_over","run":"4001a1","state":"BOT_DIED"}"#,
+        ),
+        (
+            Reply::No(Rule::PoolBotsFull { limit: 2 }),
+            r#"{"code":"pool_bots_full","limit":2}"#,
+        ),
+    ] {
+        let bytes = show_reply(alloc, 1, &reply, &Seq::new(alloc))?;
+        assert_eq!(rt; bytes.as_slice(), wanted.as_bytes());
+    }
+    Ok(())
+}
