@@ -50,13 +50,23 @@ fn refusal_status(why: &Rule) -> u16
     match why {
         Rule::BadHead | Rule::BadJson | Rule::BadField { field: _, rule: _ } => 400,
         Rule::NoCaller => 401,
-        Rule::NoRoute | Rule::NoPool | Rule::NoTask => 404,
+        Rule::NoRoute | Rule::NoPool | Rule::NoTask | Rule::NoBot => 404,
         Rule::BadMethod => 405,
-        Rule::FrontAhead { length: _ } => 409,
+        Rule::FrontAhead { length: _ }
+        | Rule::BotUnfit { why: _ }
+        | Rule::BotBusy { task: _, try_no: _ }
+        | Rule::ClaimOver {
+            task: _,
+            try_no: _,
+            state: _,
+        } => 409,
         Rule::LengthRequired => 411,
         Rule::TooLarge { limit: _ } => 413,
         Rule::NotBuilt { what: _ } => 501,
-        Rule::PoolTasksFull { limit: _ } | Rule::LogFull | Rule::WantOfMemory => 503,
+        Rule::PoolTasksFull { limit: _ }
+        | Rule::PoolBotsFull { limit: _ }
+        | Rule::LogFull
+        | Rule::WantOfMemory => 503,
     }
 }
 
@@ -65,7 +75,23 @@ fn status_of(reply: &Reply) -> u16
     ensures code { IsStatusCode result }
 {
     match reply {
-        Reply::New { task: _, state: _ } | Reply::Result(_) | Reply::Count { count: _ } => 200,
+        Reply::New { task: _, state: _ }
+        | Reply::Result(_)
+        | Reply::Count { count: _ }
+        | Reply::Shaken { bot: _ }
+        | Reply::Sleep { secs: _ }
+        | Reply::ClaimHint
+        | Reply::Terminate
+        | Reply::Run {
+            task: _,
+            try_no: _,
+            slice: _,
+            tolerance: _,
+            properties: _,
+        }
+        | Reply::Skip
+        | Reply::Noted
+        | Reply::Terminating => 200,
         Reply::No(why) => refusal_status(why),
     }
 }

@@ -20,20 +20,10 @@ fn handshakes_in_bodies(rt: HostRuntime) -> Result<(), Fail> {
             "default",
             "handshake of b1 s-1 3 to 0",
         ),
-        ("", "5", "7,", "default", "session type"),
         ("", "null", "7,", "default", "session missing"),
         ("", r#""s 1""#, "7,", "default", "dimensions.0 type"),
-        (
-            "",
-            r#""s 1""#,
-            r#"{"value":["a",null]},"#,
-            "default",
-            "dimensions.0.value.1 type",
-        ),
         ("", r#""s 1""#, "{},", "default", "bot_id count"),
-        ("b|1", r#""s 1""#, "{},", "default", "bot_id grammar"),
         ("b1", r#""s 1""#, "{},", "default", "session grammar"),
-        ("b1", r#""s-1""#, "{},", "default", "dimensions.0 count"),
         (
             "b1",
             r#""s-1""#,
@@ -217,7 +207,6 @@ fn replies_to_bots(rt: HostRuntime) -> Result<(), Fail> {
             r#"{"cmd":"sleep","duration":16}"#,
         ),
         (Reply::ClaimHint, r#"{"cmd":"claim"}"#),
-        (Reply::Terminate, r#"{"cmd":"terminate"}"#),
         (
             Reply::Run {
                 task: 1,
@@ -230,7 +219,6 @@ fn replies_to_bots(rt: HostRuntime) -> Result<(), Fail> {
         ),
         (Reply::Skip, r#"{"cmd":"skip"}"#),
         (Reply::Noted, "{}"),
-        (Reply::Terminating, "{}"),
         (Reply::No(Rule::NoBot), r#"{"code":"no_bot"}"#),
         (
             Reply::No(Rule::BotUnfit { why: Unfit::Dead }),
