@@ -256,8 +256,8 @@ fn names_and_other_fields_of_a_task(rt: HostRuntime) -> Result<(), Fail> {
         (r#""request_uuid":5"#, Answer::NotBuilt),
         (r#""request_uuid":"""#, Answer::NotBuilt),
         (r#""request_uuid":null"#, Answer::Accepted),
-        (r#""bot_ping_tolerance_secs":60"#, Answer::NotBuilt),
-        (r#""bot_ping_tolerance_secs":0"#, Answer::NotBuilt),
+        (r#""bot_ping_tolerance_secs":60"#, Answer::Accepted),
+        (r#""bot_ping_tolerance_secs":0"#, Answer::Accepted),
         (r#""bot_ping_tolerance_secs":null"#, Answer::Accepted),
         (
             r#""request_uuid":"a","priority":256"#,
