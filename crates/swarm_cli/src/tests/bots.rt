@@ -8,6 +8,7 @@ use std::process::Abort;
 use std::test::Fail;
 use swarm_http::{Clock, MemoryLink};
 
+mod handshake_bodies;
 mod life;
 
 const HANDSHAKE: &str = "/bot/handshake";
@@ -50,6 +51,17 @@ const B1_CLAIMS_ANEW: &str = r#"{"pool":"default","bot_id":"b1","claim_id":"c2"}
 const B1_PINGS: &str = r#"{"pool":"default","bot_id":"b1","event":"ping"}"#;
 
 const B1_IS_TO_END: &str = r#"{"pool":"default","bot_id":"b1"}"#;
+
+const B1_COMES_HOT: &str =
+    r#"{"bot_id":"b1","session":"s1","dimensions":[{"key":"pool","value":["default"]},{"key":"id","value":["b1"]}],"quarantined":"hot"}"#;
+
+const B1_POLLS_HOT: &str =
+    r#"{"bot_id":"b1","dimensions":[{"key":"pool","value":["default"]},{"key":"id","value":["b1"]}],"quarantined":"hot"}"#;
+
+const B1_IS_HOT: &str = r#"{"pool":"default","bot_id":"b1","event":"quarantine","message":"hot"}"#;
+
+const B1_IS_COOL: &str =
+    r#"{"pool":"default","bot_id":"b1","event":"unquarantine","message":"hot no more"}"#;
 
 const B2_COMES: &str =
     r#"{"bot_id":"b2","session":"s1","dimensions":[{"key":"pool","value":["default"]},{"key":"id","value":["b2"]}]}"#;
@@ -103,9 +115,19 @@ const PENDING_10: &str = r#"{"state":"PENDING","task_id":"10"}"#;
 
 const PENDING_20: &str = r#"{"state":"PENDING","task_id":"20"}"#;
 
+const PENDING_30: &str = r#"{"state":"PENDING","task_id":"30"}"#;
+
+const NONE_10: &str = r#"{"state":"NO_RESOURCE","task_id":"10"}"#;
+
+const NONE_20: &str = r#"{"state":"NO_RESOURCE","task_id":"20"}"#;
+
 const COUNT_0: &str = r#"{"count":0}"#;
 
 const COUNT_1: &str = r#"{"count":1}"#;
+
+const BAD_JSON: &str = r#"{"code":"bad_json"}"#;
+
+const NO_POOL: &str = r#"{"code":"no_pool"}"#;
 
 const NO_BOT: &str = r#"{"code":"no_bot"}"#;
 
@@ -136,13 +158,46 @@ impl Course {
         }
     }
 
-    fn ask(&mut self, alloc: Global, path: &str, body: &str) -> Result<(), AllocError> {
+    /// A request with these further fields in its head.
+    fn ask(
+        &mut self,
+        alloc: Global,
+        path: &str,
+        fields: &str,
+        body: &str,
+    ) -> Result<(), AllocError> {
         let size = body.len();
         let head = format!(in alloc;
-            "POST {path} HTTP/1.1\r\nX-Swarming-Caller: ana\r\nContent-Length: {size}\r\n\r\n"
+            "POST {path} HTTP/1.1\r\nX-Swarming-Caller: ana\r\nContent-Length: {size}\r\n{fields}\r\n"
         )?;
         self.input.extend_from_slice(head.as_bytes())?;
         Ok(self.input.extend_from_slice(body.as_bytes())?)
+    }
+
+    /// The reply to a request that no pool was asked.
+    fn told(&mut self, alloc: Global, status: &str, told: &str) -> Result<(), AllocError> {
+        let size = told.len();
+        let reply = format!(in alloc;
+            "HTTP/1.1 {status}\r\nContent-Length: {size}\r\nContent-Type: application/json\r\n\r\n{told}"
+        )?;
+        Ok(self.replies.push(reply)?)
+    }
+
+    /// The reply to a request that a pool was asked at a moment, with its front.
+    fn answered(
+        &mut self,
+        alloc: Global,
+        moment: u64,
+        status: &str,
+        front: u32,
+        told: &str,
+    ) -> Result<(), AllocError> {
+        self.moments.push(moment)?;
+        let size = told.len();
+        let reply = format!(in alloc;
+            "HTTP/1.1 {status}\r\nContent-Length: {size}\r\nContent-Type: application/json\r\nX-Swarming-Front: {front}\r\n\r\n{told}"
+        )?;
+        Ok(self.replies.push(reply)?)
     }
 
     /// A call at a moment, and what its pool answers, with the front.
@@ -156,13 +211,8 @@ impl Course {
         front: u32,
         told: &str,
     ) -> Result<(), AllocError> {
-        self.ask(alloc, path, body)?;
-        self.moments.push(moment)?;
-        let size = told.len();
-        let reply = format!(in alloc;
-            "HTTP/1.1 {status}\r\nContent-Length: {size}\r\nContent-Type: application/json\r\nX-Swarming-Front: {front}\r\n\r\n{told}"
-        )?;
-        Ok(self.replies.push(reply)?)
+        self.ask(alloc, path, "", body)?;
+        self.answered(alloc, moment, status, front, told)
     }
 
     /// A call whose answer has no front. No pool is asked, and no moment.
@@ -174,12 +224,8 @@ impl Course {
         status: &str,
         told: &str,
     ) -> Result<(), AllocError> {
-        self.ask(alloc, path, body)?;
-        let size = told.len();
-        let reply = format!(in alloc;
-            "HTTP/1.1 {status}\r\nContent-Length: {size}\r\nContent-Type: application/json\r\n\r\n{told}"
-        )?;
-        Ok(self.replies.push(reply)?)
+        self.ask(alloc, path, "", body)?;
+        self.told(alloc, status, told)
     }
 
     /// A call that breaks a rule at a field.
@@ -255,5 +301,18 @@ fn unattempted(
 ) -> Result<String, AllocError> {
     format!(in alloc;
         r#"{{"bot_id":null,"completed_ts":{completed},"created_ts":1000,"current_task_slice":{slice},"deduped_from":null,"dropped":null,"duration_ms":null,"exit_code":null,"files":[],"name":"","output_length":0,"priority":0,"run_id":null,"started_ts":null,"state":"{state}","task_id":"{id}","user":"ana"}}"#
+    )
+}
+
+/// What a bot is told that gets a run of a small task with this command.
+fn run_of(
+    alloc: Global,
+    tolerance: u32,
+    command: &str,
+    run: &str,
+    slice: u32,
+) -> Result<String, AllocError> {
+    format!(in alloc;
+        r#"{{"bot_ping_tolerance_secs":{tolerance},"cmd":"run","properties":{{"caches":[],"command":["{command}"],"dimensions":[{{"key":"pool","value":"default"}}],"env":[],"execution_timeout_secs":0,"grace_period_secs":30,"idempotent":false,"inputs":[],"io_timeout_secs":0,"outputs":[]}},"run_id":"{run}","slice":{slice}}}"#
     )
 }
