@@ -8,6 +8,7 @@ use std::process::Abort;
 use std::test::Fail;
 use swarm_http::{Clock, MemoryLink};
 
+mod call_bodies;
 mod dimension_bodies;
 mod handshake_bodies;
 mod life;
