@@ -10,6 +10,7 @@ use swarm_http::{Clock, MemoryLink};
 
 mod call_bodies;
 mod dimension_bodies;
+mod fitness;
 mod handshake_bodies;
 mod life;
 
