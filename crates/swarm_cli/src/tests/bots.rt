@@ -9,6 +9,7 @@ use std::test::Fail;
 use swarm_http::{Clock, MemoryLink};
 
 mod call_bodies;
+mod deaths;
 mod dimension_bodies;
 mod fitness;
 mod handshake_bodies;
