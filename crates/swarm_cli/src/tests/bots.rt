@@ -14,6 +14,7 @@ mod dimension_bodies;
 mod fitness;
 mod handshake_bodies;
 mod life;
+mod matching;
 mod races;
 
 const HANDSHAKE: &str = "/bot/handshake";
