@@ -16,6 +16,7 @@ mod handshake_bodies;
 mod life;
 mod matching;
 mod races;
+mod slices;
 
 const HANDSHAKE: &str = "/bot/handshake";
 
