@@ -12,6 +12,7 @@ mod call_bodies;
 mod deaths;
 mod dimension_bodies;
 mod fitness;
+mod full;
 mod handshake_bodies;
 mod life;
 mod matching;
