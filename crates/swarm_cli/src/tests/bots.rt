@@ -18,6 +18,7 @@ mod life;
 mod matching;
 mod races;
 mod slices;
+mod unknown;
 
 const HANDSHAKE: &str = "/bot/handshake";
 
