@@ -5,6 +5,7 @@ use std::test::Fail;
 use swarm_http::{MemoryLink, StepClock};
 
 mod bodies;
+mod bots;
 mod fronts;
 mod heads;
 mod limits;

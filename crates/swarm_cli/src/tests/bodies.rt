@@ -108,7 +108,7 @@ impl Asked {
 }
 
 /// An item so many times, with commas between.
-fn listed(alloc: Global, item: &str, times: usize) -> Result<String, AllocError> {
+pub(crate) fn listed(alloc: Global, item: &str, times: usize) -> Result<String, AllocError> {
     let mut list = String::new(alloc);
     for turn in 0..times {
         if turn > 0 {
@@ -120,7 +120,7 @@ fn listed(alloc: Global, item: &str, times: usize) -> Result<String, AllocError>
 }
 
 /// A text so many times.
-fn repeated(alloc: Global, text: &str, times: usize) -> Result<String, AllocError> {
+pub(crate) fn repeated(alloc: Global, text: &str, times: usize) -> Result<String, AllocError> {
     let mut long = String::new(alloc);
     for _ in 0..times {
         long.push_str(text)?;
@@ -256,8 +256,8 @@ fn names_and_other_fields_of_a_task(rt: HostRuntime) -> Result<(), Fail> {
         (r#""request_uuid":5"#, Answer::NotBuilt),
         (r#""request_uuid":"""#, Answer::NotBuilt),
         (r#""request_uuid":null"#, Answer::Accepted),
-        (r#""bot_ping_tolerance_secs":60"#, Answer::NotBuilt),
-        (r#""bot_ping_tolerance_secs":0"#, Answer::NotBuilt),
+        (r#""bot_ping_tolerance_secs":60"#, Answer::Accepted),
+        (r#""bot_ping_tolerance_secs":0"#, Answer::Accepted),
         (r#""bot_ping_tolerance_secs":null"#, Answer::Accepted),
         (
             r#""request_uuid":"a","priority":256"#,
