@@ -11,14 +11,9 @@ use swarm_http::{Clock, MemoryLink};
 mod call_bodies;
 mod deaths;
 mod dimension_bodies;
-mod fitness;
 mod full;
 mod handshake_bodies;
 mod life;
-mod matching;
-mod races;
-mod slices;
-mod unknown;
 
 const HANDSHAKE: &str = "/bot/handshake";
 
@@ -61,24 +56,13 @@ const B1_PINGS: &str = r#"{"pool":"default","bot_id":"b1","event":"ping"}"#;
 
 const B1_IS_TO_END: &str = r#"{"pool":"default","bot_id":"b1"}"#;
 
-const B1_COMES_HOT: &str =
-    r#"{"bot_id":"b1","session":"s1","dimensions":[{"key":"pool","value":["default"]},{"key":"id","value":["b1"]}],"quarantined":"hot"}"#;
-
-const B1_POLLS_HOT: &str =
-    r#"{"bot_id":"b1","dimensions":[{"key":"pool","value":["default"]},{"key":"id","value":["b1"]}],"quarantined":"hot"}"#;
-
 const B1_IS_HOT: &str = r#"{"pool":"default","bot_id":"b1","event":"quarantine","message":"hot"}"#;
-
-const B1_IS_COOL: &str =
-    r#"{"pool":"default","bot_id":"b1","event":"unquarantine","message":"hot no more"}"#;
 
 const B2_COMES: &str =
     r#"{"bot_id":"b2","session":"s1","dimensions":[{"key":"pool","value":["default"]},{"key":"id","value":["b2"]}]}"#;
 
 const B2_POLLS: &str =
     r#"{"bot_id":"b2","dimensions":[{"key":"pool","value":["default"]},{"key":"id","value":["b2"]}]}"#;
-
-const B2_CLAIMS: &str = r#"{"pool":"default","bot_id":"b2","claim_id":"c2"}"#;
 
 // What clients ask.
 
@@ -106,8 +90,6 @@ const SLEEP_2: &str = r#"{"cmd":"sleep","duration":2}"#;
 
 const CLAIM_ONE: &str = r#"{"cmd":"claim"}"#;
 
-const END: &str = r#"{"cmd":"terminate"}"#;
-
 const SKIP: &str = r#"{"cmd":"skip"}"#;
 
 const NOTED: &str = "{}";
@@ -122,11 +104,7 @@ const RUN: &str =
 
 const PENDING_10: &str = r#"{"state":"PENDING","task_id":"10"}"#;
 
-const PENDING_20: &str = r#"{"state":"PENDING","task_id":"20"}"#;
-
 const PENDING_30: &str = r#"{"state":"PENDING","task_id":"30"}"#;
-
-const NONE_10: &str = r#"{"state":"NO_RESOURCE","task_id":"10"}"#;
 
 const NONE_20: &str = r#"{"state":"NO_RESOURCE","task_id":"20"}"#;
 
@@ -143,8 +121,6 @@ const NO_BOT: &str = r#"{"code":"no_bot"}"#;
 const DEAD: &str = r#"{"code":"bot_unfit","why":"dead"}"#;
 
 const QUARANTINED: &str = r#"{"code":"bot_unfit","why":"quarantined"}"#;
-
-const TERMINATING: &str = r#"{"code":"bot_unfit","why":"terminating"}"#;
 
 const BUSY: &str = r#"{"code":"bot_busy","run":"11"}"#;
 
@@ -297,19 +273,6 @@ fn attempted(
 ) -> Result<String, AllocError> {
     format!(in alloc;
         r#"{{"bot_id":"b1","completed_ts":{completed},"created_ts":{created},"current_task_slice":0,"deduped_from":null,"dropped":null,"duration_ms":null,"exit_code":null,"files":[],"name":"","output_length":0,"priority":0,"run_id":"11","started_ts":{started},"state":"{state}","task_id":"10","user":"ana"}}"#
-    )
-}
-
-/// What is shown of a task that `ana` made at 1000 and no bot has run.
-fn unattempted(
-    alloc: Global,
-    id: &str,
-    slice: u32,
-    state: &str,
-    completed: &str,
-) -> Result<String, AllocError> {
-    format!(in alloc;
-        r#"{{"bot_id":null,"completed_ts":{completed},"created_ts":1000,"current_task_slice":{slice},"deduped_from":null,"dropped":null,"duration_ms":null,"exit_code":null,"files":[],"name":"","output_length":0,"priority":0,"run_id":null,"started_ts":null,"state":"{state}","task_id":"{id}","user":"ana"}}"#
     )
 }
 
