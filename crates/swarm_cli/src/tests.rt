@@ -5,7 +5,6 @@ use std::test::Fail;
 use swarm_http::{MemoryLink, StepClock};
 
 mod bodies;
-mod bots;
 mod fronts;
 mod heads;
 mod limits;

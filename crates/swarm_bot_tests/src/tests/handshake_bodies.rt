@@ -1,8 +1,7 @@
 //! Bodies of handshakes and polls, but for their dimensions.
 
-use crate::tests::bodies::repeated;
-use crate::tests::bots::{
-    B1, B1_COMES, BAD_JSON, Course, DONE, HANDSHAKE, NO_POOL, NOT_FOUND, POLL, SLEEP_1,
+use crate::tests::{
+    B1, B1_COMES, BAD_JSON, Course, DONE, HANDSHAKE, NO_POOL, NOT_FOUND, POLL, SLEEP_1, repeated,
 };
 use std::test::Fail;
 

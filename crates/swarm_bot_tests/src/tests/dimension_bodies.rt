@@ -1,7 +1,6 @@
 //! Dimensions in the bodies of handshakes and polls. Both calls read them alike.
 
-use crate::tests::bodies::repeated;
-use crate::tests::bots::{B1, Course, DONE, HANDSHAKE, POLL, SLEEP_1};
+use crate::tests::{B1, Course, DONE, HANDSHAKE, POLL, SLEEP_1, repeated};
 use std::alloc::{AllocError, Global};
 use std::test::Fail;
 

@@ -1,19 +1,25 @@
 //! Calls of bots, and what they are answered. The replies were worked out by hand from the rules
 //! that `docs/protocol.md` states.
 
-use crate::run;
 use crate::tests::moments::Moments;
 use std::alloc::{AllocError, Global};
 use std::process::Abort;
 use std::test::Fail;
+use swarm_cli::run;
 use swarm_http::{Clock, MemoryLink};
 
 mod call_bodies;
 mod deaths;
 mod dimension_bodies;
-mod full;
 mod handshake_bodies;
 mod life;
+mod moments;
+
+const PATH: &str = "/prpc/swarming.v2.Tasks/NewTask";
+
+/// The body of the small task.
+const TASK: &str =
+    "{\"task_slices\":[{\"expiration_secs\":600,\"wait_for_capacity\":true,\"properties\":{\"command\":[\"true\"],\"dimensions\":[{\"key\":\"pool\",\"value\":\"default\"}]}}]}";
 
 const HANDSHAKE: &str = "/bot/handshake";
 
@@ -34,8 +40,6 @@ const DONE: &str = "200 OK";
 const NOT_FOUND: &str = "404 Not Found";
 
 const CONFLICT: &str = "409 Conflict";
-
-const UNAVAILABLE: &str = "503 Service Unavailable";
 
 // What bots ask. The session of the bot is `s1`, and then `s2`; its claims are `c1` and `c2`.
 
@@ -61,9 +65,6 @@ const B1_IS_HOT: &str = r#"{"pool":"default","bot_id":"b1","event":"quarantine",
 const B2_COMES: &str =
     r#"{"bot_id":"b2","session":"s1","dimensions":[{"key":"pool","value":["default"]},{"key":"id","value":["b2"]}]}"#;
 
-const B2_POLLS: &str =
-    r#"{"bot_id":"b2","dimensions":[{"key":"pool","value":["default"]},{"key":"id","value":["b2"]}]}"#;
-
 // What clients ask.
 
 /// A small task that tolerates 60 seconds of silence.
@@ -85,8 +86,6 @@ const B1: &str = r#"{"bot_id":"b1"}"#;
 const B2: &str = r#"{"bot_id":"b2"}"#;
 
 const SLEEP_1: &str = r#"{"cmd":"sleep","duration":1}"#;
-
-const SLEEP_2: &str = r#"{"cmd":"sleep","duration":2}"#;
 
 const CLAIM_ONE: &str = r#"{"cmd":"claim"}"#;
 
@@ -115,8 +114,6 @@ const COUNT_1: &str = r#"{"count":1}"#;
 const BAD_JSON: &str = r#"{"code":"bad_json"}"#;
 
 const NO_POOL: &str = r#"{"code":"no_pool"}"#;
-
-const NO_BOT: &str = r#"{"code":"no_bot"}"#;
 
 const DEAD: &str = r#"{"code":"bot_unfit","why":"dead"}"#;
 
@@ -287,4 +284,13 @@ fn run_of(
     format!(in alloc;
         r#"{{"bot_ping_tolerance_secs":{tolerance},"cmd":"run","properties":{{"caches":[],"command":["{command}"],"dimensions":[{{"key":"pool","value":"default"}}],"env":[],"execution_timeout_secs":0,"grace_period_secs":30,"idempotent":false,"inputs":[],"io_timeout_secs":0,"outputs":[]}},"run_id":"{run}","slice":{slice}}}"#
     )
+}
+
+/// A text so many times.
+fn repeated(alloc: Global, text: &str, times: usize) -> Result<String, AllocError> {
+    let mut long = String::new(alloc);
+    for _ in 0..times {
+        long.push_str(text)?;
+    }
+    Ok(long)
 }

@@ -1,11 +1,10 @@
 //! A bot from its first handshake on, and the end of its run by silence.
 
-use crate::tests::PATH;
-use crate::tests::bots::{
+use crate::tests::{
     ALL, B1, B1_CLAIMS, B1_CLAIMS_ANEW, B1_COMES, B1_COMES_ANEW, B1_IS_TO_END, B1_PINGS, B1_POLLS,
     BUSY, CLAIM, CLAIM_ONE, CONFLICT, COUNT_1, COUNT_TASKS, Course, DEAD, DONE, EVENT, FIRST,
-    GET_RESULT, HANDSHAKE, NOTED, OVER, PENDING_10, POLL, SHORT_RUN, SHORT_TASK, SKIP, SLEEP_1,
-    TERMINATE, attempted,
+    GET_RESULT, HANDSHAKE, NOTED, OVER, PATH, PENDING_10, POLL, SHORT_RUN, SHORT_TASK, SKIP,
+    SLEEP_1, TERMINATE, attempted,
 };
 use std::alloc::{AllocError, Global};
 use std::test::Fail;

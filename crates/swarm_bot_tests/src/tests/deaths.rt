@@ -1,12 +1,11 @@
 //! Bots that were silent for as long as their pool waits for them, which is 600 seconds.
 
-use crate::tests::bots::{
+use crate::tests::{
     ALL, B1, B1_CLAIMS, B1_CLAIMS_ANEW, B1_COMES, B1_COMES_ANEW, B1_IS_HOT, B1_IS_TO_END, B1_PINGS,
     B1_POLLS, B2, B2_COMES, BUSY, CLAIM, CLAIM_ONE, CONFLICT, COUNT_0, COUNT_TASKS, Course, DEAD,
-    DONE, EVENT, FIRST, GET_RESULT, HANDSHAKE, HASTY_TASK, NONE_20, NOTED, PENDING_10, PENDING_30,
-    POLL, QUARANTINED, RUN, SKIP, SLEEP_1, TERMINATE, attempted, run_of,
+    DONE, EVENT, FIRST, GET_RESULT, HANDSHAKE, HASTY_TASK, NONE_20, NOTED, PATH, PENDING_10,
+    PENDING_30, POLL, QUARANTINED, RUN, SKIP, SLEEP_1, TASK, TERMINATE, attempted, run_of,
 };
-use crate::tests::{PATH, TASK};
 use std::alloc::{AllocError, Global};
 use std::test::Fail;
 

@@ -1,9 +1,8 @@
 //! Bodies of claims, events and of TerminateBot, which name their pool.
 
-use crate::tests::bodies::repeated;
-use crate::tests::bots::{
+use crate::tests::{
     B1, B1_COMES, BAD_JSON, CLAIM, Course, DONE, EVENT, HANDSHAKE, NO_POOL, NOT_FOUND, NOTED, SKIP,
-    TERMINATE,
+    TERMINATE, repeated,
 };
 use std::test::Fail;
 
