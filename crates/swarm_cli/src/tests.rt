@@ -4,7 +4,6 @@ use std::alloc::{AllocError, Global};
 use std::test::Fail;
 use swarm_http::{MemoryLink, StepClock};
 
-mod bodies;
 mod fronts;
 mod heads;
 mod limits;

@@ -1,6 +1,6 @@
 //! Commands, dimensions and other properties of a slice.
 
-use crate::tests::bodies::{
+use crate::tests::{
     Answer, Asked, POOL, with_command, with_dimensions, with_pair, with_properties,
 };
 use std::test::Fail;

@@ -1,6 +1,6 @@
 //! Bodies that break two rules, and what is as long as it may be.
 
-use crate::tests::bodies::{
+use crate::tests::{
     Answer, Asked, POOL, SLICE, listed, repeated, with_command, with_dimensions, with_pair,
 };
 use std::test::Fail;

@@ -1,6 +1,6 @@
 //! The rules on the slices of a task as a whole.
 
-use crate::tests::bodies::{Answer, Asked, POOL, SLICE};
+use crate::tests::{Answer, Asked, POOL, SLICE};
 use std::test::Fail;
 
 /// The small slice, but for its expiration and that it doesn't wait.

@@ -1,14 +1,52 @@
 //! Bodies of requests for a task, each with what it is answered. The answers were worked out by
 //! hand from the rules that `docs/protocol.md` states.
 
-use crate::tests::{PATH, no_resource, pending, run_over};
 use std::alloc::{AllocError, Global};
 use std::process::Abort;
 use std::test::Fail;
+use swarm_cli::run;
+use swarm_http::{MemoryLink, StepClock};
 
 mod orders;
 mod properties;
 mod slices;
+
+const PATH: &str = "/prpc/swarming.v2.Tasks/NewTask";
+
+const PENDING: &str =
+    "HTTP/1.1 200 OK\r\nContent-Length: 34\r\nContent-Type: application/json\r\nX-Swarming-Front: ";
+
+const NO_RESOURCE: &str =
+    "HTTP/1.1 200 OK\r\nContent-Length: 38\r\nContent-Type: application/json\r\nX-Swarming-Front: ";
+
+/// The reply that a front and a task's id stand in.
+fn pending(alloc: Global, front: u32, id: &str) -> Result<String, AllocError> {
+    format!(in alloc; "{PENDING}{front}\r\n\r\n{{\"state\":\"PENDING\",\"task_id\":\"{id}\"}}")
+}
+
+/// The reply for a task that ended at once, since none of its slices is open.
+fn no_resource(alloc: Global, front: u32, id: &str) -> Result<String, AllocError> {
+    format!(in alloc;
+        "{NO_RESOURCE}{front}\r\n\r\n{{\"state\":\"NO_RESOURCE\",\"task_id\":\"{id}\"}}"
+    )
+}
+
+/// How a run ended, and what it wrote.
+#[derive(Drop)]
+struct Ran {
+    status: u8,
+    link: MemoryLink,
+}
+
+fn run_over(alloc: Global, input: &[u8], piece: usize, fails: &[u64]) -> Result<Ran, AllocError> {
+    let input = Vec::from_slice(alloc, input)?;
+    let fails = Vec::from_slice(alloc, fails)?;
+    let mut link = MemoryLink::new(alloc, input, piece, fails);
+    let mut clock = StepClock { at: 1000, step: 0 };
+    let words = vec![in alloc; String::from_str(alloc, "session")?]?;
+    let status = run(alloc, &words, &mut link, &mut clock);
+    Ok(Ran { status, link })
+}
 
 /// What a body is answered.
 #[derive(Clone, Copy, Debug, PartialEq, Eq)]
@@ -108,7 +146,7 @@ impl Asked {
 }
 
 /// An item so many times, with commas between.
-pub(crate) fn listed(alloc: Global, item: &str, times: usize) -> Result<String, AllocError> {
+fn listed(alloc: Global, item: &str, times: usize) -> Result<String, AllocError> {
     let mut list = String::new(alloc);
     for turn in 0..times {
         if turn > 0 {
@@ -120,7 +158,7 @@ pub(crate) fn listed(alloc: Global, item: &str, times: usize) -> Result<String, 
 }
 
 /// A text so many times.
-pub(crate) fn repeated(alloc: Global, text: &str, times: usize) -> Result<String, AllocError> {
+fn repeated(alloc: Global, text: &str, times: usize) -> Result<String, AllocError> {
     let mut long = String::new(alloc);
     for _ in 0..times {
         long.push_str(text)?;
