@@ -1,7 +1,7 @@
 -- The answer to each request, and the entry that it adds.
-use Rattle.std.specs.Prelude.{ℕ, Bool, true, false, ◌+◌, ◌-◌, ◌^◌, ◌==◌, ◌&&◌, ◌||◌, not, min, List, length, Option, Some, None, is_some, is_none, nat_le, if◌then◌else◌}
+use Rattle.std.specs.Prelude.{ℕ, Bool, true, false, [], unwrap_or, ◌+◌, ◌-◌, ◌^◌, ◌==◌, ◌&&◌, ◌||◌, not, min, List, length, Option, Some, None, is_some, is_none, nat_le, if◌then◌else◌}
 use Rattle.std.specs.List.{count_by, find}
-use Rattle.std.specs.Option.{option_map, option_map_or, option_and_then}
+use Rattle.std.specs.Option.{option_map, option_map_or, option_and_then, option_eq}
 use Rattle.dimensions.specs.declared.text.Text.{Text}
 use Rattle.dimensions.specs.declared.bot_dims.BotDims.{BotDims}
 use Rattle.dimensions.specs.Alike.{same, same_dims}
@@ -10,8 +10,12 @@ use Rattle.dimensions.specs.Rules.{is_empty}
 use Rattle.task_props.specs.declared.slice.Slice.{Slice}
 use Rattle.task_props.specs.declared.new_task.NewTask.{NewTask}
 use Rattle.swarm_model.specs.declared.task_state.TaskState.{TaskState}
-use Rattle.swarm_model.specs.declared.task_state.TaskState.TheVariants.{Pending, NoResource}
+use Rattle.swarm_model.specs.declared.task_state.TaskState.TheVariants.{Pending, Running, NoResource}
 use Rattle.swarm_model.specs.declared.attempt.Attempt.{Attempt}
+use Rattle.swarm_model.specs.declared.attempt.Chunk.{Chunk}
+use Rattle.swarm_model.specs.declared.attempt.Last.{Last}
+use Rattle.swarm_model.specs.declared.pool_settings.Permission.{Permission}
+use Rattle.swarm_model.specs.declared.pool_settings.Permission.TheVariants as permission
 use Rattle.swarm_model.specs.declared.task_row.TaskRow.{TaskRow}
 use Rattle.swarm_model.specs.declared.bot_row.BotRow.{BotRow}
 use Rattle.swarm_model.specs.declared.pool_state.PoolState.{PoolState}
@@ -29,9 +33,11 @@ use Rattle.swarm_model.specs.declared.reply.Reply.{Reply}
 use Rattle.swarm_model.specs.declared.reply.Reply.TheVariants as reply
 use Rattle.swarm_model.specs.declared.answer.Answer.{Answer}
 use Rattle.swarm_model.specs.declared.answer.Told.{Told}
-use Rattle.swarm_model.specs.Finding.{task_of, bot_named, is_final, is_wanted}
+use Rattle.swarm_model.specs.Alike.{same_chunk, same_last}
+use Rattle.swarm_model.specs.Settings.{permits}
+use Rattle.swarm_model.specs.Finding.{has_state, task_of, bot_named, is_final, is_wanted}
 use Rattle.swarm_model.specs.Slices.{admit, current_slice, first}
-use Rattle.swarm_model.specs.Views.{view_of}
+use Rattle.swarm_model.specs.Views.{bot_name_of, view_of}
 use Rattle.swarm_model.specs.Words.{◌otherwise◌}
 
 -- a reply that adds nothing
@@ -80,6 +86,37 @@ if_named try_no task = when (try_no == 0 || has_try try_no task.attempt) task
 -- the task, where it has the try that the number names
 abbrev pub named_task : PoolState → ℕ → ℕ → Option TaskRow
 named_task s number try_no = option_and_then (if_named try_no) (task_of s number)
+
+-- the caller sent the task, or may do this with every task of the pool
+abbrev pub may : PoolState → List ℕ → Permission → TaskRow → Bool
+may s who permission task = same task.creator who || permits s.settings who permission
+
+abbrev pub denied : PoolState → Permission → Told
+denied s permission = refuses (rule.Denied permission s.settings.name)
+
+-- the reply to a task that isn't wanted any more, and the entry that it adds
+abbrev pub cancels : Bool → Bool → Option EntryKind → Told
+cancels canceled was_running adds = record { reply = reply.Canceled canceled was_running; adds = adds }
+
+abbrev pub is_killed : Option Attempt → Bool
+is_killed attempt = option_map_or (λ a. a.kill) attempt false
+
+-- a run goes on, unless it is to stop, too; it is asked to stop once
+abbrev pub stop : Bool → TaskRow → Told
+stop false task = cancels false true None
+stop true task = cancels true true (if is_killed task.attempt then None else Some (kind.Kill task.no))
+
+-- a task that waits ends; one that has ended stays as it is
+abbrev pub cancel_row : Bool → TaskRow → Told
+cancel_row kill task =
+    when (has_state Pending task) (cancels true false (Some (kind.Cancel task.no)))
+    otherwise when (has_state Running task) (stop kill task)
+    otherwise cancels false false None
+
+abbrev pub cancel : PoolState → List ℕ → Bool → TaskRow → Told
+cancel s who kill task =
+    when (not (may s who permission.CancelTask task)) (denied s permission.CancelTask)
+    otherwise cancel_row kill task
 
 abbrev pub result_of : PoolState → TaskRow → Told
 result_of s task = says (reply.Result (view_of s task))
@@ -191,6 +228,44 @@ event which message bot =
     when (bot.dead && is_none bot.task) (unfit_told unfit.Dead)
     otherwise answers reply.Noted (kind.Event bot.no which message)
 
+-- the report is the one that ended the run
+abbrev pub is_kept : Attempt → Option Chunk → Option Last → Bool
+is_kept attempt chunk last =
+    is_some attempt.last && (option_eq same_last attempt.last last && option_eq same_chunk attempt.last_chunk chunk)
+
+-- the bot's report is taken, and it is told whether its run is to stop
+abbrev pub updates : Attempt → EntryKind → Told
+updates attempt entry = answers (reply.Updated attempt.kill) entry
+
+-- a run that has ended takes only the report that ended it, once more
+abbrev pub report_again : BotRow → TaskRow → Option Chunk → Option Last → Attempt → Told
+report_again bot task chunk last attempt =
+    if is_kept attempt chunk last
+    then updates attempt (kind.Contact bot.no)
+    else refuses (rule.AttemptOver task.state)
+
+abbrev pub report : BotRow → TaskRow → Option Chunk → Option Last → Attempt → Told
+report bot task chunk last attempt =
+    when (is_final task.state) (report_again bot task chunk last attempt)
+    otherwise when (is_some last) (updates attempt (kind.Update bot.no task.no attempt.try_no chunk last))
+    otherwise updates attempt (kind.Contact bot.no)
+
+-- the run is another bot's
+abbrev pub not_claimant : PoolState → Attempt → Told
+not_claimant s attempt = refuses (rule.NotClaimant (unwrap_or (bot_name_of s attempt) []))
+
+abbrev pub report_on : PoolState → BotRow → TaskRow → Option Chunk → Option Last → Attempt → Told
+report_on s bot task chunk last attempt =
+    when (not (attempt.bot == bot.no)) (not_claimant s attempt)
+    otherwise report bot task chunk last attempt
+
+-- what a bot reports on a run
+abbrev pub update_row : PoolState → BotRow → Option Chunk → Option Last → TaskRow → Told
+update_row s bot chunk last task = with task.attempt rule.NoTask (report_on s bot task chunk last)
+
+abbrev pub update : PoolState → ℕ → ℕ → Option Chunk → Option Last → BotRow → Told
+update s task try_no chunk last bot = with (named_task s task try_no) rule.NoTask (update_row s bot chunk last)
+
 abbrev pub terminate : BotRow → Told
 terminate bot = if bot.terminating then says reply.Terminating else answers reply.Terminating (kind.Terminate bot.no)
 
@@ -199,12 +274,14 @@ terminate bot = if bot.terminating then says reply.Terminating else answers repl
 -- what a caller is told at a moment
 abbrev pub tell : PoolState → List ℕ → ℕ → Request → Told
 tell s who moment (ask.New request) = new_task s who request
+tell s who moment (ask.Cancel task try_no kill) = with (named_task s task try_no) rule.NoTask (cancel s who kill)
 tell s who moment (ask.Result task try_no) = with (named_task s task try_no) rule.NoTask (result_of s)
 tell s who moment (ask.Count state) = count_tasks s state
 tell s who moment (ask.Handshake bot session dims quarantined) = handshake s bot session dims quarantined
 tell s who moment (ask.Poll bot dims quarantined) = with (bot_named s bot) rule.NoBot (poll s dims quarantined)
 tell s who moment (ask.Claim bot id) = with (bot_named s bot) rule.NoBot (claim s id)
 tell s who moment (ask.Event bot which message) = with (bot_named s bot) rule.NoBot (event which message)
+tell s who moment (ask.Update bot task try_no chunk last) = with (bot_named s bot) rule.NoBot (update s task try_no chunk last)
 tell s who moment (ask.Terminate bot) = with (bot_named s bot) rule.NoBot terminate
 
 abbrev pub entry_at : ℕ → ℕ → EntryKind → Entry

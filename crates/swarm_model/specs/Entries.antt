@@ -11,6 +11,7 @@ use Rattle.task_props.specs.declared.slice.Slice.{Slice}
 use Rattle.task_props.specs.declared.new_task.NewTask.{NewTask}
 use Rattle.swarm_model.specs.declared.attempt.Chunk.{Chunk}
 use Rattle.swarm_model.specs.declared.attempt.Last.{Last}
+use Rattle.swarm_model.specs.declared.task_row.TaskRow.{TaskRow}
 use Rattle.swarm_model.specs.declared.bot_row.BotRow.{BotRow}
 use Rattle.swarm_model.specs.declared.entry.EventKind.{EventKind}
 use Rattle.swarm_model.specs.declared.pool_state.PoolState.{PoolState}
@@ -19,7 +20,7 @@ use Rattle.swarm_model.specs.declared.entry.EntryKind.{EntryKind}
 use Rattle.swarm_model.specs.declared.entry.EntryKind.TheVariants as kind
 use Rattle.swarm_model.specs.declared.request.Request.{Request}
 use Rattle.swarm_model.specs.declared.request.Request.TheVariants as ask
-use Rattle.swarm_model.specs.Finding.{bot_of}
+use Rattle.swarm_model.specs.Finding.{task_of, bot_of}
 
 -- what a digest with its size weighs
 abbrev pub digest_weight : ℕ
@@ -103,13 +104,23 @@ event_of which message bot = by_nobody (ask.Event bot.name which message)
 abbrev pub terminate_of : BotRow → Asked
 terminate_of bot = by_nobody (ask.Terminate bot.name)
 
+-- the creator of a task has it canceled, with its run
+abbrev pub cancel_of : TaskRow → Asked
+cancel_of task = record { who = task.creator; request = ask.Cancel task.no 0 true }
+
+abbrev pub update_of : ℕ → ℕ → Option Chunk → Option Last → BotRow → Asked
+update_of task try_no chunk last bot = by_nobody (ask.Update bot.name task try_no chunk last)
+
 -- the request for which an entry stands; none, where it is a deadline's, or no request adds it yet
 abbrev pub asks : PoolState → EntryKind → Option Asked
 asks s (kind.New t who request state slice from) = Some (record { who = who; request = ask.New request })
+asks s (kind.Cancel t) = option_map cancel_of (task_of s t)
+asks s (kind.Kill t) = option_map cancel_of (task_of s t)
 asks s (kind.Handshake b id session dims q) = Some (by_nobody (ask.Handshake id session dims q))
 asks s (kind.Poll b dims q hint) = option_map (poll_of dims q) (bot_of s b)
 asks s (kind.Claim b t claim) = option_map (claim_of claim) (bot_of s b)
 asks s (kind.Contact b) = option_map handshake_of (bot_of s b)
 asks s (kind.Event b e text) = option_map (event_of e text) (bot_of s b)
+asks s (kind.Update b t try_no chunk last) = option_map (update_of t try_no chunk last) (bot_of s b)
 asks s (kind.Terminate b) = option_map terminate_of (bot_of s b)
 asks s entry = None

@@ -1,11 +1,13 @@
 -- Which requests a pool may be asked.
-use Rattle.std.specs.Prelude.{Bool, true, ◌&&◌, nat_le, List, ℕ, length}
+use Rattle.std.specs.Prelude.{Bool, true, ◌&&◌, ◌==◌, ◌^◌, nat_le, List, ℕ, length, is_none}
 use Rattle.std.specs.List.{list_all}
+use Rattle.std.specs.Option.{option_map_or}
 use Rattle.dimensions.specs.declared.bot_dims.BotDims.{BotDims}
 use Rattle.dimensions.specs.Alike.{same}
 use Rattle.dimensions.specs.Rules.{has_length_to, is_key_byte}
 use Rattle.dimensions.specs.BotRules.{are_bot_checked, pool_of_bot}
-use Rattle.task_props.specs.Checked.{is_checked, pool_of_task}
+use Rattle.task_props.specs.Checked.{is_checked, is_empty, pool_of_task}
+use Rattle.swarm_model.specs.declared.attempt.Last.{Last}
 use Rattle.swarm_model.specs.declared.entry.EventKind.{EventKind}
 use Rattle.swarm_model.specs.declared.entry.EventKind.TheVariants as event
 use Rattle.swarm_model.specs.declared.pool_settings.PoolSettings.{PoolSettings}
@@ -27,14 +29,25 @@ fits_message event.Quarantine message = has_length_to 256 message
 fits_message event.Ping message = nat_le (length message) 256
 fits_message event.Unquarantine message = nat_le (length message) 256
 
--- all in the request is what a checked one may hold, and its pool is this one
+-- a task of a pool by its number, with the number of a try; 0 names the task itself
+abbrev pub fits_task : ℕ → ℕ → Bool
+fits_task task try_no = is_between 1 262144 task && nat_le try_no 1
+
+-- the report of an end: it names no files yet
+abbrev pub fits_last : Last → Bool
+fits_last last = nat_le last.duration_ms (2 ^ 40) && (nat_le last.dropped (2 ^ 53) && is_empty last.files)
+
+-- all in the request is what a checked one may hold, and its pool is this one; a report has no output yet
 abbrev pub fits : PoolSettings → Request → Bool
 fits settings (ask.New request) = is_checked request && same (pool_of_task request) settings.name
-fits settings (ask.Result task try_no) = is_between 1 262144 task && nat_le try_no 1
+fits settings (ask.Cancel task try_no kill) = fits_task task try_no
+fits settings (ask.Result task try_no) = fits_task task try_no
 fits settings (ask.Count state) = true
 fits settings (ask.Handshake bot session dims quarantined) =
     fits_bot settings bot dims && (is_name session && nat_le (length quarantined) 256)
 fits settings (ask.Poll bot dims quarantined) = fits_bot settings bot dims && nat_le (length quarantined) 256
 fits settings (ask.Claim bot claim) = is_name bot && is_name claim
 fits settings (ask.Event bot which message) = is_name bot && fits_message which message
+fits settings (ask.Update bot task try_no chunk last) =
+    is_name bot && (is_between 1 262144 task && (try_no == 1 && (is_none chunk && option_map_or fits_last last true)))
 fits settings (ask.Terminate bot) = is_name bot

@@ -1,5 +1,5 @@
 -- What a machine keeps.
-use Rattle.std.specs.Prelude.{◌≡◌, ℕ, Bool, List, ◌∷◌, Option, None, length, option_map, if◌then◌else◌}
+use Rattle.std.specs.Prelude.{◌≡◌, ℕ, Bool, ⊤, IsTrue, List, ◌∷◌, Option, Some, None, length, option_map, if◌then◌else◌}
 use Rattle.std.specs.List.{find}
 use Rattle.sha2.specs.Sha256.{sha256}
 use Rattle.content_store.specs.declared.Filled.{Filled}
@@ -8,10 +8,14 @@ use Rattle.dimensions.specs.Alike.{same}
 use Rattle.swarm_model.specs.declared.pool_state.PoolState.{PoolState}
 use Rattle.swarm_model.specs.declared.entry.Entry.{Entry}
 use Rattle.swarm_model.specs.declared.entry.EntryKind.TheVariants as kind
-use Rattle.swarm_model.specs.Finding.{has_blob}
+use Rattle.swarm_model.specs.declared.task_row.TaskRow.{TaskRow}
+use Rattle.swarm_model.specs.declared.reply.Reply.{Reply}
+use Rattle.swarm_model.specs.declared.reply.Reply.TheVariants as reply
+use Rattle.swarm_model.specs.Finding.{has_blob, is_final, task_of}
 use Rattle.swarm_model.specs.Claims.{IsRightClaim}
 use Rattle.swarm_model.specs.Effects.{opening}
 use Rattle.swarm_model.specs.History.{replay, IsLegal}
+use Rattle.swarm_model.specs.Verdicts.{verdict}
 
 -- the rows, the log, the entry that is made ready, and the bytes that are held, by their digests
 pub record Kept : Type 0 where
@@ -50,6 +54,15 @@ held_after (Differs actual) held digest bytes = held
 pub record Fills (old new : Kept) (digest bytes : List ℕ) (result : Filled) : Type 0 where
   pub told : result ≡ filled old.pool digest bytes
   pub holds : new ≡ record old { ready = None; held = held_after result old.held digest bytes }
+
+-- a result shows the state that the log tells of its task
+abbrev pub ShowsVerdict : Kept → Reply → Type 0
+ShowsVerdict kept (reply.Result view) = verdict kept.log view.task_id ≡ view.state
+ShowsVerdict kept other = ⊤
+
+-- a task that has ended stays as it is
+abbrev pub KeepsFinals : Kept → Kept → Type 0
+KeepsFinals old new = (t : ℕ) (task : TaskRow) → task_of old.pool t ≡ Some task → IsTrue (is_final task.state) → task_of new.pool t ≡ Some task
 
 -- a claim that is added is right for the rows and the log before it
 abbrev pub IsRight : Kept → Entry → Type 0

@@ -3,6 +3,7 @@ pub mod Settings
 pub mod Numbers
 pub mod Finding
 pub mod Fits
+pub mod Alike
 pub mod Slices
 pub mod Views
 pub mod Answers
@@ -14,7 +15,9 @@ pub mod History
 pub mod Soundness
 pub mod Claims
 pub mod Repeats
+pub mod Verdicts
 pub mod Points
 pub mod Kept
 pub mod Examples
 pub mod BotExamples
+pub mod EndExamples

@@ -1,8 +1,10 @@
 -- What comes of a request that is sent again.
-use Rattle.std.specs.Prelude.{◌≡◌, ℕ, Bool, false, ◌==◌, List, IsTrue, Option, Some, None, map, is_some, if◌then◌else◌}
+use Rattle.std.specs.Prelude.{◌≡◌, ℕ, Bool, false, ◌==◌, ◌⊎◌, List, IsTrue, IsFalse, Option, Some, None, map, is_some, if◌then◌else◌}
 use Rattle.dimensions.specs.declared.bot_dims.BotDims.{BotDims}
 use Rattle.swarm_model.specs.declared.pool_settings.PoolSettings.{PoolSettings}
 use Rattle.swarm_model.specs.declared.attempt.Attempt.{Attempt}
+use Rattle.swarm_model.specs.declared.attempt.Chunk.{Chunk}
+use Rattle.swarm_model.specs.declared.attempt.Last.{Last}
 use Rattle.swarm_model.specs.declared.task_row.TaskRow.{TaskRow}
 use Rattle.swarm_model.specs.declared.bot_row.BotRow.{BotRow}
 use Rattle.swarm_model.specs.declared.pool_state.PoolState.{PoolState}
@@ -14,8 +16,8 @@ use Rattle.swarm_model.specs.declared.reply.Reply.TheVariants as reply
 use Rattle.swarm_model.specs.declared.rule.Rule.TheVariants as rule
 use Rattle.swarm_model.specs.declared.answer.Answer.{Answer}
 use Rattle.swarm_model.specs.Finding.{is_final, task_of, bot_named}
-use Rattle.swarm_model.specs.Answers.{answer, entry_at, run}
-use Rattle.swarm_model.specs.Effects.{opening, after}
+use Rattle.swarm_model.specs.Answers.{answer, entry_at, run, named_task, is_kept}
+use Rattle.swarm_model.specs.Effects.{opening, after, fresh_chunk}
 use Rattle.swarm_model.specs.History.{replay, IsCaused}
 use Rattle.swarm_model.specs.Soundness.{runner}
 
@@ -50,6 +52,23 @@ abbrev pub HandshakeAgain : Type 0
 HandshakeAgain =
     (s : PoolState) (who name session quarantined : List ℕ) (dims : BotDims) (moment pass : ℕ) (bot : BotRow) → bot_named s name ≡ Some bot → bot.session ≡ session
     → answer s who moment pass (ask.Handshake name session dims quarantined) ≡ hears moment pass bot (reply.Shaken name)
+
+-- a report that is taken, of a run that has ended or of no end and no new output, says only that the bot was heard
+abbrev pub UpdateAgain : Type 0
+UpdateAgain =
+    (s : PoolState) (who name : List ℕ) (moment pass t try_no : ℕ) (chunk : Option Chunk) (last : Option Last) (killed : Bool) (bot : BotRow) (task : TaskRow)
+    → bot_named s name ≡ Some bot → named_task s t try_no ≡ Some task
+    → (answer s who moment pass (ask.Update name t try_no chunk last)).reply ≡ reply.Updated killed
+    → IsTrue (is_final task.state) ⊎ ((fresh_chunk task.attempt chunk ≡ None) × (last ≡ None))
+    → answer s who moment pass (ask.Update name t try_no chunk last) ≡ hears moment pass bot (reply.Updated killed)
+
+-- once the run has ended, any report but the one that ended it is refused, and adds nothing
+abbrev pub UpdateIsOver : Type 0
+UpdateIsOver =
+    (s : PoolState) (who name : List ℕ) (moment pass t try_no : ℕ) (chunk : Option Chunk) (last : Option Last) (bot : BotRow) (task : TaskRow) (attempt : Attempt)
+    → bot_named s name ≡ Some bot → named_task s t try_no ≡ Some task → task.attempt ≡ Some attempt → attempt.bot ≡ bot.no
+    → IsTrue (is_final task.state) → IsFalse (is_kept attempt chunk last)
+    → answer s who moment pass (ask.Update name t try_no chunk last) ≡ record { reply = reply.No (rule.AttemptOver task.state); entry = None }
 
 -- a bot that was heard: its contact, and its dead mark where it runs a task
 abbrev pub only_heard : ℕ → BotRow → BotRow

@@ -60,6 +60,15 @@ number_of permission.UseBlobs = 6
 abbrev pub is_permission : Permission → Permission → Bool
 is_permission wanted permission = number_of permission == number_of wanted
 
+-- the grant is for this caller or for every one, and lists the permission
+abbrev pub gives : List ℕ → Permission → Grant → Bool
+gives who wanted grant =
+    (same grant.caller who || same grant.caller (codes "*")) && list_any (is_permission wanted) grant.permissions
+
+-- a caller has a permission in the pool
+abbrev pub permits : PoolSettings → List ℕ → Permission → Bool
+permits settings who wanted = list_any (gives who wanted) settings.grants
+
 -- the grant is for every caller, and lists the permission
 abbrev pub gives_all : Permission → Grant → Bool
 gives_all wanted grant = same grant.caller (codes "*") && list_any (is_permission wanted) grant.permissions

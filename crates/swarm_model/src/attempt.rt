@@ -1,4 +1,4 @@
-use dimensions::{Seq, Text, TryCopy};
+use dimensions::{Growing, Seq, Text, TryCopy};
 use std::alloc::{AllocError, Global};
 use task_props::{Digest, File};
 
@@ -11,7 +11,7 @@ pub struct Chunk {
 }
 
 /// What a bot reports at the end of a run.
-#[derive(Drop)]
+#[derive(PartialEq, Drop)]
 pub struct Last {
     pub exit_code: i32,
     pub duration_ms: u64,
@@ -34,7 +34,7 @@ pub struct Attempt {
     pub begun: u64,
     /// The run is asked to stop.
     pub kill: bool,
-    pub chunks: Seq<Chunk>,
+    pub chunks: Growing<Chunk>,
     /// How many bytes of output are kept.
     pub length: u32,
     pub last: Option<Last>,

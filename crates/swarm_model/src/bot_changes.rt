@@ -239,3 +239,20 @@ pub fn hush(bot: &mut BotRow)
     bot.dead = true;
     bot.task = None;
 }
+
+/// The bot is done with its task.
+#[derive(Drop)]
+pub struct Free;
+
+impl Change<BotRow> for Free {
+    ghost use Rattle.std.specs.Prelude.{⊤};
+    ghost use Rattle.swarm_model.specs.Effects.{freed};
+
+    ghost change = { λ c. freed };
+
+    ghost fits = { λ bot. ⊤ };
+
+    fn apply(self, row: &mut BotRow) {
+        row.task = None;
+    }
+}

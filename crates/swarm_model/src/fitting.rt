@@ -1,11 +1,12 @@
-ghost use Rattle.std.specs.Prelude.{◌≡◌, ◌&&◌};
+ghost use Rattle.std.specs.Prelude.{◌≡◌, ◌&&◌, true};
 ghost use Rattle.std.specs.List.{list_all};
+ghost use Rattle.std.specs.Option.{option_map_or};
 ghost use Rattle.dimensions.specs.Alike.{same};
 ghost use Rattle.dimensions.specs.Rules.{is_key_byte};
 ghost use Rattle.task_props.specs.Checked.{is_checked, pool_of_task};
-ghost use Rattle.swarm_model.specs.Fits.{is_name, fits_bot, fits_message, fits};
+ghost use Rattle.swarm_model.specs.Fits.{is_name, fits_bot, fits_message, fits_task, fits_last, fits};
 
-use crate::{EventKind, PoolSettings, Request};
+use crate::{EventKind, Last, PoolSettings, Request};
 use dimensions::{BotDims, Text};
 use task_props::NewTask;
 
@@ -50,13 +51,37 @@ fn fits_message(kind: EventKind, message: &str) -> bool
     }
 }
 
+fn fits_task(task: u32, try_no: u32) -> bool
+    ensures { result ≡ fits_task task try_no }
+{
+    task >= 1 && task <= 262_144 && try_no <= 1
+}
+
+fn fits_last(last: &Option<Last>) -> bool
+    ensures { result ≡ option_map_or fits_last last.now true }
+{
+    match last {
+        None => true,
+        Some(last) => {
+            last.duration_ms <= 1 << 40
+                && last.dropped <= 1 << 53
+                && last.files.as_slice().is_empty()
+        }
+    }
+}
+
 /// Whether the pool of these settings may be asked this. It takes no memory.
 pub fn fits(settings: &PoolSettings, request: &Request) -> bool
     ensures { result ≡ fits settings.now request.now }
 {
     match request {
         Request::New(task) => fits_pool(settings, task),
-        Request::Result { task, try_no } => *task >= 1 && *task <= 262_144 && *try_no <= 1,
+        Request::Cancel {
+            task,
+            try_no,
+            kill: _,
+        } => fits_task(*task, *try_no),
+        Request::Result { task, try_no } => fits_task(*task, *try_no),
         Request::Count { state: _ } => true,
         Request::Handshake {
             bot,
@@ -76,6 +101,19 @@ pub fn fits(settings: &PoolSettings, request: &Request) -> bool
         Request::Claim { bot, claim } => is_name(bot.as_str()) && is_name(claim.as_str()),
         Request::Event { bot, kind, message } => {
             is_name(bot.as_str()) && fits_message(*kind, message.as_str())
+        }
+        Request::Update {
+            bot,
+            task,
+            try_no,
+            chunk,
+            last,
+        } => {
+            is_name(bot.as_str())
+                && fits_task(*task, *try_no)
+                && *try_no == 1
+                && chunk.is_none()
+                && fits_last(last)
         }
         Request::Terminate { bot } => is_name(bot.as_str()),
     }

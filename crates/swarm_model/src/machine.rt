@@ -1,4 +1,5 @@
 ghost use Rattle.std.specs.Prelude.{◌≡◌, ◌≤◌, ◌^◌, ◌↔◌, ◌++◌, ◌∷◌, [], length, true, false, None, Some, Ok, IsTrue, IsNone, IfOk, OnOk, OnErr, IsErrOf, option_map, slice_get};
+ghost use Rattle.std.specs.List.{count_by, sum_by};
 ghost use Rattle.std.specs.Option.{option_copied};
 ghost use Rattle.swarm_model.specs.Settings.{keeps_rules};
 ghost use Rattle.swarm_model.specs.Finding.{task_of, bot_of, blob_numbered, blob_placed};
@@ -7,7 +8,8 @@ ghost use Rattle.swarm_model.specs.Answers.{answer};
 ghost use Rattle.swarm_model.specs.Effects.{opening, after};
 ghost use Rattle.swarm_model.specs.Deadlines.{due_entry};
 ghost use Rattle.swarm_model.specs.History.{MayFollow, has_room, tally};
-ghost use Rattle.swarm_model.specs.Kept.{IsHistory, IsRight, Fills, bytes_of};
+ghost use Rattle.swarm_model.specs.Kept.{IsHistory, IsRight, KeepsFinals, ShowsVerdict, Fills, bytes_of};
+ghost use Rattle.swarm_model.specs.Verdicts.{is_new, verdict_tally};
 
 use crate::{Answer, BlobRow, BotRow, Entry, PoolSettings, Request, Steps, TaskRow};
 use content_store::Filled;
@@ -54,7 +56,8 @@ pub trait Machine: Sized {
         requires not_before { (kept self.now).pool.last ≤ moment }
         requires not_late { moment ≤ 2 ^ 40 }
         requires nothing_due { due_entry (kept self.now).pool moment pass ≡ None }
-        ensures { IfOk result (λ a. a ≡ answer (kept self.now).pool who.now moment pass request.now) };
+        ensures exact { IfOk result (λ a. a ≡ answer (kept self.now).pool who.now moment pass request.now) }
+        ensures verdict { IfOk result (λ a. ShowsVerdict (kept self.now) a.reply) };
 
     /// Makes ready all that the entry's change needs, so that `commit` takes no memory.
     fn reserve(&mut self, entry: &Entry) -> Result<(), ReserveFault>
@@ -71,6 +74,7 @@ pub trait Machine: Sized {
         requires room { IsTrue (has_room (kept self.old).pool.settings (kept self.old).log entry) }
         requires bytes { IsNone bytes }
         ensures right { IsRight (kept self.old) entry }
+        ensures finals { KeepsFinals (kept self.old) (kept self.new) }
         ensures added { kept self.new ≡ record (kept self.old) { pool = after (kept self.old).pool entry; log = (kept self.old).log ++ entry ∷ []; ready = None } };
 
     /// Holds the bytes of a blob row whose bytes are not held yet.
@@ -91,7 +95,9 @@ pub trait Machine: Sized {
 
     /// How many tasks are in each of the nine states, in the order of [`TaskState`](crate::TaskState).
     fn tally(&self) -> [u64; 9]
-        ensures { result ≡ tally (kept self.now).pool };
+        ensures tally { result ≡ tally (kept self.now).pool }
+        ensures verdicts { result ≡ verdict_tally (kept self.now).log }
+        ensures total { sum_by (λ count. count) result ≡ count_by is_new (kept self.now).log };
 
     /// The moment of the last entry, 0 where there is none.
     fn last(&self) -> u64

@@ -10,6 +10,11 @@ pub enum Reply {
         task: u32,
         state: TaskState,
     },
+    /// Whether the task or its run comes to an end by this, and whether it was running.
+    Canceled {
+        canceled: bool,
+        was_running: bool,
+    },
     Result(TaskView),
     Count {
         count: u64,
@@ -37,6 +42,10 @@ pub enum Reply {
     /// There is no task for the bot.
     Skip,
     Noted,
+    /// The report of a run is taken; whether the run is to stop.
+    Updated {
+        must_stop: bool,
+    },
     /// The bot will be told to end.
     Terminating,
     No(Rule),

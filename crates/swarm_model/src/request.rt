@@ -1,4 +1,4 @@
-use crate::{EventKind, TaskState};
+use crate::{Chunk, EventKind, Last, TaskState};
 use dimensions::{BotDims, Text};
 use task_props::NewTask;
 
@@ -7,6 +7,12 @@ use task_props::NewTask;
 #[derive(Drop)]
 pub enum Request {
     New(NewTask),
+    /// A task isn't wanted any more; `kill` stops its run, too, where it has one.
+    Cancel {
+        task: u32,
+        try_no: u32,
+        kill: bool,
+    },
     /// What a task has come to.
     Result {
         task: u32,
@@ -39,6 +45,14 @@ pub enum Request {
         bot: Text,
         kind: EventKind,
         message: Text,
+    },
+    /// A bot reports on its run: more of the output, or the end.
+    Update {
+        bot: Text,
+        task: u32,
+        try_no: u32,
+        chunk: Option<Chunk>,
+        last: Option<Last>,
     },
     /// A bot is to end.
     Terminate {

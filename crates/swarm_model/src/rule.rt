@@ -1,4 +1,4 @@
-use crate::TaskState;
+use crate::{Permission, TaskState};
 use dimensions::Text;
 use task_props::PropRule;
 
@@ -7,6 +7,8 @@ use task_props::PropRule;
 pub enum Unbuilt {
     /// A task with fields that aren't served.
     Task,
+    /// A report with output or files.
+    Update,
 }
 
 /// Why a bot gets no work.
@@ -44,6 +46,11 @@ pub enum Rule {
     },
     /// The head names no caller, or not just one.
     NoCaller,
+    /// The pool gives the caller no such permission, and the task is another's.
+    Denied {
+        permission: Permission,
+        pool: Text,
+    },
     NoPool,
     /// The pool has no such task, or the task no such run.
     NoTask,
@@ -62,6 +69,14 @@ pub enum Rule {
     ClaimOver {
         task: u32,
         try_no: u32,
+        state: TaskState,
+    },
+    /// The run is that of another bot.
+    NotClaimant {
+        bot: Text,
+    },
+    /// The run has ended, in this state of its task.
+    AttemptOver {
         state: TaskState,
     },
     /// The pool has as many tasks as it may have.

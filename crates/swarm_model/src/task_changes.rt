@@ -1,9 +1,10 @@
 //! What an entry does to the row of one task.
 ghost use Rattle.std.specs.Prelude.{◌≡◌, ◌≤◌, [], length};
-ghost use Rattle.swarm_model.specs.Effects.{moved, end_state, lost, begun};
+ghost use Rattle.std.specs.Option.{option_map};
+ghost use Rattle.swarm_model.specs.Effects.{moved, end_state, lost, begun, reported, closed, finished};
 
-use crate::{Attempt, Change, Chunk, Outcome, Row, TaskRow, TaskState};
-use dimensions::{Seq, Text};
+use crate::{Attempt, Change, Chunk, Last, Outcome, Row, TaskRow, TaskState};
+use dimensions::{Growing, Text};
 use std::mem;
 
 impl Row for TaskRow {
@@ -92,7 +93,7 @@ impl Change<TaskRow> for Lose {
 }
 
 /// A bot begins the task, with a text and an empty list that were made before.
-fn begin(task: &mut TaskRow, moment: u64, bot: u32, claim: Text, chunks: Seq<Chunk>)
+fn begin(task: &mut TaskRow, moment: u64, bot: u32, claim: Text, chunks: Growing<Chunk>)
     requires { chunks ≡ [] }
     ensures { task.new ≡ begun moment bot claim task.old }
 {
@@ -119,7 +120,7 @@ pub struct Start {
     pub moment: u64,
     pub bot: u32,
     pub claim: Text,
-    pub chunks: Seq<Chunk>,
+    pub chunks: Growing<Chunk>,
     ghost empty: { chunks ≡ [] },
 }
 
@@ -139,5 +140,105 @@ impl Change<TaskRow> for Start {
             chunks,
         } = self;
         begin(row, moment, bot, claim, chunks);
+    }
+}
+
+/// A task that waits is canceled.
+#[derive(Drop)]
+pub struct Cancel {
+    pub moment: u64,
+}
+
+impl Change<TaskRow> for Cancel {
+    ghost use Rattle.std.specs.Prelude.{⊤};
+    ghost use Rattle.swarm_model.specs.Effects.{canceled};
+
+    ghost change = { λ c. canceled c.moment };
+
+    ghost fits = { λ task. ⊤ };
+
+    fn apply(self, row: &mut TaskRow) {
+        row.state = TaskState::Canceled;
+        row.ended = Some(self.moment);
+    }
+}
+
+/// The run of a task is asked to stop.
+#[derive(Drop)]
+pub struct MarkKill;
+
+impl Change<TaskRow> for MarkKill {
+    ghost use Rattle.std.specs.Prelude.{⊤};
+    ghost use Rattle.swarm_model.specs.Effects.{kill_marked};
+
+    ghost change = { λ c. kill_marked };
+
+    ghost fits = { λ task. ⊤ };
+
+    fn apply(self, row: &mut TaskRow) {
+        if let Some(attempt) = &mut row.attempt {
+            attempt.kill = true;
+        }
+    }
+}
+
+/// The state that a last report tells.
+fn reported(last: &Last) -> TaskState
+    ensures { result ≡ reported last.now }
+{
+    if last.hard_timeout || last.io_timeout {
+        TaskState::TimedOut
+    } else {
+        TaskState::Completed
+    }
+}
+
+fn close(attempt: &mut Attempt, chunk: Option<Chunk>, last: Last)
+    ensures { attempt.new ≡ closed chunk last attempt.old }
+{
+    attempt.last_chunk = chunk;
+    drop(mem::replace(&mut attempt.last, Some(last)));
+}
+
+fn close_if_some(attempt: &mut Option<Attempt>, chunk: Option<Chunk>, last: Last)
+    ensures { attempt.new ≡ option_map (closed chunk last) attempt.old }
+{
+    match attempt {
+        None => drop(last),
+        Some(attempt) => close(attempt, chunk, last),
+    }
+}
+
+fn end_run(task: &mut TaskRow, moment: u64, chunk: Option<Chunk>, last: Last)
+    ensures { task.new ≡ finished moment chunk last task.old }
+{
+    task.state = end_state(&task.attempt, reported(&last));
+    close_if_some(&mut task.attempt, chunk, last);
+    task.ended = Some(moment);
+}
+
+/// The run of a task ends with a last report.
+#[derive(Drop)]
+pub struct Finish {
+    pub moment: u64,
+    pub chunk: Option<Chunk>,
+    pub last: Last,
+}
+
+impl Change<TaskRow> for Finish {
+    ghost use Rattle.std.specs.Prelude.{⊤};
+    ghost use Rattle.swarm_model.specs.Effects.{finished};
+
+    ghost change = { λ c. finished c.moment c.chunk c.last };
+
+    ghost fits = { λ task. ⊤ };
+
+    fn apply(self, row: &mut TaskRow) {
+        let Finish {
+            moment,
+            chunk,
+            last,
+        } = self;
+        end_run(row, moment, chunk, last);
     }
 }
