@@ -1,6 +1,7 @@
 pub mod Lists
 pub mod Earliest
 pub mod Answering
+pub mod Findings
 pub mod Finds
 pub mod Rows
 pub mod Tasks
@@ -11,6 +12,7 @@ pub mod Claimed
 pub mod Moments
 pub mod Sound
 pub mod Alike
+pub mod Standing
 pub mod Following
 pub mod Tracks
 mod Order

@@ -1,17 +1,18 @@
 -- A task followed through a log.
-use Rattle.std.proofs.Common.{◌≡◌, ℕ, List, [], ◌∷◌, refl, ◌∙◌, false}
+use Rattle.std.proofs.Common.{◌≡◌, ℕ, List, [], ◌∷◌, refl, ◌∙◌, false, None}
 use Rattle.swarm_model.specs.declared.task_state.TaskState.TheVariants.{BotDied}
 use Rattle.swarm_model.specs.declared.task_row.TaskRow.{TaskRow}
 use Rattle.swarm_model.specs.declared.pool_state.PoolState.{PoolState}
 use Rattle.swarm_model.specs.declared.entry.Entry.{Entry}
 use Rattle.swarm_model.specs.declared.entry.EntryKind.{EntryKind}
-use Rattle.swarm_model.specs.Effects.{task_after, added_tasks, after, end_state}
+use Rattle.swarm_model.specs.Effects.{task_after, added_tasks, after, end_state, finished}
 use Rattle.swarm_model.specs.History.{replay, IsCaused}
 use Rattle.swarm_model.specs.Soundness.{IsSound}
 use Rattle.swarm_laws.proofs.Lists.{Among, among_map, among_left}
-use Rattle.swarm_laws.proofs.Finds.{Finds, finds, waits}
+use Rattle.swarm_laws.proofs.Findings.{Finds, waits}
+use Rattle.swarm_laws.proofs.Finds.{finds}
 use Rattle.swarm_laws.proofs.Rows.{task_by}
-use Rattle.swarm_laws.proofs.Tasks.{end_final, not_pending}
+use Rattle.swarm_laws.proofs.Tasks.{end_final, finished_final, not_pending}
 use Rattle.swarm_laws.proofs.Numbers.{task_no}
 use Rattle.swarm_laws.proofs.Sound.{sound_after}
 
@@ -49,4 +50,7 @@ past_lasts s m k o f x a p =
       moves = λ w. absurd (cc (w, p));
       loses = λ w. not_pending (end_state x.attempt BotDied) (end_final x.attempt BotDied refl);
       begins = λ b t id is found w. refl;
+      cancels = λ w. refl;
+      marks = λ w. p;
+      finishes = λ last w. not_pending (finished m None last x).state (finished_final m last x);
     })

@@ -6,8 +6,5 @@ use Rattle.swarm_model.specs.declared.entry.EntryKind.TheVariants as kind
 -- all kinds but those that no request and no deadline adds yet
 abbrev pub is_served : EntryKind → Bool
 is_served (kind.Blob n kept) = false
-is_served (kind.Cancel t) = false
-is_served (kind.Kill t) = false
-is_served (kind.Update b t try_no chunk last) = false
 is_served (kind.Put digest size) = false
 is_served entry = true
