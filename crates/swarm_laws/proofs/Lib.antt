@@ -15,6 +15,12 @@ pub mod Alike
 pub mod Standing
 pub mod Following
 pub mod Tracks
+pub mod Phases
+pub mod PhaseSteps
+pub mod VerdictFrom
+pub mod VerdictLaw
+pub mod Finals
+pub mod TallyLaw
 mod Order
 pub mod ClaimLaw
 mod RepeatLaws

@@ -184,12 +184,12 @@ pub record Stays (P : TaskRow → Type 0) (s : PoolState) (m : ℕ) (k : EntryKi
 
 module _ (P : TaskRow → Type 0) (s : PoolState) (m : ℕ) (o : IsSound s) (x : TaskRow) (a : Among x s.tasks) where
   -- a task of a bot that comes anew is lost
-  lost_by : (k : EntryKind) → Stays P s m k x → (b : ℕ) (run : Option ℕ) → run_of_bot s b ≡ run → P (if_some (lost_at m) run x)
-  lost_by k p b None e = p.same
-  lost_by k p b (Some t) e =
+  pub lost_by : P x → (runs x ≡ true → P (lost m x)) → (b : ℕ) (run : Option ℕ) → run_of_bot s b ≡ run → P (if_some (lost_at m) run x)
+  lost_by same loses b None e = same
+  lost_by same loses b (Some t) e =
       cond_both (x.no == t) (lost m x) x P
-      (λ n. let f : HasRun s b t = run_is s b t e in p.loses (has_runner x f.bot.no ((agree s o f.bot f.among x a).0 (f.task ∙ ap (λ j. Some j) (sym (eqb-true x.no t n))))))
-      (λ n. p.same)
+      (λ n. let f : HasRun s b t = run_is s b t e in loses (has_runner x f.bot.no ((agree s o f.bot f.among x a).0 (f.task ∙ ap (λ j. Some j) (sym (eqb-true x.no t n))))))
+      (λ n. same)
 
   -- the row after an entry is as it was, or changed in one of six ways
   pub task_by : (k : EntryKind) → Finds s k → Stays P s m k x → P (task_after s m k x)
@@ -200,7 +200,7 @@ module _ (P : TaskRow → Type 0) (s : PoolState) (m : ℕ) (o : IsSound s) (x :
   task_by (kind.Silence t) f p = cond_both (x.no == t) (lost m x) x P (λ n. p.loses (row_is s o t runs f x a n)) (λ n. p.same)
   task_by (kind.Cancel t) f p = cond_both (x.no == t) (canceled m x) x P (λ n. p.cancels (row_is s o t waits f x a n)) (λ n. p.same)
   task_by (kind.Kill t) f p = cond_both (x.no == t) (kill_marked x) x P (λ n. p.marks (row_is s o t runs f x a n)) (λ n. p.same)
-  task_by (kind.Handshake b id session dims q) f p = lost_by (kind.Handshake b id session dims q) p b (run_of_bot s b) refl
+  task_by (kind.Handshake b id session dims q) f p = lost_by p.same p.loses b (run_of_bot s b) refl
   task_by (kind.Claim b t id) f p =
       cond_both (x.no == t) (begun m b id x) x P (λ n. p.begins b t id refl f (row_is s o t waits (claim_waits s b t id f) x a n)) (λ n. p.same)
   task_by (kind.Update b t try_no chunk last) f p =

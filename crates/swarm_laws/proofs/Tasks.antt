@@ -34,7 +34,7 @@ end_final None state f = f
 end_final (Some a) state f = cond_both a.kill Killed state (λ x. is_final x ≡ true) (λ t. refl) (λ t. f)
 
 -- what a report says is one
-reported_final : (last : Last) → is_final (reported last) ≡ true
+pub reported_final : (last : Last) → is_final (reported last) ≡ true
 reported_final last = cond_both (last.hard_timeout || last.io_timeout) TimedOut Completed (λ state. is_final state ≡ true) (λ t. refl) (λ t. refl)
 
 -- so a run that was reported has ended

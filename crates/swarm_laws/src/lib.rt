@@ -11,4 +11,7 @@
 
 mod laws;
 
-pub use laws::{a_claim_happens, claims_are_right, repeats_act_once, stays_sound};
+pub use laws::{
+    a_claim_happens, a_run_ends, claims_are_right, finals_stay, repeats_act_once, stays_sound,
+    tally_counts_verdicts, verdicts_are_states,
+};
