@@ -21,7 +21,7 @@ use Rattle.swarm_model.specs.Finding.{has_state, is_state, is_final, task_of, bo
 use Rattle.swarm_model.specs.Slices.{first}
 use Rattle.swarm_model.specs.Answers.{run_on, claimed, unfit_of}
 use Rattle.swarm_model.specs.Deadlines.{next_of}
-use Rattle.swarm_laws.specs.Served.{is_served}
+use Rattle.swarm_laws.specs.Served.{is_served, ends_run}
 use Rattle.swarm_laws.proofs.Lists.{Among}
 
 -- a task of that number of which the test holds
@@ -106,3 +106,10 @@ pub served_of : (s : PoolState) (k : EntryKind) → Finds s k → is_served k �
 served_of s (kind.Blob n kept) f = absurd f
 served_of s (kind.Put digest size) f = absurd f
 served_of s entry f = refl
+
+-- and a report ends its run
+pub ends_of : (s : PoolState) (k : EntryKind) → Finds s k → ends_run k ≡ true
+ends_of s (kind.Update b t try_no chunk last) f = rw (f.no_output, f.ends) refl
+ends_of s (kind.Blob n kept) f = absurd f
+ends_of s (kind.Put digest size) f = absurd f
+ends_of s entry f = refl

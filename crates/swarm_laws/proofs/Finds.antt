@@ -44,8 +44,8 @@ use Rattle.swarm_model.specs.Answers.{tell, entry_at, accepted, accepted_at, tas
 use Rattle.swarm_model.specs.Deadlines.{settled, slice_end, slice_limit, silence_end, silence_limit, runner_of, bot_end, deadlines, due_entry}
 use Rattle.swarm_model.specs.Entries.{asks, is_deadline, Asked}
 use Rattle.swarm_model.specs.History.{MayFollow, IsDue, IsAnswered}
-use Rattle.swarm_laws.specs.Served.{is_served}
-use Rattle.swarm_laws.proofs.Findings.{Finds, HasTask, waits, runs, served_of}
+use Rattle.swarm_laws.specs.Served.{is_served, ends_run}
+use Rattle.swarm_laws.proofs.Findings.{Finds, HasTask, waits, runs, served_of, ends_of}
 use Rattle.swarm_laws.proofs.Lists.{Among, Found, find_is, all_filter_map}
 use Rattle.swarm_laws.proofs.Earliest.{due_at, due_has}
 use Rattle.swarm_laws.proofs.Answering.{by_when, by_map, by_with}
@@ -253,6 +253,10 @@ finds s e follows = by_cause (is_deadline e.kind) (asks s e.kind) follows.has_ca
 -- an entry of a kind that no request and no deadline adds does not come
 pub served_kind : (s : PoolState) (e : Entry) → MayFollow s e → IsTrue (is_served e.kind)
 served_kind s e follows = served_of s e.kind (finds s e follows)
+
+-- and a report that comes ends its run
+pub report_ends : (s : PoolState) (e : Entry) → MayFollow s e → IsTrue (ends_run e.kind)
+report_ends s e follows = ends_of s e.kind (finds s e follows)
 
 -- the request for which an entry stands may be asked
 abbrev pub IsFitting : PoolState → EntryKind → Type 0

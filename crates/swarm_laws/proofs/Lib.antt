@@ -23,5 +23,7 @@ pub mod Finals
 pub mod TallyLaw
 mod Order
 pub mod ClaimLaw
+pub mod Shown
+pub mod Keeping
 mod RepeatLaws
 mod Worked
