@@ -1,8 +1,6 @@
 -- What the body of a request asks for.
 use Rattle.std.specs.Prelude.{◌≡◌, ◌≢◌, ℕ, List, [], length, nat_lt, Option, Some, None, Result, Ok, Err, if◌then◌else◌, IsTrue, IsSomeAnd, slice_get}
-use Rattle.std.specs.Str.{is_utf8}
 use Rattle.serde_json.specs.Data.{Data}
-use Rattle.serde_json.specs.Read.{read}
 use Rattle.task_props.specs.declared.prop_fault.PropFault.{PropFault}
 use Rattle.task_props.specs.declared.prop_fault.PropFault.TheVariants as prop_fault
 use Rattle.task_props.specs.declared.prop_rule.PropRule.TheVariants.{WrongType}
@@ -18,18 +16,14 @@ use Rattle.swarm_wire.specs.declared.asked.WireFault.TheVariants as fault
 use Rattle.swarm_wire.specs.declared.addressed.Addressed.{Addressed}
 use Rattle.swarm_wire.specs.declared.route.Route.{Route}
 use Rattle.swarm_wire.specs.declared.route.Route.TheVariants as route
-use Rattle.swarm_wire.specs.Readings.{◌>>=◌}
-use Rattle.swarm_wire.specs.Fields.{is_object}
+use Rattle.json_fields.specs.Readings.{reading, ◌>>=◌}
+use Rattle.json_fields.specs.Fields.{is_object}
 use Rattle.swarm_wire.specs.Pools.{place_of}
-use Rattle.swarm_wire.specs.Ids.{place_of_id, task_of_id, try_of_id}
+use Rattle.reply_bodies.specs.Ids.{place_of_id, task_of_id, try_of_id}
 use Rattle.swarm_wire.specs.Tasks.{task_in, is_built}
 use Rattle.swarm_wire.specs.Results.{id_in}
 use Rattle.swarm_wire.specs.Counts.{count_in}
 use Rattle.swarm_wire.specs.BotCalls.{handshake_in, poll_in, claim_in, event_in, terminate_in}
-
--- the value that a body is, where it is UTF-8 and JSON
-abbrev pub reading : List ℕ → Option Data
-reading body = if is_utf8 body then read body else None
 
 -- a request that carries no bytes, to the pool at a place
 abbrev pub asked : ℕ → Request → Asked

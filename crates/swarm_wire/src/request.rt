@@ -5,7 +5,6 @@ ghost use Rattle.swarm_model.specs.Settings.{AreOpen};
 ghost use Rattle.swarm_wire.specs.Asking.{Asks, FitsPool, new_of, object_asks, value_asks, asked_of};
 
 use crate::addressed::ask_named;
-use crate::body::read_body;
 use crate::bot_calls::{read_bot_event, read_claim, read_handshake, read_poll, read_terminate};
 use crate::counts::ask_count;
 use crate::pools::place_of;
@@ -14,6 +13,7 @@ use crate::tasks::read_task;
 use crate::unserved::is_built;
 use crate::{Asked, Route, WireFault};
 use dimensions::{Seq, Text};
+use json_fields::read_body;
 use serde_json::Value;
 use std::alloc::Global;
 use swarm_model::{PoolSettings, Request, Settings};

@@ -1,15 +1,14 @@
 //! Asking what a task has come to.
 ghost use Rattle.std.specs.Prelude.{◌≡◌, ◌≤◌, ◌%◌, IfOk};
 ghost use Rattle.serde_json.specs.View.{view};
-ghost use Rattle.swarm_wire.specs.Readings.{Reads};
+ghost use Rattle.json_fields.specs.Readings.{Reads};
 ghost use Rattle.swarm_wire.specs.Results.{id_in};
 ghost use Rattle.swarm_wire.specs.Asking.{Asks, FitsPool, result_at, result_of};
 
-use crate::faults::broken;
-use crate::fields::read_required_text;
 use crate::ids::id_of;
 use crate::{Asked, WireFault};
 use dimensions::Seq;
+use json_fields::{broken, read_required_text};
 use serde_json::Value;
 use std::alloc::Global;
 use swarm_model::{PoolSettings, Request};
