@@ -73,6 +73,17 @@ required_text_in key d = or_absent text_of (Err Missing) (present key d)
 unfoldable pub number_in : List ℕ → Data → Result ℤ PropRule
 number_in key d = or_absent number_of (Ok (pos 0)) (present key d)
 
+-- a number, where there is one
+abbrev pub some_of : {A : Type 0} → Result A PropRule → Result (Option A) PropRule
+some_of (Ok x) = Ok (Some x)
+some_of (Err rule) = Err rule
+
+abbrev pub some_number_of : Data → Result (Option ℤ) PropRule
+some_number_of d = some_of (number_of d)
+
+unfoldable pub optional_number_in : List ℕ → Data → Result (Option ℤ) PropRule
+optional_number_in key d = or_absent some_number_of (Ok None) (present key d)
+
 -- an absent truth value is false
 unfoldable pub flag_in : List ℕ → Data → Result Bool PropRule
 flag_in key d = or_absent flag_of (Ok false) (present key d)
@@ -99,6 +110,9 @@ required_text_at key d = at key (required_text_in key d)
 
 abbrev pub number_at : List ℕ → Data → Result ℤ PropFault
 number_at key d = at key (number_in key d)
+
+abbrev pub optional_number_at : List ℕ → Data → Result (Option ℤ) PropFault
+optional_number_at key d = at key (optional_number_in key d)
 
 abbrev pub flag_at : List ℕ → Data → Result Bool PropFault
 flag_at key d = at key (flag_in key d)

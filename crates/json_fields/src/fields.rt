@@ -2,7 +2,7 @@
 ghost use Rattle.std.specs.Prelude.{◌≡◌, map, option_map};
 ghost use Rattle.serde_json.specs.View.{view};
 ghost use Rattle.json_fields.specs.Readings.{Gives, Reads, GivesUnlessMemory, at};
-ghost use Rattle.json_fields.specs.Fields.{present as spec_present, number_of as spec_number_of, values_of as spec_values_of, object_of as spec_object_of, text_in as spec_text_in, required_text_in as spec_required_text_in, number_in as spec_number_in, flag_in as spec_flag_in, list_in as spec_list_in, items_in as spec_items_in, object_in as spec_object_in, text_at, required_text_at, number_at, flag_at, list_at, object_at};
+ghost use Rattle.json_fields.specs.Fields.{present as spec_present, number_of as spec_number_of, values_of as spec_values_of, object_of as spec_object_of, text_in as spec_text_in, required_text_in as spec_required_text_in, number_in as spec_number_in, optional_number_in as spec_optional_number_in, flag_in as spec_flag_in, list_in as spec_list_in, items_in as spec_items_in, object_in as spec_object_in, text_at, required_text_at, number_at, optional_number_at, flag_at, list_at, object_at};
 
 use crate::faults::broken;
 use crate::numbers::text_number;
@@ -82,6 +82,19 @@ fn number_in(body: &Value, key: &str) -> Result<i128, PropRule>
     }
 }
 
+#[tactic(auto, unfolding(crate::specs::Fields::optional_number_in))]
+fn optional_number_in(body: &Value, key: &str) -> Result<Option<i128>, PropRule>
+    ensures { Gives (λ o. o) result (spec_optional_number_in key.now (view body.now)) }
+{
+    match present(body, key) {
+        None => Ok(None),
+        Some(value) => match number_of(value) {
+            Ok(number) => Ok(Some(number)),
+            Err(rule) => Err(rule),
+        },
+    }
+}
+
 #[tactic(auto, unfolding(crate::specs::Fields::flag_in))]
 fn flag_in(body: &Value, key: &str) -> Result<bool, PropRule>
     ensures { Gives (λ b. b) result (spec_flag_in key.now (view body.now)) }
@@ -153,6 +166,20 @@ pub fn read_number(alloc: Global, body: &Value, key: &str) -> Result<i128, PropF
     ensures { Reads result (number_at key.now (view body.now)) }
 {
     match number_in(body, key) {
+        Ok(number) => Ok(number),
+        Err(rule) => Err(broken(alloc, key, rule)),
+    }
+}
+
+/// A whole number, where there is one.
+pub fn read_optional_number(
+    alloc: Global,
+    body: &Value,
+    key: &str,
+) -> Result<Option<i128>, PropFault>
+    ensures { Reads result (optional_number_at key.now (view body.now)) }
+{
+    match optional_number_in(body, key) {
         Ok(number) => Ok(number),
         Err(rule) => Err(broken(alloc, key, rule)),
     }

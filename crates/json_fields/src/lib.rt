@@ -22,6 +22,6 @@ pub use body::read_body;
 pub use faults::{below, below_place, broken, broken_at};
 pub use fields::{
     list_in, object_of, present, read_flag, read_items, read_list, read_number, read_object,
-    read_required_text, read_text, values_of,
+    read_optional_number, read_required_text, read_text, values_of,
 };
 pub use keys::unknown_key;

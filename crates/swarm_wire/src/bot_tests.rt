@@ -151,3 +151,33 @@ fn other_calls_of_bots_in_bodies(rt: HostRuntime) -> Result<(), Fail> {
     }
     Ok(())
 }
+
+#[test]
+fn reports_in_bodies(rt: HostRuntime) -> Result<(), Fail> {
+    let alloc = rt.alloc();
+    let settings = open_settings(alloc)?;
+    for (more, wanted) in [
+        ("", "report on try 1 of task 1 of 0 by b1"),
+        (
+            r#","exit_code":-9,"duration_ms":5,"dropped":"3""#,
+            "end -9 3 of try 1 of task 1 of 0 by b1",
+        ),
+        (
+            r#","output":"YQ==","output_chunk_start":67108863"#,
+            "report not_built",
+        ),
+        (
+            r#","output":"YQ==","output_chunk_start":67108864"#,
+            "output_chunk_start range",
+        ),
+        (
+            r#","files":[{"path":"a/..","digest":"0"}]"#,
+            "files.0.path grammar",
+        ),
+    ] {
+        let body = format!(in alloc; r#"{{"bot_id":"b1","task_id":"11"{more}}}"#)?;
+        let asked = read(alloc, &settings, Route::TaskUpdate, body.as_str());
+        assert_eq!(rt; told(alloc, asked)?.as_str(), wanted);
+    }
+    Ok(())
+}

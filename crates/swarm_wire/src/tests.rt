@@ -3,7 +3,7 @@ ghost use Rattle.swarm_model.specs.Settings.{AreOpen};
 use crate::{Asked, Route, WireFault, read_request, route_of};
 use std::alloc::Global;
 use std::test::Fail;
-use swarm_model::{Request, Settings};
+use swarm_model::{Request, Settings, Unbuilt};
 use swarm_policy::open_settings;
 
 fn fault_text(alloc: Global, fault: WireFault) -> Result<String, Fail> {
@@ -12,7 +12,12 @@ fn fault_text(alloc: Global, fault: WireFault) -> Result<String, Fail> {
         WireFault::BadJson => Ok(String::from_str(alloc, "bad_json")?),
         WireFault::NoPool => Ok(String::from_str(alloc, "no_pool")?),
         WireFault::NoTask => Ok(String::from_str(alloc, "no_task")?),
-        WireFault::NotBuilt => Ok(String::from_str(alloc, "not_built")?),
+        WireFault::NotBuilt {
+            what: Unbuilt::Task,
+        } => Ok(String::from_str(alloc, "not_built")?),
+        WireFault::NotBuilt {
+            what: Unbuilt::Update,
+        } => Ok(String::from_str(alloc, "report not_built")?),
         WireFault::BadField { field, rule } => {
             let path = field.as_str();
             let name = rule.name();
@@ -231,6 +236,10 @@ fn slices_in_bodies(rt: HostRuntime) -> Result<(), Fail> {
 fn routes(rt: HostRuntime) -> Result<(), Fail> {
     for (target, wanted) in [
         ("/prpc/swarming.v2.Tasks/NewTask", Some(Route::NewTask)),
+        (
+            "/prpc/swarming.v2.Tasks/CancelTask",
+            Some(Route::CancelTask),
+        ),
         ("/prpc/swarming.v2.Tasks/GetResult", Some(Route::GetResult)),
         (
             "/prpc/swarming.v2.Tasks/CountTasks",
@@ -240,6 +249,7 @@ fn routes(rt: HostRuntime) -> Result<(), Fail> {
         ("/bot/poll", Some(Route::Poll)),
         ("/bot/claim", Some(Route::Claim)),
         ("/bot/event", Some(Route::Event)),
+        ("/bot/task_update", Some(Route::TaskUpdate)),
         (
             "/prpc/swarming.v2.Bots/TerminateBot",
             Some(Route::TerminateBot),
@@ -277,6 +287,26 @@ fn ids_in_bodies(rt: HostRuntime) -> Result<(), Fail> {
     }
     for (body, wanted) in [("", "bad_json"), ("[]", " type"), ("{}", "task_id missing")] {
         let asked = read(alloc, &settings, Route::GetResult, body);
+        assert_eq!(rt; told(alloc, asked)?.as_str(), wanted);
+    }
+    Ok(())
+}
+
+#[test]
+fn cancels_in_bodies(rt: HostRuntime) -> Result<(), Fail> {
+    let alloc = rt.alloc();
+    let settings = open_settings(alloc)?;
+    for (body, wanted) in [
+        (
+            "{\"task_id\":\"10\"}",
+            "cancel of try 0 of task 1 of 0 false",
+        ),
+        (
+            "{\"task_id\":\"11\",\"kill_running\":true}",
+            "cancel of try 1 of task 1 of 0 true",
+        ),
+    ] {
+        let asked = read(alloc, &settings, Route::CancelTask, body);
         assert_eq!(rt; told(alloc, asked)?.as_str(), wanted);
     }
     Ok(())
