@@ -1,0 +1,176 @@
+-- The rows after an entry.
+use Rattle.std.proofs.Common.{◌≡◌, ℕ, ◌+◌, ◌^◌, ◌≤◌, List, [], ◌∷◌, ◌++◌, map, length, append-nil, refl, sym, ap, ◌∙◌, subst, Option, Some, None, Bool, true, false, cond, arith}
+use Rattle.std.specs.Prelude.{◌==◌, ◌<◌, if◌then◌else◌, MatchOption, IfSome, ⊤}
+use Rattle.std.specs.List.{find, All}
+use Rattle.std.specs.Option.{option_map_or}
+use Rattle.std.proofs.lemmas.Bool.Decides.{nat_tests}
+use Rattle.std.proofs.lemmas.List.Elements.{All-map, All-weaker, All-push}
+use Rattle.swarm_model.specs.declared.bot_row.BotRow.{BotRow}
+use Rattle.swarm_model.specs.declared.attempt.Last.{Last}
+use Rattle.swarm_model.specs.declared.pool_state.PoolState.{PoolState}
+use Rattle.swarm_model.specs.declared.entry.Entry.{Entry}
+use Rattle.swarm_model.specs.declared.entry.EntryKind.{EntryKind}
+use Rattle.swarm_model.specs.declared.entry.EntryKind.TheVariants as kind
+use Rattle.swarm_model.specs.declared.entry.EventKind.{EventKind}
+use Rattle.swarm_model.specs.declared.entry.EventKind.TheVariants as event
+use Rattle.swarm_model.specs.Numbers.{AreNumbered, change_at}
+use Rattle.swarm_model.specs.Finding.{is_bot}
+use Rattle.swarm_model.specs.Effects.{no_of_bot, bot_after, after, greeted, noted, freed_at, if_some, bot_at, heard, runs_task}
+use Rattle.bot_registry.specs.Plain.{Kept}
+use Rattle.bot_registry.specs.Acting.{row_of, IsNewBot, Follows}
+use Rattle.bot_registry.specs.Inside.{IsHeard, with_bot, rows_after, HasRoom}
+use Rattle.bot_registry.proofs.Numbered.{numbered-map, numbered-push}
+
+-- the rows are those of every pool that had the rows before
+pub rows_after-is : (s : PoolState) (moment pass : ℕ) (k : EntryKind) → rows_after moment k s.bots ≡ (after s (record { moment = moment; pass = pass; kind = k })).bots
+rows_after-is s moment pass (kind.Handshake b id session dims q) = refl
+rows_after-is s moment pass (kind.Silence t) = sym (append-nil _)
+rows_after-is s moment pass (kind.Dead b) = sym (append-nil _)
+rows_after-is s moment pass (kind.Poll b dims q hint) = sym (append-nil _)
+rows_after-is s moment pass (kind.Claim b t claim) = sym (append-nil _)
+rows_after-is s moment pass (kind.Contact b) = sym (append-nil _)
+rows_after-is s moment pass (kind.Event b e text) = sym (append-nil _)
+rows_after-is s moment pass (kind.Update b t try_no chunk last) = sym (append-nil _)
+rows_after-is s moment pass (kind.Terminate b) = sym (append-nil _)
+rows_after-is s moment pass (kind.Slice t to) = sym (append-nil _)
+rows_after-is s moment pass (kind.Blob n kept) = sym (append-nil _)
+rows_after-is s moment pass (kind.New t who request state slice from) = sym (append-nil _)
+rows_after-is s moment pass (kind.Cancel t) = sym (append-nil _)
+rows_after-is s moment pass (kind.Kill t) = sym (append-nil _)
+rows_after-is s moment pass (kind.Put digest size) = sym (append-nil _)
+
+-- where no bot has the number, a change at the number changes none
+none_at : (number : ℕ) (change : BotRow → BotRow) (bots : List BotRow) → find (is_bot number) bots ≡ None → map (change_at no_of_bot number change) bots ≡ bots
+none_at number change [] e = refl
+none_at number change (bot ∷ bots) e = by_test (bot.no == number) e (none_at number change bots)
+  where
+    by_test : (b : Bool) → cond b (Some bot) (find (is_bot number) bots) ≡ None → (find (is_bot number) bots ≡ None → map (change_at no_of_bot number change) bots ≡ bots) →
+        (cond b (change bot) bot ∷ map (change_at no_of_bot number change) bots) ≡ (bot ∷ bots)
+    by_test true h rest = absurd (cc (h))
+    by_test false h rest = ap (λ (others : List BotRow). bot ∷ others) (rest h)
+
+-- the row of a new bot stands behind all others, which stay
+pub with_bot-new : (row : BotRow) (rows : List BotRow) → row_of rows row.no ≡ None → with_bot row rows ≡ rows ++ row ∷ []
+with_bot-new row rows none =
+    sym (ap (λ (xs : List BotRow). xs ++ row ∷ []) (sym (none_at row.no (λ old. row) rows none))
+    ∙ ap (λ (o : Option BotRow). map (change_at no_of_bot row.no (λ old. row)) rows ++ option_map_or (λ old. []) o (row ∷ [])) (sym none))
+
+-- the row of a bot that is there stands at its place
+pub with_bot-known : (row known : BotRow) (rows : List BotRow) → row_of rows row.no ≡ Some known → with_bot row rows ≡ map (change_at no_of_bot row.no (λ old. row)) rows
+with_bot-known row known rows some =
+    ap (λ (o : Option BotRow). map (change_at no_of_bot row.no (λ old. row)) rows ++ option_map_or (λ old. []) o (row ∷ [])) some ∙ append-nil _
+
+-- two changes, one after the other
+pub map-both : (f g : BotRow → BotRow) (rows : List BotRow) → map g (map f rows) ≡ map (λ bot. g (f bot)) rows
+map-both f g [] = refl
+map-both f g (row ∷ rows) = ap (λ (others : List BotRow). g (f row) ∷ others) (map-both f g rows)
+
+-- ---- the numbers stay
+
+if_no : (b : Bool) (x y : BotRow) → x.no ≡ y.no → (if b then x else y).no ≡ y.no
+if_no true x y e = e
+if_no false x y e = refl
+
+own_no : (number : ℕ) (row bot : BotRow) → row.no ≡ number → (change_at no_of_bot number (λ old. row) bot).no ≡ bot.no
+own_no number row bot is = grind (arith, nat_tests)
+
+noted_no : (moment : ℕ) (e : EventKind) (text : List ℕ) (bot : BotRow) → (noted moment e text bot).no ≡ bot.no
+noted_no moment event.Ping text bot = refl
+noted_no moment event.Quarantine text bot = refl
+noted_no moment event.Unquarantine text bot = refl
+
+freed_no : (b : ℕ) (last : Option Last) (bot : BotRow) → (if_some (freed_at b) last bot).no ≡ bot.no
+freed_no b None bot = refl
+freed_no b (Some last) bot = if_no (bot.no == b) _ bot refl
+
+pub heard_no : (moment b : ℕ) (bot : BotRow) → (bot_at b (heard moment) bot).no ≡ bot.no
+heard_no moment b bot = if_no (bot.no == b) _ bot refl
+
+after_no : (moment : ℕ) (k : EntryKind) (bot : BotRow) → (bot_after moment k bot).no ≡ bot.no
+after_no moment (kind.Silence t) bot = if_no (runs_task t bot) _ bot refl
+after_no moment (kind.Dead b) bot = if_no (bot.no == b) _ bot refl
+after_no moment (kind.Handshake b id session dims q) bot = own_no b (greeted moment b id session dims q) bot refl
+after_no moment (kind.Poll b dims q hint) bot = if_no (bot.no == b) _ bot refl
+after_no moment (kind.Claim b t claim) bot = if_no (bot.no == b) _ bot refl
+after_no moment (kind.Contact b) bot = heard_no moment b bot
+after_no moment (kind.Event b e text) bot = if_no (bot.no == b) _ bot (noted_no moment e text bot)
+after_no moment (kind.Update b t try_no chunk last) bot = freed_no b last (bot_at b (heard moment) bot) ∙ heard_no moment b bot
+after_no moment (kind.Terminate b) bot = if_no (bot.no == b) _ bot refl
+after_no moment k bot = refl
+
+-- ---- each bot is heard at an early moment
+
+if_heard : (b : Bool) (x y : BotRow) → IsHeard x → IsHeard y → IsHeard (if b then x else y)
+if_heard true x y hx hy = hx
+if_heard false x y hx hy = hy
+
+noted_heard : (moment : ℕ) (e : EventKind) (text : List ℕ) (bot : BotRow) → moment ≤ 2 ^ 40 → IsHeard (noted moment e text bot)
+noted_heard moment event.Ping text bot early = early
+noted_heard moment event.Quarantine text bot early = early
+noted_heard moment event.Unquarantine text bot early = early
+
+freed_heard : (b : ℕ) (last : Option Last) (bot : BotRow) → IsHeard bot → IsHeard (if_some (freed_at b) last bot)
+freed_heard b None bot h = h
+freed_heard b (Some last) bot h = if_heard (bot.no == b) _ bot h h
+
+after_heard : (moment : ℕ) (k : EntryKind) (bot : BotRow) → moment ≤ 2 ^ 40 → IsHeard bot → IsHeard (bot_after moment k bot)
+after_heard moment (kind.Silence t) bot early h = if_heard (runs_task t bot) _ bot h h
+after_heard moment (kind.Dead b) bot early h = if_heard (bot.no == b) _ bot h h
+after_heard moment (kind.Handshake b id session dims q) bot early h = if_heard (bot.no == b) _ bot early h
+after_heard moment (kind.Poll b dims q hint) bot early h = if_heard (bot.no == b) _ bot early h
+after_heard moment (kind.Claim b t claim) bot early h = if_heard (bot.no == b) _ bot early h
+after_heard moment (kind.Contact b) bot early h = if_heard (bot.no == b) _ bot early h
+after_heard moment (kind.Event b e text) bot early h = if_heard (bot.no == b) _ bot (noted_heard moment e text bot early) h
+after_heard moment (kind.Update b t try_no chunk last) bot early h = freed_heard b last _ (if_heard (bot.no == b) _ bot early h)
+after_heard moment (kind.Terminate b) bot early h = if_heard (bot.no == b) _ bot h h
+after_heard moment k bot early h = h
+
+-- ---- both, for all rows
+
+pub numbered_after : (moment : ℕ) (k : EntryKind) (rows : List BotRow) → AreNumbered no_of_bot 1 rows → AreNumbered no_of_bot 1 (map (bot_after moment k) rows)
+numbered_after moment k rows numbered = numbered-map (bot_after moment k) (after_no moment k) 1 rows numbered
+
+pub heard_after : (moment : ℕ) (k : EntryKind) (rows : List BotRow) → moment ≤ 2 ^ 40 → All IsHeard rows → All IsHeard (map (bot_after moment k) rows)
+heard_after moment k rows early heard =
+    All-map IsHeard (bot_after moment k) rows (All-weaker IsHeard (λ bot. IsHeard (bot_after moment k bot)) (λ bot h. after_heard moment k bot early h) rows heard)
+
+-- what holds of all rows
+pub record AreRows (rows : List BotRow) : Type 0 where
+  pub numbered : AreNumbered no_of_bot 1 rows
+  pub heard : All IsHeard rows
+
+greeted_after : (moment : ℕ) (row : BotRow) (rows : List BotRow) (o : Option BotRow) → o ≡ row_of rows row.no → MatchOption o (row.no ≡ length rows + 1) (λ bot. ⊤) → IsHeard row →
+    AreRows rows → AreRows (map (change_at no_of_bot row.no (λ old. row)) rows) → AreRows (with_bot row rows)
+greeted_after moment row rows None is next heard old all =
+    let none : with_bot row rows ≡ rows ++ row ∷ [] = with_bot-new row rows (sym is) in
+    rw none (record {
+      numbered = numbered-push 1 rows row old.numbered (omega (arith, next));
+      heard = All-push IsHeard rows row old.heard heard;
+    })
+greeted_after moment row rows (Some bot) is next heard old all = rw (with_bot-known row bot rows (sym is)) all
+
+pub rows_stay : (moment : ℕ) (k : EntryKind) (kept : Kept) → moment ≤ 2 ^ 40 → Follows kept k → AreRows kept.rows → AreRows (rows_after moment k kept.rows)
+rows_stay moment (kind.Handshake b id session dims q) kept early follows old =
+    greeted_after moment (greeted moment b id session dims q) kept.rows (row_of kept.rows b) refl (next_of (row_of kept.rows b) follows) early old
+    (record { numbered = numbered_after moment (kind.Handshake b id session dims q) kept.rows old.numbered; heard = heard_after moment (kind.Handshake b id session dims q) kept.rows early old.heard })
+  where
+    next_of : (o : Option BotRow) → MatchOption o (IsNewBot kept b id) (λ bot. bot.name ≡ id) → MatchOption o (b ≡ length kept.rows + 1) (λ bot. ⊤)
+    next_of None new = new.next
+    next_of (Some bot) same = tt
+rows_stay moment k kept early follows old =
+    record { numbered = numbered_after moment k kept.rows old.numbered; heard = heard_after moment k kept.rows early old.heard }
+
+-- where a handshake needs room, there may be one bot more
+pub room_for : (kept : Kept) (k : EntryKind) (len capacity : ℕ) → len ≡ length kept.rows → Follows kept k → (len < kept.most → len < capacity) → HasRoom kept.rows len capacity k
+room_for kept (kind.Handshake b id session dims q) len capacity is follows room = by_row (row_of kept.rows b) follows
+  where
+    by_row : (o : Option BotRow) → MatchOption o (IsNewBot kept b id) (λ bot. bot.name ≡ id) → MatchOption o (len < capacity) (λ bot. ⊤)
+    by_row None new = room (rw is new.few)
+    by_row (Some bot) same = tt
+room_for kept k len capacity is follows room = tt
+
+pub ready_is : (o : Option Entry) (copy e : Entry) → o ≡ Some copy → o ≡ Some e → copy ≡ e
+ready_is o copy e is made = let same : Some copy ≡ Some e = sym is ∙ made in cc
+
+pub room_of : {P : Type 0} (o : Option Entry) (copy : Entry) → o ≡ Some copy → IfSome o (λ e. P) → P
+room_of {P} o copy is room = subst (λ (x : Option Entry). IfSome x (λ e. P)) is room

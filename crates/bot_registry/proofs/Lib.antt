@@ -1,0 +1,4 @@
+mod Numbered
+mod Lent
+mod Becoming
+mod Folding

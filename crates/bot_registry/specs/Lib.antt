@@ -1,0 +1,4 @@
+pub mod Plain
+pub mod Acting
+pub mod Silence
+pub mod Inside

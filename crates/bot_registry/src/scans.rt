@@ -1,0 +1,65 @@
+//! Look-ups among the rows.
+ghost use Rattle.std.specs.Prelude.{◌≡◌};
+ghost use Rattle.std.specs.List.{find, list_any};
+ghost use Rattle.std.specs.Option.{option_copied, option_map};
+ghost use Rattle.swarm_model.specs.Numbers.{AreNumbered};
+ghost use Rattle.swarm_model.specs.Finding.{is_called};
+ghost use Rattle.swarm_model.specs.Slices.{is_fit, could_run};
+ghost use Rattle.swarm_model.specs.Effects.{no_of_bot};
+ghost use Rattle.bot_registry.specs.Acting.{row_of, row_named};
+
+use dimensions::{DimSet, Text};
+use swarm_model::BotRow;
+
+/// The row of a number, at its place.
+pub(crate) fn row_of(rows: &[BotRow], number: u32) -> Option<&BotRow>
+    requires { AreNumbered no_of_bot 1 rows.now }
+    ensures { option_copied result ≡ row_of rows.now number }
+{
+    if number == 0 {
+        return None;
+    }
+    rows.get(number as usize - 1)
+}
+
+fn is_called(name: &Text, bot: &BotRow) -> bool
+    ensures { result ≡ is_called name.now bot.now }
+{
+    bot.name == *name
+}
+
+fn row_named<'a>(rows: &'a [BotRow], name: &Text) -> Option<&'a BotRow>
+    ensures { option_copied result ≡ row_named rows.now name.now }
+{
+    rows.iter().find(|bot| is_called(name, bot))
+}
+
+/// The number of the bot of a name.
+pub(crate) fn number_of(rows: &[BotRow], name: &Text) -> Option<u32>
+    ensures { result ≡ option_map no_of_bot (row_named rows.now name.now) }
+{
+    match row_named(rows, name) {
+        None => None,
+        Some(bot) => Some(bot.no),
+    }
+}
+
+/// Whether the bot may take work, now or once it is done with what it runs.
+fn is_fit(bot: &BotRow) -> bool
+    ensures { result ≡ is_fit bot.now }
+{
+    !bot.dead && bot.quarantined.as_str().is_empty() && !bot.terminating
+}
+
+fn could_run(dims: &DimSet, bot: &BotRow) -> bool
+    ensures { result ≡ could_run dims.now bot.now }
+{
+    is_fit(bot) && dims.matches(&bot.dims)
+}
+
+/// Whether some fit bot, busy or not, has the dimensions.
+pub(crate) fn capable(rows: &[BotRow], dims: &DimSet) -> bool
+    ensures { result ≡ list_any (could_run dims.now) rows.now }
+{
+    rows.iter().any(|bot| could_run(dims, bot))
+}

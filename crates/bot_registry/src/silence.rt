@@ -1,0 +1,95 @@
+//! The first bot that was silent for too long.
+ghost use Rattle.std.specs.Prelude.{◌≡◌, None, IfSome};
+ghost use Rattle.std.specs.List.{fold, filter_map, All};
+ghost use Rattle.std.specs.Option.{option_map, option_and_then, option_to_list};
+ghost use Rattle.swarm_model.specs.Deadlines.{rank, is_earlier, earlier, sooner, if_come};
+ghost use Rattle.bot_registry.specs.Silence.{death};
+ghost use Rattle.bot_registry.specs.Inside.{IsHeard, IsDeath, end_of};
+
+use swarm_model::{BotRow, Cause, Deadline};
+
+fn rank(cause: Cause) -> u8
+    ensures { result ≡ rank cause }
+{
+    match cause {
+        Cause::Slice => 1,
+        Cause::Silence => 2,
+        Cause::Bot => 3,
+    }
+}
+
+fn is_earlier(one: Deadline, other: Deadline) -> bool
+    ensures { result ≡ is_earlier one other }
+{
+    one.moment < other.moment
+        || (one.moment == other.moment
+            && (rank(one.cause) < rank(other.cause)
+                || (rank(one.cause) == rank(other.cause) && one.number < other.number)))
+}
+
+fn earlier(best: Option<Deadline>, deadline: Deadline) -> Deadline
+    ensures { result ≡ earlier best deadline }
+{
+    match best {
+        None => deadline,
+        Some(best) => {
+            if is_earlier(deadline, best) {
+                deadline
+            } else {
+                best
+            }
+        }
+    }
+}
+
+fn sooner_of(best: Option<Deadline>, deadline: Option<Deadline>) -> Option<Deadline>
+    ensures { result ≡ fold sooner best (option_to_list deadline) }
+{
+    match deadline {
+        None => best,
+        Some(deadline) => Some(earlier(best, deadline)),
+    }
+}
+
+fn end_of(timeout: u32, bot: &BotRow) -> Option<Deadline>
+    requires { IsHeard bot.now }
+    ensures { result ≡ end_of timeout bot.now }
+{
+    if bot.dead {
+        return None;
+    }
+    Some(Deadline {
+        moment: bot.contact + u64::from(timeout),
+        cause: Cause::Bot,
+        number: bot.no,
+    })
+}
+
+/// The earliest deadline of a bot.
+pub(crate) fn first_end(rows: &[BotRow], timeout: u32) -> Option<Deadline>
+    requires { All IsHeard rows.now }
+    ensures { result ≡ fold sooner None (filter_map (end_of timeout) rows.now) }
+{
+    let mut soonest = None;
+    for bot in rows {
+        soonest = sooner_of(soonest, end_of(timeout, bot));
+    }
+    soonest
+}
+
+/// The moment and the number of a bot's deadline, where it has come.
+pub(crate) fn if_come(moment: u64, end: Option<Deadline>) -> Option<(u64, u32)>
+    requires { IfSome end IsDeath }
+    ensures { option_map death result ≡ option_and_then (if_come moment) end }
+{
+    match end {
+        None => None,
+        Some(end) => {
+            if end.moment <= moment {
+                Some((end.moment, end.number))
+            } else {
+                None
+            }
+        }
+    }
+}
