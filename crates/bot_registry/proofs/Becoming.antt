@@ -1,10 +1,13 @@
 -- The rows after an entry.
-use Rattle.std.proofs.Common.{◌≡◌, ℕ, ◌+◌, ◌^◌, ◌≤◌, List, [], ◌∷◌, ◌++◌, map, length, append-nil, refl, sym, ap, ◌∙◌, subst, Option, Some, None, Bool, true, false, cond, arith}
+use Rattle.std.proofs.Common.{◌≡◌, ℕ, ◌+◌, ◌^◌, ◌≤◌, List, [], ◌∷◌, ◌++◌, map, length, append-nil, refl, sym, ap, ◌∙◌, subst, Option, Some, None, Bool, true, false, cond, arith, eqb-true}
 use Rattle.std.specs.Prelude.{◌==◌, ◌<◌, if◌then◌else◌, MatchOption, IfSome, ⊤}
 use Rattle.std.specs.List.{find, All}
 use Rattle.std.specs.Option.{option_map_or}
 use Rattle.std.proofs.lemmas.Bool.Decides.{nat_tests}
+use Rattle.std.proofs.lemmas.List.{map_push}
 use Rattle.std.proofs.lemmas.List.Elements.{All-map, All-weaker, All-push}
+use Rattle.dimensions.specs.declared.text.Text.{Text}
+use Rattle.dimensions.specs.declared.bot_dims.BotDims.{BotDims}
 use Rattle.swarm_model.specs.declared.bot_row.BotRow.{BotRow}
 use Rattle.swarm_model.specs.declared.attempt.Last.{Last}
 use Rattle.swarm_model.specs.declared.pool_state.PoolState.{PoolState}
@@ -18,8 +21,9 @@ use Rattle.swarm_model.specs.Finding.{is_bot}
 use Rattle.swarm_model.specs.Effects.{no_of_bot, bot_after, after, greeted, noted, freed_at, if_some, bot_at, heard, runs_task}
 use Rattle.bot_registry.specs.Plain.{Kept}
 use Rattle.bot_registry.specs.Acting.{row_of, IsNewBot, Follows}
-use Rattle.bot_registry.specs.Inside.{IsHeard, with_bot, rows_after, HasRoom}
-use Rattle.bot_registry.proofs.Numbered.{numbered-map, numbered-push}
+use Rattle.bot_registry.specs.Inside.{IsHeard, with_bot, rows_after, HasRoom, IsNextBot, FollowsIn}
+use Rattle.bot_registry.specs.Names.{name_of, AreByName}
+use Rattle.bot_registry.proofs.Numbered.{find_before, numbered-map, numbered-push}
 
 -- the rows are those of every pool that had the rows before
 pub rows_after-is : (s : PoolState) (moment pass : ℕ) (k : EntryKind) → rows_after moment k s.bots ≡ (after s (record { moment = moment; pass = pass; kind = k })).bots
@@ -98,6 +102,93 @@ after_no moment (kind.Update b t try_no chunk last) bot = freed_no b last (bot_a
 after_no moment (kind.Terminate b) bot = if_no (bot.no == b) _ bot refl
 after_no moment k bot = refl
 
+-- ---- the names stay
+
+if_name : (b : Bool) (x y : BotRow) → x.name ≡ y.name → (if b then x else y).name ≡ y.name
+if_name true x y e = e
+if_name false x y e = refl
+
+noted_name : (moment : ℕ) (e : EventKind) (text : List ℕ) (bot : BotRow) → (noted moment e text bot).name ≡ bot.name
+noted_name moment event.Ping text bot = refl
+noted_name moment event.Quarantine text bot = refl
+noted_name moment event.Unquarantine text bot = refl
+
+freed_name : (b : ℕ) (last : Option Last) (bot : BotRow) → (if_some (freed_at b) last bot).name ≡ bot.name
+freed_name b None bot = refl
+freed_name b (Some last) bot = if_name (bot.no == b) _ bot refl
+
+-- every entry but a handshake
+abbrev pub IsOther : EntryKind → Type 0
+IsOther (kind.Handshake b id session dims q) = ⊥
+IsOther k = ⊤
+
+after_name : (moment : ℕ) (k : EntryKind) → IsOther k → (bot : BotRow) → (bot_after moment k bot).name ≡ bot.name
+after_name moment (kind.Silence t) other bot = if_name (runs_task t bot) _ bot refl
+after_name moment (kind.Dead b) other bot = if_name (bot.no == b) _ bot refl
+after_name moment (kind.Handshake b id session dims q) other bot = absurd other
+after_name moment (kind.Poll b dims q hint) other bot = if_name (bot.no == b) _ bot refl
+after_name moment (kind.Claim b t claim) other bot = if_name (bot.no == b) _ bot refl
+after_name moment (kind.Contact b) other bot = if_name (bot.no == b) _ bot refl
+after_name moment (kind.Event b e text) other bot = if_name (bot.no == b) _ bot (noted_name moment e text bot)
+after_name moment (kind.Update b t try_no chunk last) other bot = freed_name b last (bot_at b (heard moment) bot) ∙ if_name (bot.no == b) _ bot refl
+after_name moment (kind.Terminate b) other bot = if_name (bot.no == b) _ bot refl
+after_name moment k other bot = refl
+
+-- what a change keeps of each row stays as a list
+kept_of_all : {A : Type 0} (of : BotRow → A) (f : BotRow → BotRow) → ((bot : BotRow) → of (f bot) ≡ of bot) → (rows : List BotRow) → map of (map f rows) ≡ map of rows
+kept_of_all of f keeps [] = refl
+kept_of_all of f keeps (row ∷ rows) = let head = keeps row in let tail = kept_of_all of f keeps rows in cc
+
+-- the numbers and the names of the rows stay
+pub record Stays (old new : List BotRow) : Type 0 where
+  pub numbers : map no_of_bot new ≡ map no_of_bot old
+  pub names : map name_of new ≡ map name_of old
+
+rows_after-other : (moment : ℕ) (k : EntryKind) → IsOther k → (rows : List BotRow) → rows_after moment k rows ≡ map (bot_after moment k) rows
+rows_after-other moment (kind.Handshake b id session dims q) other rows = absurd other
+rows_after-other moment k other rows = refl
+
+pub other_stays : (moment : ℕ) (k : EntryKind) → IsOther k → (rows : List BotRow) → Stays rows (rows_after moment k rows)
+other_stays moment k other rows = rw (rows_after-other moment k other rows) (record {
+  numbers = kept_of_all no_of_bot (bot_after moment k) (after_no moment k) rows;
+  names = kept_of_all name_of (bot_after moment k) (after_name moment k other) rows;
+})
+
+-- a change at a number puts in the row of the bot's own name
+renamed : (n b : ℕ) (row : BotRow) (rows : List BotRow) → AreNumbered no_of_bot n rows → MatchOption (find (is_bot b) rows) ⊤ (λ bot. bot.name ≡ row.name) →
+    map name_of (map (change_at no_of_bot b (λ old. row)) rows) ≡ map name_of rows
+renamed n b row [] numbered same = refl
+renamed n b row (first ∷ rows) numbered same =
+    by_test (first.no == b) refl same (renamed (n + 1) b row rows numbered.1)
+  where
+    by_test : (t : Bool) → (first.no == b) ≡ t → MatchOption (cond t (Some first) (find (is_bot b) rows)) ⊤ (λ bot. bot.name ≡ row.name) →
+        (MatchOption (find (is_bot b) rows) ⊤ (λ bot. bot.name ≡ row.name) → map name_of (map (change_at no_of_bot b (λ old. row)) rows) ≡ map name_of rows) →
+        (cond t row first).name ∷ map name_of (map (change_at no_of_bot b (λ old. row)) rows) ≡ first.name ∷ map name_of rows
+    by_test true test same rest =
+        let is : first.no ≡ b = eqb-true first.no b test in
+        let above : b < n + 1 = omega (arith, numbered.0) in
+        let others = ap (λ (xs : List BotRow). map name_of xs) (none_at b (λ old. row) rows (find_before (n + 1) b rows numbered.1 above)) in
+        let name = sym same in cc (name, others)
+    by_test false test same rest = ap (λ (others : List (List ℕ)). first.name ∷ others) (rest same)
+
+pub known_stays : (row known : BotRow) (rows : List BotRow) → AreNumbered no_of_bot 1 rows → row_of rows row.no ≡ Some known → known.name ≡ row.name → Stays rows (with_bot row rows)
+known_stays row known rows numbered is same = rw (with_bot-known row known rows is) (record {
+  numbers = kept_of_all no_of_bot (change_at no_of_bot row.no (λ old. row)) (λ bot. own_no row.no row bot refl) rows;
+  names = renamed 1 row.no row rows numbered (subst (λ (o : Option BotRow). MatchOption o ⊤ (λ bot. bot.name ≡ row.name)) (sym is) same);
+})
+
+-- the numbers that are sorted by name serve for the rows after the entry
+pub still_named : (old new : List BotRow) (sorted : List ℕ) → Stays old new → AreByName (map no_of_bot old) (map name_of old) sorted → AreByName (map no_of_bot new) (map name_of new) sorted
+still_named old new sorted stays named = rw (stays.numbers, stays.names) named
+
+pub new_named : (row : BotRow) (rows : List BotRow) (sorted : List ℕ) → row_of rows row.no ≡ None → AreByName (map no_of_bot rows ++ row.no ∷ []) (map name_of rows ++ row.name ∷ []) sorted →
+    AreByName (map no_of_bot (with_bot row rows)) (map name_of (with_bot row rows)) sorted
+new_named row rows sorted none named = rw (with_bot-new row rows none, map_push no_of_bot rows row, map_push name_of rows row) named
+
+pub other_kind : (k : EntryKind) → ((b : ℕ) (id session : Text) (dims : BotDims) (q : Text) → k ≡ kind.Handshake b id session dims q → ⊥) → IsOther k
+other_kind (kind.Handshake b id session dims q) other = absurd (other b id session dims q refl)
+other_kind k other = tt
+
 -- ---- each bot is heard at an early moment
 
 if_heard : (b : Bool) (x y : BotRow) → IsHeard x → IsHeard y → IsHeard (if b then x else y)
@@ -161,13 +252,21 @@ rows_stay moment k kept early follows old =
     record { numbered = numbered_after moment k kept.rows old.numbered; heard = heard_after moment k kept.rows early old.heard }
 
 -- where a handshake needs room, there may be one bot more
-pub room_for : (kept : Kept) (k : EntryKind) (len capacity : ℕ) → len ≡ length kept.rows → Follows kept k → (len < kept.most → len < capacity) → HasRoom kept.rows len capacity k
-room_for kept (kind.Handshake b id session dims q) len capacity is follows room = by_row (row_of kept.rows b) follows
+pub room_for : (kept : Kept) (k : EntryKind) (len capacity : ℕ) → Follows kept k → (length kept.rows < kept.most → len < capacity) → HasRoom kept.rows len capacity k
+room_for kept (kind.Handshake b id session dims q) len capacity follows room = by_row (row_of kept.rows b) follows
   where
     by_row : (o : Option BotRow) → MatchOption o (IsNewBot kept b id) (λ bot. bot.name ≡ id) → MatchOption o (len < capacity) (λ bot. ⊤)
-    by_row None new = room (rw is new.few)
+    by_row None new = room new.few
     by_row (Some bot) same = tt
-room_for kept k len capacity is follows room = tt
+room_for kept k len capacity follows room = tt
+
+pub follows_in : (kept : Kept) (k : EntryKind) (len capacity : ℕ) → Follows kept k → (length kept.rows < kept.most → len < capacity) → FollowsIn kept.rows len capacity k
+follows_in kept (kind.Handshake b id session dims q) len capacity follows room = by_row (row_of kept.rows b) follows
+  where
+    by_row : (o : Option BotRow) → MatchOption o (IsNewBot kept b id) (λ bot. bot.name ≡ id) → MatchOption o (IsNextBot kept.rows len capacity b id) (λ bot. bot.name ≡ id)
+    by_row None new = record { next = new.next; fresh = new.fresh; room = room new.few }
+    by_row (Some bot) same = same
+follows_in kept k len capacity follows room = tt
 
 pub ready_is : (o : Option Entry) (copy e : Entry) → o ≡ Some copy → o ≡ Some e → copy ≡ e
 ready_is o copy e is made = let same : Some copy ≡ Some e = sym is ∙ made in cc

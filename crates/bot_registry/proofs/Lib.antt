@@ -2,3 +2,4 @@ mod Numbered
 mod Lent
 mod Becoming
 mod Folding
+mod Named

@@ -9,7 +9,7 @@ use Rattle.swarm_model.specs.Finding.{is_bot}
 use Rattle.swarm_model.specs.Effects.{no_of_bot}
 use Rattle.bot_registry.specs.Acting.{row_of}
 
-find_before : (n m : ℕ) (rows : List BotRow) → AreNumbered no_of_bot n rows → m < n → find (is_bot m) rows ≡ None
+pub find_before : (n m : ℕ) (rows : List BotRow) → AreNumbered no_of_bot n rows → m < n → find (is_bot m) rows ≡ None
 find_before n m [] c below = refl
 find_before n m (row ∷ rows) c below =
     let h : row.no ≡ n = c.0 in

@@ -1,5 +1,5 @@
 -- What a registry keeps, and what holds of it.
-use Rattle.std.specs.Prelude.{◌≡◌, ℕ, ◌+◌, ◌^◌, ◌<◌, ◌≤◌, List, [], ◌∷◌, ◌++◌, map, Option, Some, None, IfSome, MatchOption, ⊤, vec_len, vec_capacity, if◌then◌else◌}
+use Rattle.std.specs.Prelude.{◌≡◌, ℕ, ◌+◌, ◌^◌, ◌<◌, ◌≤◌, List, [], ◌∷◌, ◌++◌, map, length, Option, Some, None, IfSome, MatchOption, ⊤, vec_len, vec_capacity, if◌then◌else◌}
 use Rattle.std.specs.List.{All}
 use Rattle.std.specs.Option.{option_map_or}
 use Rattle.swarm_model.specs.declared.bot_row.BotRow.{BotRow}
@@ -11,7 +11,8 @@ use Rattle.swarm_model.specs.Numbers.{AreNumbered, change_at}
 use Rattle.swarm_model.specs.Effects.{no_of_bot, runs_task, hushed, bot_after, greeted}
 use Rattle.bot_registry.specs.declared.registry.Registry.TheInside.{Inside}
 use Rattle.bot_registry.specs.Plain.{Kept}
-use Rattle.bot_registry.specs.Acting.{row_of}
+use Rattle.bot_registry.specs.Acting.{row_of, row_named}
+use Rattle.bot_registry.specs.Names.{name_of, AreByName}
 
 abbrev pub kept_of : Inside → Kept
 kept_of registry =
@@ -21,12 +22,19 @@ kept_of registry =
 abbrev pub IsHeard : BotRow → Type 0
 IsHeard bot = bot.contact ≤ 2 ^ 40
 
--- the rows are numbered by their places, each bot was heard at an early moment, and where an entry
--- is ready and there may be one bot more, there is room for it
+-- each list has room for one bot more, where there may be one
+pub record HasPlaces (rows most row_len row_room number_len number_room : ℕ) : Type 0 where
+  pub row : rows < most → row_len < row_room
+  pub number : rows < most → number_len < number_room
+
+-- the rows are numbered by their places, each bot was heard at an early moment, the numbers are
+-- known by name, and where an entry is ready, there is room for it
 pub record IsKept (registry : Inside) : Type 0 where
   pub numbered : AreNumbered no_of_bot 1 registry.rows.items
   pub heard : All IsHeard registry.rows.items
-  pub prepared : IfSome registry.ready (λ entry. vec_len registry.rows < registry.most → vec_len registry.rows < vec_capacity registry.rows)
+  pub named : AreByName (map no_of_bot registry.rows.items) (map name_of registry.rows.items) registry.by_name.items
+  pub prepared : IfSome registry.ready (λ entry.
+      HasPlaces (length registry.rows.items) registry.most (vec_len registry.rows) (vec_capacity registry.rows) (vec_len registry.by_name) (vec_capacity registry.by_name))
 
 abbrev pub hushed_if : ℕ → BotRow → BotRow
 hushed_if number bot = if runs_task number bot then hushed bot else bot
@@ -52,3 +60,14 @@ end_of timeout bot = if bot.dead then None else Some (record { moment = bot.cont
 -- the deadline is a bot's
 abbrev pub IsDeath : Deadline → Type 0
 IsDeath d = d.cause ≡ cause.Bot
+
+-- a new bot has the next number and a new name, and there is room for its number
+pub record IsNextBot (rows : List BotRow) (len capacity number : ℕ) (name : List ℕ) : Type 0 where
+  pub next : number ≡ length rows + 1
+  pub fresh : row_named rows name ≡ None
+  pub room : len < capacity
+
+-- a handshake names a bot that is there, or the next one
+abbrev pub FollowsIn : List BotRow → ℕ → ℕ → EntryKind → Type 0
+FollowsIn rows len capacity (kind.Handshake b id session dims q) = MatchOption (row_of rows b) (IsNextBot rows len capacity b id) (λ bot. bot.name ≡ id)
+FollowsIn rows len capacity entry = ⊤

@@ -1,4 +1,5 @@
 pub mod Plain
 pub mod Acting
 pub mod Silence
+pub mod Names
 pub mod Inside

@@ -9,6 +9,7 @@
 #![tactic(auto)]
 
 mod acting;
+mod names;
 mod registry;
 mod scans;
 mod silence;

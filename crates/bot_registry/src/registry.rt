@@ -7,7 +7,7 @@ ghost use Rattle.bot_registry.specs.Acting.{row_of, row_named, IsAfter, Follows}
 ghost use Rattle.bot_registry.specs.Silence.{IsDueDeath};
 
 use crate::acting::act;
-use crate::{scans, silence};
+use crate::{names, scans, silence};
 use dimensions::{DimSet, Text, TryCopy};
 use std::alloc::{AllocError, Global};
 use std::marker::Model;
@@ -21,6 +21,8 @@ pub struct Registry {
     most: u32,
     death_timeout: u32,
     rows: Vec<BotRow>,
+    /// The numbers of the rows, sorted by name.
+    by_name: Vec<u32>,
     ready: Option<Entry>,
 }
 
@@ -47,6 +49,7 @@ impl Registry {
             most,
             death_timeout,
             rows: Vec::new(alloc),
+            by_name: Vec::new(alloc),
             ready: None,
         }
     }
@@ -55,7 +58,7 @@ impl Registry {
     pub fn number(&self, name: &Text) -> Option<u32>
         ensures { result ≡ option_map no_of_bot (row_named self.now.rows name.now) }
     {
-        scans::number_of(&self.rows, name)
+        names::number_of(&self.rows, &self.by_name, name)
     }
 
     /// The row of the bot of a number.
@@ -88,6 +91,7 @@ impl Registry {
         drop(self.ready.take());
         if self.rows.len() < self.most as usize {
             self.rows.reserve(1)?;
+            self.by_name.reserve(1)?;
         }
         let copy = entry.try_copy(self.alloc)?;
         drop(mem::replace(&mut self.ready, Some(copy)));
@@ -110,6 +114,7 @@ impl Registry {
                     pass: _,
                     kind,
                 } = copy;
+                names::follow(&self.rows, &mut self.by_name, &kind);
                 act(&mut self.rows, self.alloc, moment, kind);
             }
         }

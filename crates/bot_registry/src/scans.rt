@@ -1,14 +1,13 @@
 //! Look-ups among the rows.
 ghost use Rattle.std.specs.Prelude.{◌≡◌};
-ghost use Rattle.std.specs.List.{find, list_any};
-ghost use Rattle.std.specs.Option.{option_copied, option_map};
+ghost use Rattle.std.specs.List.{list_any};
+ghost use Rattle.std.specs.Option.{option_copied};
 ghost use Rattle.swarm_model.specs.Numbers.{AreNumbered};
-ghost use Rattle.swarm_model.specs.Finding.{is_called};
 ghost use Rattle.swarm_model.specs.Slices.{is_fit, could_run};
 ghost use Rattle.swarm_model.specs.Effects.{no_of_bot};
-ghost use Rattle.bot_registry.specs.Acting.{row_of, row_named};
+ghost use Rattle.bot_registry.specs.Acting.{row_of};
 
-use dimensions::{DimSet, Text};
+use dimensions::DimSet;
 use swarm_model::BotRow;
 
 /// The row of a number, at its place.
@@ -20,28 +19,6 @@ pub(crate) fn row_of(rows: &[BotRow], number: u32) -> Option<&BotRow>
         return None;
     }
     rows.get(number as usize - 1)
-}
-
-fn is_called(name: &Text, bot: &BotRow) -> bool
-    ensures { result ≡ is_called name.now bot.now }
-{
-    bot.name == *name
-}
-
-fn row_named<'a>(rows: &'a [BotRow], name: &Text) -> Option<&'a BotRow>
-    ensures { option_copied result ≡ row_named rows.now name.now }
-{
-    rows.iter().find(|bot| is_called(name, bot))
-}
-
-/// The number of the bot of a name.
-pub(crate) fn number_of(rows: &[BotRow], name: &Text) -> Option<u32>
-    ensures { result ≡ option_map no_of_bot (row_named rows.now name.now) }
-{
-    match row_named(rows, name) {
-        None => None,
-        Some(bot) => Some(bot.no),
-    }
 }
 
 /// Whether the bot may take work, now or once it is done with what it runs.

@@ -1,5 +1,5 @@
 -- What was reserved is what is applied.
-use Rattle.std.proofs.Common.{rules, sym, ap, ◌∙◌, List, subst, ◌≤◌, ◌^◌}
+use Rattle.std.proofs.Common.{sym, ap, ◌∙◌, List, subst, ◌≤◌, ◌^◌}
 use Rattle.std.specs.Prelude.{vec_len, vec_capacity}
 use Rattle.swarm_model.specs.declared.entry.Entry.{Entry}
 use Rattle.swarm_model.specs.declared.bot_row.BotRow.{BotRow}
@@ -7,7 +7,7 @@ use Rattle.bot_registry.specs.Plain.{Kept}
 use Rattle.bot_registry.specs.Acting.{Follows}
 use Rattle.swarm_model.specs.Effects.{after}
 use Rattle.bot_registry.specs.Inside.{kept_of, rows_after}
-use Rattle.bot_registry.proofs.Becoming.{rows_stay, room_for, rows_after-is, ready_is, room_of}
+use Rattle.bot_registry.proofs.Becoming.{rows_stay, room_for, follows_in, rows_after-is, ready_is, room_of}
 use Rattle.bot_registry.proofs.registry.Registry.apply.Goals as goal
 
 pub act-requires-clause-room : goal.act-requires-clause-room
@@ -15,8 +15,16 @@ act-requires-clause-room c =
     let is = sym c.take.ensures.value ∙ c.in-Some.is in
     let same = ready_is c.self.inside.ready c.in-Some.copy c.args.entry.now is (ap (λ (k : Kept). k.ready) c.self.view_is ∙ c.requires.ready) in
     let follows = subst (λ (e : Entry). Follows (kept_of c.self.inside) e.kind) (sym same) (rw (← c.self.view_is) at c.requires.follows) in
-    room_for (kept_of c.self.inside) c.in-Some.copy.kind (vec_len c.self.inside.rows) (vec_capacity c.self.inside.rows) (search rules) follows
-    (room_of c.self.inside.ready c.in-Some.copy is c.self.invariant.prepared)
+    room_for (kept_of c.self.inside) c.in-Some.copy.kind (vec_len c.self.inside.rows) (vec_capacity c.self.inside.rows) follows
+    (room_of c.self.inside.ready c.in-Some.copy is c.self.invariant.prepared).row
+
+pub follow-requires-clause-follows : goal.follow-requires-clause-follows
+follow-requires-clause-follows c =
+    let is = sym c.take.ensures.value ∙ c.in-Some.is in
+    let same = ready_is c.self.inside.ready c.in-Some.copy c.args.entry.now is (ap (λ (k : Kept). k.ready) c.self.view_is ∙ c.requires.ready) in
+    let follows = subst (λ (e : Entry). Follows (kept_of c.self.inside) e.kind) (sym same) (rw (← c.self.view_is) at c.requires.follows) in
+    rw c.deref.ensures.value (follows_in (kept_of c.self.inside) c.in-Some.copy.kind (vec_len c.self.inside.by_name) (vec_capacity c.self.inside.by_name) follows
+    (room_of c.self.inside.ready c.in-Some.copy is c.self.invariant.prepared).number)
 
 pub invariant_of-self : goal.invariant_of-self
 invariant_of-self c =
@@ -29,6 +37,7 @@ invariant_of-self c =
     record {
       numbered = rw c.act.ensures all.numbered;
       heard = rw c.act.ensures all.heard;
+      named = rw (c.act.ensures, ← c.deref.ensures.value) (c.follow.ensures c.in-Some.copy.moment);
       prepared = rw c.take.ensures.after tt;
     }
 
