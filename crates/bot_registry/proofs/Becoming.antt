@@ -5,7 +5,7 @@ use Rattle.std.specs.List.{find, All}
 use Rattle.std.specs.Option.{option_map_or}
 use Rattle.std.proofs.lemmas.Bool.Decides.{nat_tests}
 use Rattle.std.proofs.lemmas.List.{map_push}
-use Rattle.std.proofs.lemmas.List.Elements.{All-map, All-weaker, All-push}
+use Rattle.std.proofs.lemmas.List.Elements.{All-map, All-weaker, All-push, All-append, All-cons, All-nil}
 use Rattle.dimensions.specs.declared.text.Text.{Text}
 use Rattle.dimensions.specs.declared.bot_dims.BotDims.{BotDims}
 use Rattle.swarm_model.specs.declared.bot_row.BotRow.{BotRow}
@@ -21,8 +21,9 @@ use Rattle.swarm_model.specs.Finding.{is_bot}
 use Rattle.swarm_model.specs.Effects.{no_of_bot, bot_after, after, greeted, noted, freed_at, if_some, bot_at, heard, runs_task}
 use Rattle.bot_registry.specs.Plain.{Kept}
 use Rattle.bot_registry.specs.Acting.{row_of, IsNewBot, Follows}
-use Rattle.bot_registry.specs.Inside.{IsHeard, with_bot, rows_after, HasRoom, IsNextBot, FollowsIn}
+use Rattle.bot_registry.specs.Inside.{IsHeard, HeardSince, with_bot, rows_after, HasRoom, IsNextBot, FollowsIn}
 use Rattle.bot_registry.specs.Names.{name_of, AreByName}
+use Rattle.bot_registry.proofs.Folding.{on_false}
 use Rattle.bot_registry.proofs.Numbered.{find_before, numbered-map, numbered-push}
 
 -- the rows are those of every pool that had the rows before
@@ -216,7 +217,48 @@ after_heard moment (kind.Update b t try_no chunk last) bot early h = freed_heard
 after_heard moment (kind.Terminate b) bot early h = if_heard (bot.no == b) _ bot h h
 after_heard moment k bot early h = h
 
--- ---- both, for all rows
+-- ---- no living bot is heard before a moment
+
+if_since : (since : ℕ) (b : Bool) (x y : BotRow) → HeardSince since x → HeardSince since y → HeardSince since (if b then x else y)
+if_since since true x y hx hy = hx
+if_since since false x y hx hy = hy
+
+noted_since : (since moment : ℕ) (e : EventKind) (text : List ℕ) (bot : BotRow) → since ≤ moment → HeardSince since (noted moment e text bot)
+noted_since since moment event.Ping text bot le = on_false (heard moment bot).dead _ le
+noted_since since moment event.Quarantine text bot le = on_false (heard moment bot).dead _ le
+noted_since since moment event.Unquarantine text bot le = on_false (heard moment bot).dead _ le
+
+freed_since : (since b : ℕ) (last : Option Last) (bot : BotRow) → HeardSince since bot → HeardSince since (if_some (freed_at b) last bot)
+freed_since since b None bot h = h
+freed_since since b (Some last) bot h = if_since since (bot.no == b) _ bot h h
+
+after_since : (since moment : ℕ) (k : EntryKind) (bot : BotRow) → since ≤ moment → HeardSince since bot → HeardSince since (bot_after moment k bot)
+after_since since moment (kind.Silence t) bot le h = if_since since (runs_task t bot) _ bot tt h
+after_since since moment (kind.Dead b) bot le h = if_since since (bot.no == b) _ bot tt h
+after_since since moment (kind.Handshake b id session dims q) bot le h = if_since since (bot.no == b) _ bot le h
+after_since since moment (kind.Poll b dims q hint) bot le h = if_since since (bot.no == b) _ bot (on_false (heard moment bot).dead _ le) h
+after_since since moment (kind.Claim b t claim) bot le h = if_since since (bot.no == b) _ bot (on_false (heard moment bot).dead _ le) h
+after_since since moment (kind.Contact b) bot le h = if_since since (bot.no == b) _ bot (on_false (heard moment bot).dead _ le) h
+after_since since moment (kind.Event b e text) bot le h = if_since since (bot.no == b) _ bot (noted_since since moment e text bot le) h
+after_since since moment (kind.Update b t try_no chunk last) bot le h =
+    freed_since since b last _ (if_since since (bot.no == b) _ bot (on_false (heard moment bot).dead _ le) h)
+after_since since moment (kind.Terminate b) bot le h = if_since since (bot.no == b) _ bot h h
+after_since since moment k bot le h = h
+
+map_since : (since moment : ℕ) (k : EntryKind) (rows : List BotRow) → since ≤ moment → All (HeardSince since) rows → All (HeardSince since) (map (bot_after moment k) rows)
+map_since since moment k rows le all =
+    All-map (HeardSince since) (bot_after moment k) rows (All-weaker (HeardSince since) (λ bot. HeardSince since (bot_after moment k bot)) (λ bot h. after_since since moment k bot le h) rows all)
+
+all_added : (P : BotRow → Type 0) (row : BotRow) (o : Option BotRow) → P row → All P (option_map_or (λ old. []) o (row ∷ []))
+all_added P row None here = All-cons P row [] here (All-nil P)
+all_added P row (Some old) here = All-nil P
+
+pub since_stays : (since moment : ℕ) (k : EntryKind) (rows : List BotRow) → since ≤ moment → All (HeardSince since) rows → All (HeardSince since) (rows_after moment k rows)
+since_stays since moment (kind.Handshake b id session dims q) rows le all =
+    All-append (HeardSince since) _ _ (map_since since moment (kind.Handshake b id session dims q) rows le all) (all_added (HeardSince since) (greeted moment b id session dims q) (row_of rows b) le)
+since_stays since moment k rows le all = map_since since moment k rows le all
+
+-- ---- numbers and early moments, for all rows
 
 pub numbered_after : (moment : ℕ) (k : EntryKind) (rows : List BotRow) → AreNumbered no_of_bot 1 rows → AreNumbered no_of_bot 1 (map (bot_after moment k) rows)
 numbered_after moment k rows numbered = numbered-map (bot_after moment k) (after_no moment k) 1 rows numbered

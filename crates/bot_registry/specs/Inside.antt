@@ -1,5 +1,6 @@
 -- What a registry keeps, and what holds of it.
 use Rattle.std.specs.Prelude.{◌≡◌, ℕ, ◌+◌, ◌^◌, ◌<◌, ◌≤◌, List, [], ◌∷◌, ◌++◌, map, length, Option, Some, None, IfSome, MatchOption, ⊤, vec_len, vec_capacity, if◌then◌else◌}
+use Rattle.std.specs.Bool.{OnFalse}
 use Rattle.std.specs.List.{All}
 use Rattle.std.specs.Option.{option_map_or}
 use Rattle.swarm_model.specs.declared.bot_row.BotRow.{BotRow}
@@ -22,17 +23,23 @@ kept_of registry =
 abbrev pub IsHeard : BotRow → Type 0
 IsHeard bot = bot.contact ≤ 2 ^ 40
 
+-- a bot that isn't dead was heard at the moment or after it
+abbrev pub HeardSince : ℕ → BotRow → Type 0
+HeardSince moment bot = OnFalse bot.dead (moment ≤ bot.contact)
+
 -- each list has room for one bot more, where there may be one
 pub record HasPlaces (rows most row_len row_room number_len number_room : ℕ) : Type 0 where
   pub row : rows < most → row_len < row_room
   pub number : rows < most → number_len < number_room
 
 -- the rows are numbered by their places, each bot was heard at an early moment, the numbers are
--- known by name, and where an entry is ready, there is room for it
+-- known by name, no living bot was heard before a moment, and where an entry is ready, there is room for it
 pub record IsKept (registry : Inside) : Type 0 where
   pub numbered : AreNumbered no_of_bot 1 registry.rows.items
   pub heard : All IsHeard registry.rows.items
   pub named : AreByName (map no_of_bot registry.rows.items) (map name_of registry.rows.items) registry.by_name.items
+  pub early : registry.heard_since ≤ 2 ^ 40
+  pub since : All (HeardSince registry.heard_since) registry.rows.items
   pub prepared : IfSome registry.ready (λ entry.
       HasPlaces (length registry.rows.items) registry.most (vec_len registry.rows) (vec_capacity registry.rows) (vec_len registry.by_name) (vec_capacity registry.by_name))
 

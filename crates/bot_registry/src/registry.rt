@@ -23,6 +23,8 @@ pub struct Registry {
     rows: Vec<BotRow>,
     /// The numbers of the rows, sorted by name.
     by_name: Vec<u32>,
+    /// No bot that isn't dead was last heard before this moment.
+    heard_since: u64,
     ready: Option<Entry>,
 }
 
@@ -50,6 +52,7 @@ impl Registry {
             death_timeout,
             rows: Vec::new(alloc),
             by_name: Vec::new(alloc),
+            heard_since: 0,
             ready: None,
         }
     }
@@ -80,6 +83,9 @@ impl Registry {
     pub fn first_silence(&self, moment: u64) -> Option<(u64, u32)>
         ensures { IsDueDeath self.now moment result }
     {
+        if moment < self.heard_since + u64::from(self.death_timeout) {
+            return None;
+        }
         silence::if_come(moment, silence::first_end(&self.rows, self.death_timeout))
     }
 
@@ -116,6 +122,13 @@ impl Registry {
                 } = copy;
                 names::follow(&self.rows, &mut self.by_name, &kind);
                 act(&mut self.rows, self.alloc, moment, kind);
+                let since = self.heard_since.min(moment);
+                self.heard_since = silence::heard_since(
+                    &self.rows,
+                    since,
+                    self.death_timeout,
+                    moment,
+                );
             }
         }
     }

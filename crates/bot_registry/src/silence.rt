@@ -1,10 +1,10 @@
 //! The first bot that was silent for too long.
-ghost use Rattle.std.specs.Prelude.{◌≡◌, None, IfSome};
+ghost use Rattle.std.specs.Prelude.{◌≡◌, ◌≤◌, ◌^◌, None, IfSome};
 ghost use Rattle.std.specs.List.{fold, filter_map, All};
 ghost use Rattle.std.specs.Option.{option_map, option_and_then, option_to_list};
 ghost use Rattle.swarm_model.specs.Deadlines.{rank, is_earlier, earlier, sooner, if_come};
 ghost use Rattle.bot_registry.specs.Silence.{death};
-ghost use Rattle.bot_registry.specs.Inside.{IsHeard, IsDeath, end_of};
+ghost use Rattle.bot_registry.specs.Inside.{IsHeard, HeardSince, IsDeath, end_of};
 
 use swarm_model::{BotRow, Cause, Deadline};
 
@@ -75,6 +75,45 @@ pub(crate) fn first_end(rows: &[BotRow], timeout: u32) -> Option<Deadline>
         soonest = sooner_of(soonest, end_of(timeout, bot));
     }
     soonest
+}
+
+/// The moment, or that at which the bot was heard, where that was before it.
+fn earlier_contact(moment: u64, bot: &BotRow) -> u64
+    ensures less { result ≤ moment }
+    ensures since { HeardSince result bot.now }
+{
+    if bot.dead {
+        moment
+    } else {
+        moment.min(bot.contact)
+    }
+}
+
+/// A moment up to this one, before which no living bot was last heard.
+fn first_contact(rows: &[BotRow], moment: u64) -> u64
+    ensures less { result ≤ moment }
+    ensures since { All (HeardSince result) rows.now }
+{
+    let mut since = moment;
+    for bot in rows {
+        since = earlier_contact(since, bot);
+    }
+    since
+}
+
+/// The moment, which is looked up anew where a bot that was heard then would be dead by now.
+pub(crate) fn heard_since(rows: &[BotRow], since: u64, timeout: u32, now: u64) -> u64
+    requires not_later { since ≤ now }
+    requires early { now ≤ 2 ^ 40 }
+    requires since { All (HeardSince since) rows.now }
+    ensures not_later { result ≤ now }
+    ensures since { All (HeardSince result) rows.now }
+{
+    if since + u64::from(timeout) <= now {
+        first_contact(rows, now)
+    } else {
+        since
+    }
 }
 
 /// The moment and the number of a bot's deadline, where it has come.

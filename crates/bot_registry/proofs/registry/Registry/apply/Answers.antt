@@ -1,5 +1,5 @@
 -- What was reserved is what is applied.
-use Rattle.std.proofs.Common.{sym, ap, ◌∙◌, List, subst, ◌≤◌, ◌^◌}
+use Rattle.std.proofs.Common.{arith, sym, ap, ◌∙◌, List, subst, ◌≤◌, ◌^◌}
 use Rattle.std.specs.Prelude.{vec_len, vec_capacity}
 use Rattle.swarm_model.specs.declared.entry.Entry.{Entry}
 use Rattle.swarm_model.specs.declared.bot_row.BotRow.{BotRow}
@@ -7,7 +7,8 @@ use Rattle.bot_registry.specs.Plain.{Kept}
 use Rattle.bot_registry.specs.Acting.{Follows}
 use Rattle.swarm_model.specs.Effects.{after}
 use Rattle.bot_registry.specs.Inside.{kept_of, rows_after}
-use Rattle.bot_registry.proofs.Becoming.{rows_stay, room_for, follows_in, rows_after-is, ready_is, room_of}
+use Rattle.bot_registry.proofs.Becoming.{rows_stay, since_stays, room_for, follows_in, rows_after-is, ready_is, room_of}
+use Rattle.bot_registry.proofs.Folding.{since_weaker}
 use Rattle.bot_registry.proofs.registry.Registry.apply.Goals as goal
 
 pub act-requires-clause-room : goal.act-requires-clause-room
@@ -26,6 +27,12 @@ follow-requires-clause-follows c =
     rw c.deref.ensures.value (follows_in (kept_of c.self.inside) c.in-Some.copy.kind (vec_len c.self.inside.by_name) (vec_capacity c.self.inside.by_name) follows
     (room_of c.self.inside.ready c.in-Some.copy is c.self.invariant.prepared).number)
 
+pub heard_since-self-inside-requires-clause-since : goal.heard_since-self-inside-requires-clause-since
+heard_since-self-inside-requires-clause-since c =
+    rw (c.deref-in-Some.ensures.value, c.act.ensures)
+    (since_stays c.min-since.result c.in-Some.copy.moment c.in-Some.copy.kind c.self.inside.rows.items (omega (arith, c.min-since.ensures))
+    (since_weaker c.self.inside.heard_since c.min-since.result c.self.inside.rows.items (omega (arith, c.min-since.ensures)) c.self.invariant.since))
+
 pub invariant_of-self : goal.invariant_of-self
 invariant_of-self c =
     let is = sym c.take.ensures.value ∙ c.in-Some.is in
@@ -38,6 +45,8 @@ invariant_of-self c =
       numbered = rw c.act.ensures all.numbered;
       heard = rw c.act.ensures all.heard;
       named = rw (c.act.ensures, ← c.deref.ensures.value) (c.follow.ensures c.in-Some.copy.moment);
+      early = omega (arith, early, c.heard_since-self-inside.ensures.not_later);
+      since = rw c.deref-in-Some.ensures.value at c.heard_since-self-inside.ensures.since;
       prepared = rw c.take.ensures.after tt;
     }
 
