@@ -13,5 +13,7 @@ mod names;
 mod registry;
 mod scans;
 mod silence;
+#[cfg(test)]
+mod tests;
 
 pub use registry::Registry;
