@@ -1,0 +1,317 @@
+-- The rows after an entry.
+use Rattle.std.proofs.Common.{◌≡◌, ℕ, ◌+◌, ◌^◌, ◌≤◌, List, [], ◌∷◌, ◌++◌, map, length, append-nil, refl, sym, ap, ◌∙◌, subst, Option, Some, None, Bool, true, false, cond, arith, eqb-true}
+use Rattle.std.specs.Prelude.{◌==◌, ◌<◌, if◌then◌else◌, MatchOption, IfSome, ⊤}
+use Rattle.std.specs.List.{find, All}
+use Rattle.std.specs.Option.{option_map_or}
+use Rattle.std.proofs.lemmas.Bool.Decides.{nat_tests}
+use Rattle.std.proofs.lemmas.List.{map_push}
+use Rattle.std.proofs.lemmas.List.Elements.{All-map, All-weaker, All-push, All-append, All-cons, All-nil}
+use Rattle.dimensions.specs.declared.text.Text.{Text}
+use Rattle.dimensions.specs.declared.bot_dims.BotDims.{BotDims}
+use Rattle.swarm_model.specs.declared.bot_row.BotRow.{BotRow}
+use Rattle.swarm_model.specs.declared.attempt.Last.{Last}
+use Rattle.swarm_model.specs.declared.pool_state.PoolState.{PoolState}
+use Rattle.swarm_model.specs.declared.entry.Entry.{Entry}
+use Rattle.swarm_model.specs.declared.entry.EntryKind.{EntryKind}
+use Rattle.swarm_model.specs.declared.entry.EntryKind.TheVariants as kind
+use Rattle.swarm_model.specs.declared.entry.EventKind.{EventKind}
+use Rattle.swarm_model.specs.declared.entry.EventKind.TheVariants as event
+use Rattle.swarm_model.specs.Numbers.{AreNumbered, change_at}
+use Rattle.swarm_model.specs.Finding.{is_bot}
+use Rattle.swarm_model.specs.Effects.{no_of_bot, bot_after, after, greeted, noted, freed_at, if_some, bot_at, heard, runs_task}
+use Rattle.bot_registry.specs.Plain.{Kept}
+use Rattle.bot_registry.specs.Acting.{row_of, IsNewBot, Follows}
+use Rattle.bot_registry.specs.Inside.{IsHeard, HeardSince, with_bot, rows_after, HasRoom, IsNextBot, FollowsIn}
+use Rattle.bot_registry.specs.Names.{name_of, AreByName}
+use Rattle.bot_registry.proofs.Folding.{on_false}
+use Rattle.bot_registry.proofs.Numbered.{find_before, numbered-map, numbered-push}
+
+-- the rows are those of every pool that had the rows before
+pub rows_after-is : (s : PoolState) (moment pass : ℕ) (k : EntryKind) → rows_after moment k s.bots ≡ (after s (record { moment = moment; pass = pass; kind = k })).bots
+rows_after-is s moment pass (kind.Handshake b id session dims q) = refl
+rows_after-is s moment pass (kind.Silence t) = sym (append-nil _)
+rows_after-is s moment pass (kind.Dead b) = sym (append-nil _)
+rows_after-is s moment pass (kind.Poll b dims q hint) = sym (append-nil _)
+rows_after-is s moment pass (kind.Claim b t claim) = sym (append-nil _)
+rows_after-is s moment pass (kind.Contact b) = sym (append-nil _)
+rows_after-is s moment pass (kind.Event b e text) = sym (append-nil _)
+rows_after-is s moment pass (kind.Update b t try_no chunk last) = sym (append-nil _)
+rows_after-is s moment pass (kind.Terminate b) = sym (append-nil _)
+rows_after-is s moment pass (kind.Slice t to) = sym (append-nil _)
+rows_after-is s moment pass (kind.Blob n kept) = sym (append-nil _)
+rows_after-is s moment pass (kind.New t who request state slice from) = sym (append-nil _)
+rows_after-is s moment pass (kind.Cancel t) = sym (append-nil _)
+rows_after-is s moment pass (kind.Kill t) = sym (append-nil _)
+rows_after-is s moment pass (kind.Put digest size) = sym (append-nil _)
+
+-- where no bot has the number, a change at the number changes none
+none_at : (number : ℕ) (change : BotRow → BotRow) (bots : List BotRow) → find (is_bot number) bots ≡ None → map (change_at no_of_bot number change) bots ≡ bots
+none_at number change [] e = refl
+none_at number change (bot ∷ bots) e = by_test (bot.no == number) e (none_at number change bots)
+  where
+    by_test : (b : Bool) → cond b (Some bot) (find (is_bot number) bots) ≡ None → (find (is_bot number) bots ≡ None → map (change_at no_of_bot number change) bots ≡ bots) →
+        (cond b (change bot) bot ∷ map (change_at no_of_bot number change) bots) ≡ (bot ∷ bots)
+    by_test true h rest = absurd (cc (h))
+    by_test false h rest = ap (λ (others : List BotRow). bot ∷ others) (rest h)
+
+-- the row of a new bot stands behind all others, which stay
+pub with_bot-new : (row : BotRow) (rows : List BotRow) → row_of rows row.no ≡ None → with_bot row rows ≡ rows ++ row ∷ []
+with_bot-new row rows none =
+    sym (ap (λ (xs : List BotRow). xs ++ row ∷ []) (sym (none_at row.no (λ old. row) rows none))
+    ∙ ap (λ (o : Option BotRow). map (change_at no_of_bot row.no (λ old. row)) rows ++ option_map_or (λ old. []) o (row ∷ [])) (sym none))
+
+-- the row of a bot that is there stands at its place
+pub with_bot-known : (row known : BotRow) (rows : List BotRow) → row_of rows row.no ≡ Some known → with_bot row rows ≡ map (change_at no_of_bot row.no (λ old. row)) rows
+with_bot-known row known rows some =
+    ap (λ (o : Option BotRow). map (change_at no_of_bot row.no (λ old. row)) rows ++ option_map_or (λ old. []) o (row ∷ [])) some ∙ append-nil _
+
+-- two changes, one after the other
+pub map-both : (f g : BotRow → BotRow) (rows : List BotRow) → map g (map f rows) ≡ map (λ bot. g (f bot)) rows
+map-both f g [] = refl
+map-both f g (row ∷ rows) = ap (λ (others : List BotRow). g (f row) ∷ others) (map-both f g rows)
+
+-- ---- the numbers stay
+
+if_no : (b : Bool) (x y : BotRow) → x.no ≡ y.no → (if b then x else y).no ≡ y.no
+if_no true x y e = e
+if_no false x y e = refl
+
+own_no : (number : ℕ) (row bot : BotRow) → row.no ≡ number → (change_at no_of_bot number (λ old. row) bot).no ≡ bot.no
+own_no number row bot is = grind (arith, nat_tests)
+
+noted_no : (moment : ℕ) (e : EventKind) (text : List ℕ) (bot : BotRow) → (noted moment e text bot).no ≡ bot.no
+noted_no moment event.Ping text bot = refl
+noted_no moment event.Quarantine text bot = refl
+noted_no moment event.Unquarantine text bot = refl
+
+freed_no : (b : ℕ) (last : Option Last) (bot : BotRow) → (if_some (freed_at b) last bot).no ≡ bot.no
+freed_no b None bot = refl
+freed_no b (Some last) bot = if_no (bot.no == b) _ bot refl
+
+pub heard_no : (moment b : ℕ) (bot : BotRow) → (bot_at b (heard moment) bot).no ≡ bot.no
+heard_no moment b bot = if_no (bot.no == b) _ bot refl
+
+after_no : (moment : ℕ) (k : EntryKind) (bot : BotRow) → (bot_after moment k bot).no ≡ bot.no
+after_no moment (kind.Silence t) bot = if_no (runs_task t bot) _ bot refl
+after_no moment (kind.Dead b) bot = if_no (bot.no == b) _ bot refl
+after_no moment (kind.Handshake b id session dims q) bot = own_no b (greeted moment b id session dims q) bot refl
+after_no moment (kind.Poll b dims q hint) bot = if_no (bot.no == b) _ bot refl
+after_no moment (kind.Claim b t claim) bot = if_no (bot.no == b) _ bot refl
+after_no moment (kind.Contact b) bot = heard_no moment b bot
+after_no moment (kind.Event b e text) bot = if_no (bot.no == b) _ bot (noted_no moment e text bot)
+after_no moment (kind.Update b t try_no chunk last) bot = freed_no b last (bot_at b (heard moment) bot) ∙ heard_no moment b bot
+after_no moment (kind.Terminate b) bot = if_no (bot.no == b) _ bot refl
+after_no moment k bot = refl
+
+-- ---- the names stay
+
+if_name : (b : Bool) (x y : BotRow) → x.name ≡ y.name → (if b then x else y).name ≡ y.name
+if_name true x y e = e
+if_name false x y e = refl
+
+noted_name : (moment : ℕ) (e : EventKind) (text : List ℕ) (bot : BotRow) → (noted moment e text bot).name ≡ bot.name
+noted_name moment event.Ping text bot = refl
+noted_name moment event.Quarantine text bot = refl
+noted_name moment event.Unquarantine text bot = refl
+
+freed_name : (b : ℕ) (last : Option Last) (bot : BotRow) → (if_some (freed_at b) last bot).name ≡ bot.name
+freed_name b None bot = refl
+freed_name b (Some last) bot = if_name (bot.no == b) _ bot refl
+
+-- every entry but a handshake
+abbrev pub IsOther : EntryKind → Type 0
+IsOther (kind.Handshake b id session dims q) = ⊥
+IsOther k = ⊤
+
+after_name : (moment : ℕ) (k : EntryKind) → IsOther k → (bot : BotRow) → (bot_after moment k bot).name ≡ bot.name
+after_name moment (kind.Silence t) other bot = if_name (runs_task t bot) _ bot refl
+after_name moment (kind.Dead b) other bot = if_name (bot.no == b) _ bot refl
+after_name moment (kind.Handshake b id session dims q) other bot = absurd other
+after_name moment (kind.Poll b dims q hint) other bot = if_name (bot.no == b) _ bot refl
+after_name moment (kind.Claim b t claim) other bot = if_name (bot.no == b) _ bot refl
+after_name moment (kind.Contact b) other bot = if_name (bot.no == b) _ bot refl
+after_name moment (kind.Event b e text) other bot = if_name (bot.no == b) _ bot (noted_name moment e text bot)
+after_name moment (kind.Update b t try_no chunk last) other bot = freed_name b last (bot_at b (heard moment) bot) ∙ if_name (bot.no == b) _ bot refl
+after_name moment (kind.Terminate b) other bot = if_name (bot.no == b) _ bot refl
+after_name moment k other bot = refl
+
+-- what a change keeps of each row stays as a list
+kept_of_all : {A : Type 0} (of : BotRow → A) (f : BotRow → BotRow) → ((bot : BotRow) → of (f bot) ≡ of bot) → (rows : List BotRow) → map of (map f rows) ≡ map of rows
+kept_of_all of f keeps [] = refl
+kept_of_all of f keeps (row ∷ rows) = let head = keeps row in let tail = kept_of_all of f keeps rows in cc
+
+-- the numbers and the names of the rows stay
+pub record Stays (old new : List BotRow) : Type 0 where
+  pub numbers : map no_of_bot new ≡ map no_of_bot old
+  pub names : map name_of new ≡ map name_of old
+
+rows_after-other : (moment : ℕ) (k : EntryKind) → IsOther k → (rows : List BotRow) → rows_after moment k rows ≡ map (bot_after moment k) rows
+rows_after-other moment (kind.Handshake b id session dims q) other rows = absurd other
+rows_after-other moment k other rows = refl
+
+pub other_stays : (moment : ℕ) (k : EntryKind) → IsOther k → (rows : List BotRow) → Stays rows (rows_after moment k rows)
+other_stays moment k other rows = rw (rows_after-other moment k other rows) (record {
+  numbers = kept_of_all no_of_bot (bot_after moment k) (after_no moment k) rows;
+  names = kept_of_all name_of (bot_after moment k) (after_name moment k other) rows;
+})
+
+-- a change at a number puts in the row of the bot's own name
+renamed : (n b : ℕ) (row : BotRow) (rows : List BotRow) → AreNumbered no_of_bot n rows → MatchOption (find (is_bot b) rows) ⊤ (λ bot. bot.name ≡ row.name) →
+    map name_of (map (change_at no_of_bot b (λ old. row)) rows) ≡ map name_of rows
+renamed n b row [] numbered same = refl
+renamed n b row (first ∷ rows) numbered same =
+    by_test (first.no == b) refl same (renamed (n + 1) b row rows numbered.1)
+  where
+    by_test : (t : Bool) → (first.no == b) ≡ t → MatchOption (cond t (Some first) (find (is_bot b) rows)) ⊤ (λ bot. bot.name ≡ row.name) →
+        (MatchOption (find (is_bot b) rows) ⊤ (λ bot. bot.name ≡ row.name) → map name_of (map (change_at no_of_bot b (λ old. row)) rows) ≡ map name_of rows) →
+        (cond t row first).name ∷ map name_of (map (change_at no_of_bot b (λ old. row)) rows) ≡ first.name ∷ map name_of rows
+    by_test true test same rest =
+        let is : first.no ≡ b = eqb-true first.no b test in
+        let above : b < n + 1 = omega (arith, numbered.0) in
+        let others = ap (λ (xs : List BotRow). map name_of xs) (none_at b (λ old. row) rows (find_before (n + 1) b rows numbered.1 above)) in
+        let name = sym same in cc (name, others)
+    by_test false test same rest = ap (λ (others : List (List ℕ)). first.name ∷ others) (rest same)
+
+pub known_stays : (row known : BotRow) (rows : List BotRow) → AreNumbered no_of_bot 1 rows → row_of rows row.no ≡ Some known → known.name ≡ row.name → Stays rows (with_bot row rows)
+known_stays row known rows numbered is same = rw (with_bot-known row known rows is) (record {
+  numbers = kept_of_all no_of_bot (change_at no_of_bot row.no (λ old. row)) (λ bot. own_no row.no row bot refl) rows;
+  names = renamed 1 row.no row rows numbered (subst (λ (o : Option BotRow). MatchOption o ⊤ (λ bot. bot.name ≡ row.name)) (sym is) same);
+})
+
+-- the numbers that are sorted by name serve for the rows after the entry
+pub still_named : (old new : List BotRow) (sorted : List ℕ) → Stays old new → AreByName (map no_of_bot old) (map name_of old) sorted → AreByName (map no_of_bot new) (map name_of new) sorted
+still_named old new sorted stays named = rw (stays.numbers, stays.names) named
+
+pub new_named : (row : BotRow) (rows : List BotRow) (sorted : List ℕ) → row_of rows row.no ≡ None → AreByName (map no_of_bot rows ++ row.no ∷ []) (map name_of rows ++ row.name ∷ []) sorted →
+    AreByName (map no_of_bot (with_bot row rows)) (map name_of (with_bot row rows)) sorted
+new_named row rows sorted none named = rw (with_bot-new row rows none, map_push no_of_bot rows row, map_push name_of rows row) named
+
+pub other_kind : (k : EntryKind) → ((b : ℕ) (id session : Text) (dims : BotDims) (q : Text) → k ≡ kind.Handshake b id session dims q → ⊥) → IsOther k
+other_kind (kind.Handshake b id session dims q) other = absurd (other b id session dims q refl)
+other_kind k other = tt
+
+-- ---- each bot is heard at an early moment
+
+if_heard : (b : Bool) (x y : BotRow) → IsHeard x → IsHeard y → IsHeard (if b then x else y)
+if_heard true x y hx hy = hx
+if_heard false x y hx hy = hy
+
+noted_heard : (moment : ℕ) (e : EventKind) (text : List ℕ) (bot : BotRow) → moment ≤ 2 ^ 40 → IsHeard (noted moment e text bot)
+noted_heard moment event.Ping text bot early = early
+noted_heard moment event.Quarantine text bot early = early
+noted_heard moment event.Unquarantine text bot early = early
+
+freed_heard : (b : ℕ) (last : Option Last) (bot : BotRow) → IsHeard bot → IsHeard (if_some (freed_at b) last bot)
+freed_heard b None bot h = h
+freed_heard b (Some last) bot h = if_heard (bot.no == b) _ bot h h
+
+after_heard : (moment : ℕ) (k : EntryKind) (bot : BotRow) → moment ≤ 2 ^ 40 → IsHeard bot → IsHeard (bot_after moment k bot)
+after_heard moment (kind.Silence t) bot early h = if_heard (runs_task t bot) _ bot h h
+after_heard moment (kind.Dead b) bot early h = if_heard (bot.no == b) _ bot h h
+after_heard moment (kind.Handshake b id session dims q) bot early h = if_heard (bot.no == b) _ bot early h
+after_heard moment (kind.Poll b dims q hint) bot early h = if_heard (bot.no == b) _ bot early h
+after_heard moment (kind.Claim b t claim) bot early h = if_heard (bot.no == b) _ bot early h
+after_heard moment (kind.Contact b) bot early h = if_heard (bot.no == b) _ bot early h
+after_heard moment (kind.Event b e text) bot early h = if_heard (bot.no == b) _ bot (noted_heard moment e text bot early) h
+after_heard moment (kind.Update b t try_no chunk last) bot early h = freed_heard b last _ (if_heard (bot.no == b) _ bot early h)
+after_heard moment (kind.Terminate b) bot early h = if_heard (bot.no == b) _ bot h h
+after_heard moment k bot early h = h
+
+-- ---- no living bot is heard before a moment
+
+if_since : (since : ℕ) (b : Bool) (x y : BotRow) → HeardSince since x → HeardSince since y → HeardSince since (if b then x else y)
+if_since since true x y hx hy = hx
+if_since since false x y hx hy = hy
+
+noted_since : (since moment : ℕ) (e : EventKind) (text : List ℕ) (bot : BotRow) → since ≤ moment → HeardSince since (noted moment e text bot)
+noted_since since moment event.Ping text bot le = on_false (heard moment bot).dead _ le
+noted_since since moment event.Quarantine text bot le = on_false (heard moment bot).dead _ le
+noted_since since moment event.Unquarantine text bot le = on_false (heard moment bot).dead _ le
+
+freed_since : (since b : ℕ) (last : Option Last) (bot : BotRow) → HeardSince since bot → HeardSince since (if_some (freed_at b) last bot)
+freed_since since b None bot h = h
+freed_since since b (Some last) bot h = if_since since (bot.no == b) _ bot h h
+
+after_since : (since moment : ℕ) (k : EntryKind) (bot : BotRow) → since ≤ moment → HeardSince since bot → HeardSince since (bot_after moment k bot)
+after_since since moment (kind.Silence t) bot le h = if_since since (runs_task t bot) _ bot tt h
+after_since since moment (kind.Dead b) bot le h = if_since since (bot.no == b) _ bot tt h
+after_since since moment (kind.Handshake b id session dims q) bot le h = if_since since (bot.no == b) _ bot le h
+after_since since moment (kind.Poll b dims q hint) bot le h = if_since since (bot.no == b) _ bot (on_false (heard moment bot).dead _ le) h
+after_since since moment (kind.Claim b t claim) bot le h = if_since since (bot.no == b) _ bot (on_false (heard moment bot).dead _ le) h
+after_since since moment (kind.Contact b) bot le h = if_since since (bot.no == b) _ bot (on_false (heard moment bot).dead _ le) h
+after_since since moment (kind.Event b e text) bot le h = if_since since (bot.no == b) _ bot (noted_since since moment e text bot le) h
+after_since since moment (kind.Update b t try_no chunk last) bot le h =
+    freed_since since b last _ (if_since since (bot.no == b) _ bot (on_false (heard moment bot).dead _ le) h)
+after_since since moment (kind.Terminate b) bot le h = if_since since (bot.no == b) _ bot h h
+after_since since moment k bot le h = h
+
+map_since : (since moment : ℕ) (k : EntryKind) (rows : List BotRow) → since ≤ moment → All (HeardSince since) rows → All (HeardSince since) (map (bot_after moment k) rows)
+map_since since moment k rows le all =
+    All-map (HeardSince since) (bot_after moment k) rows (All-weaker (HeardSince since) (λ bot. HeardSince since (bot_after moment k bot)) (λ bot h. after_since since moment k bot le h) rows all)
+
+all_added : (P : BotRow → Type 0) (row : BotRow) (o : Option BotRow) → P row → All P (option_map_or (λ old. []) o (row ∷ []))
+all_added P row None here = All-cons P row [] here (All-nil P)
+all_added P row (Some old) here = All-nil P
+
+pub since_stays : (since moment : ℕ) (k : EntryKind) (rows : List BotRow) → since ≤ moment → All (HeardSince since) rows → All (HeardSince since) (rows_after moment k rows)
+since_stays since moment (kind.Handshake b id session dims q) rows le all =
+    All-append (HeardSince since) _ _ (map_since since moment (kind.Handshake b id session dims q) rows le all) (all_added (HeardSince since) (greeted moment b id session dims q) (row_of rows b) le)
+since_stays since moment k rows le all = map_since since moment k rows le all
+
+-- ---- numbers and early moments, for all rows
+
+pub numbered_after : (moment : ℕ) (k : EntryKind) (rows : List BotRow) → AreNumbered no_of_bot 1 rows → AreNumbered no_of_bot 1 (map (bot_after moment k) rows)
+numbered_after moment k rows numbered = numbered-map (bot_after moment k) (after_no moment k) 1 rows numbered
+
+pub heard_after : (moment : ℕ) (k : EntryKind) (rows : List BotRow) → moment ≤ 2 ^ 40 → All IsHeard rows → All IsHeard (map (bot_after moment k) rows)
+heard_after moment k rows early heard =
+    All-map IsHeard (bot_after moment k) rows (All-weaker IsHeard (λ bot. IsHeard (bot_after moment k bot)) (λ bot h. after_heard moment k bot early h) rows heard)
+
+-- what holds of all rows
+pub record AreRows (rows : List BotRow) : Type 0 where
+  pub numbered : AreNumbered no_of_bot 1 rows
+  pub heard : All IsHeard rows
+
+greeted_after : (moment : ℕ) (row : BotRow) (rows : List BotRow) (o : Option BotRow) → o ≡ row_of rows row.no → MatchOption o (row.no ≡ length rows + 1) (λ bot. ⊤) → IsHeard row →
+    AreRows rows → AreRows (map (change_at no_of_bot row.no (λ old. row)) rows) → AreRows (with_bot row rows)
+greeted_after moment row rows None is next heard old all =
+    let none : with_bot row rows ≡ rows ++ row ∷ [] = with_bot-new row rows (sym is) in
+    rw none (record {
+      numbered = numbered-push 1 rows row old.numbered (omega (arith, next));
+      heard = All-push IsHeard rows row old.heard heard;
+    })
+greeted_after moment row rows (Some bot) is next heard old all = rw (with_bot-known row bot rows (sym is)) all
+
+pub rows_stay : (moment : ℕ) (k : EntryKind) (kept : Kept) → moment ≤ 2 ^ 40 → Follows kept k → AreRows kept.rows → AreRows (rows_after moment k kept.rows)
+rows_stay moment (kind.Handshake b id session dims q) kept early follows old =
+    greeted_after moment (greeted moment b id session dims q) kept.rows (row_of kept.rows b) refl (next_of (row_of kept.rows b) follows) early old
+    (record { numbered = numbered_after moment (kind.Handshake b id session dims q) kept.rows old.numbered; heard = heard_after moment (kind.Handshake b id session dims q) kept.rows early old.heard })
+  where
+    next_of : (o : Option BotRow) → MatchOption o (IsNewBot kept b id) (λ bot. bot.name ≡ id) → MatchOption o (b ≡ length kept.rows + 1) (λ bot. ⊤)
+    next_of None new = new.next
+    next_of (Some bot) same = tt
+rows_stay moment k kept early follows old =
+    record { numbered = numbered_after moment k kept.rows old.numbered; heard = heard_after moment k kept.rows early old.heard }
+
+-- where a handshake needs room, there may be one bot more
+pub room_for : (kept : Kept) (k : EntryKind) (len capacity : ℕ) → Follows kept k → (length kept.rows < kept.most → len < capacity) → HasRoom kept.rows len capacity k
+room_for kept (kind.Handshake b id session dims q) len capacity follows room = by_row (row_of kept.rows b) follows
+  where
+    by_row : (o : Option BotRow) → MatchOption o (IsNewBot kept b id) (λ bot. bot.name ≡ id) → MatchOption o (len < capacity) (λ bot. ⊤)
+    by_row None new = room new.few
+    by_row (Some bot) same = tt
+room_for kept k len capacity follows room = tt
+
+pub follows_in : (kept : Kept) (k : EntryKind) (len capacity : ℕ) → Follows kept k → (length kept.rows < kept.most → len < capacity) → FollowsIn kept.rows len capacity k
+follows_in kept (kind.Handshake b id session dims q) len capacity follows room = by_row (row_of kept.rows b) follows
+  where
+    by_row : (o : Option BotRow) → MatchOption o (IsNewBot kept b id) (λ bot. bot.name ≡ id) → MatchOption o (IsNextBot kept.rows len capacity b id) (λ bot. bot.name ≡ id)
+    by_row None new = record { next = new.next; fresh = new.fresh; room = room new.few }
+    by_row (Some bot) same = same
+follows_in kept k len capacity follows room = tt
+
+pub ready_is : (o : Option Entry) (copy e : Entry) → o ≡ Some copy → o ≡ Some e → copy ≡ e
+ready_is o copy e is made = let same : Some copy ≡ Some e = sym is ∙ made in cc
+
+pub room_of : {P : Type 0} (o : Option Entry) (copy : Entry) → o ≡ Some copy → IfSome o (λ e. P) → P
+room_of {P} o copy is room = subst (λ (x : Option Entry). IfSome x (λ e. P)) is room

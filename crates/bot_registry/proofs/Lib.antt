@@ -1,0 +1,5 @@
+mod Numbered
+mod Lent
+mod Becoming
+mod Folding
+mod Named

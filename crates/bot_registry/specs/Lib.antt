@@ -1,0 +1,5 @@
+pub mod Plain
+pub mod Acting
+pub mod Silence
+pub mod Names
+pub mod Inside

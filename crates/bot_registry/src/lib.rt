@@ -1,0 +1,19 @@
+//! The rows of a pool's bots, found by number, by name and by silence.
+//!
+//! A [`Registry`] is seen as four things (`specs/Plain.antt`): the rows, the entry that is made
+//! ready, how many bots there may be, and how long a silent one may live. Its look-ups answer as
+//! scans of the rows do, in the words of `swarm_model`, and `apply` does to the rows what the entry
+//! does to the bots of a pool. What the registry keeps beside the rows stands in the invariant of
+//! its `Model` alone. `reserve` is the only call that takes memory.
+//! It stands on `swarm_model` and is called by no crate yet; it is meant for a machine with indexes.
+#![tactic(auto)]
+
+mod acting;
+mod names;
+mod registry;
+mod scans;
+mod silence;
+#[cfg(test)]
+mod tests;
+
+pub use registry::Registry;

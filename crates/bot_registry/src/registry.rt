@@ -1,0 +1,142 @@
+ghost use Rattle.std.specs.Prelude.{◌≡◌, ◌≤◌, ◌^◌, [], length, Some, None, OnOk, OnErr};
+ghost use Rattle.std.specs.List.{list_any};
+ghost use Rattle.std.specs.Option.{option_copied, option_map};
+ghost use Rattle.swarm_model.specs.Slices.{could_run};
+ghost use Rattle.swarm_model.specs.Effects.{no_of_bot};
+ghost use Rattle.bot_registry.specs.Acting.{row_of, row_named, IsAfter, Follows};
+ghost use Rattle.bot_registry.specs.Silence.{IsDueDeath};
+
+use crate::acting::act;
+use crate::{names, scans, silence};
+use dimensions::{DimSet, Text, TryCopy};
+use std::alloc::{AllocError, Global};
+use std::marker::Model;
+use std::mem;
+use swarm_model::{BotRow, Entry};
+
+/// The rows of a pool's bots. Bots are numbered from 1 in the order in which they came.
+#[derive(Drop)]
+pub struct Registry {
+    alloc: Global,
+    most: u32,
+    death_timeout: u32,
+    rows: Vec<BotRow>,
+    /// The numbers of the rows, sorted by name.
+    by_name: Vec<u32>,
+    /// No bot that isn't dead was last heard before this moment.
+    heard_since: u64,
+    ready: Option<Entry>,
+}
+
+impl Model for Registry {
+    ghost use Rattle.bot_registry.specs.Plain.{Kept};
+
+    ghost Value = { Kept };
+
+    ghost use Rattle.bot_registry.specs.Inside.{kept_of, IsKept};
+
+    ghost view = { kept_of };
+
+    ghost invariant = { IsKept };
+}
+
+impl Registry {
+    /// No bot yet, of at most `most`; one that is silent for `death_timeout` seconds counts as
+    /// dead. It takes no memory.
+    pub fn new(alloc: Global, most: u32, death_timeout: u32) -> Registry
+        ensures { result ≡ record { rows = []; ready = None; most = most; death_timeout = death_timeout } }
+    {
+        Registry {
+            alloc,
+            most,
+            death_timeout,
+            rows: Vec::new(alloc),
+            by_name: Vec::new(alloc),
+            heard_since: 0,
+            ready: None,
+        }
+    }
+
+    /// How many bots there are.
+    pub fn count(&self) -> usize
+        ensures { result ≡ length self.now.rows }
+    {
+        self.rows.len()
+    }
+
+    /// The number of the bot of a name.
+    pub fn number(&self, name: &Text) -> Option<u32>
+        ensures { result ≡ option_map no_of_bot (row_named self.now.rows name.now) }
+    {
+        names::number_of(&self.rows, &self.by_name, name)
+    }
+
+    /// The row of the bot of a number.
+    pub fn bot(&self, no: u32) -> Option<&BotRow>
+        ensures { option_copied result ≡ row_of self.now.rows no }
+    {
+        scans::row_of(&self.rows, no)
+    }
+
+    /// Whether some fit bot, busy or not, has the dimensions.
+    pub fn capable(&self, dims: &DimSet) -> bool
+        ensures { result ≡ list_any (could_run dims.now) self.now.rows }
+    {
+        scans::capable(&self.rows, dims)
+    }
+
+    /// Of the deadlines of bots that aren't dead, the earliest by moment and then number, where it
+    /// has come by the moment: its moment, and the number of the bot.
+    pub fn first_silence(&self, moment: u64) -> Option<(u64, u32)>
+        ensures { IsDueDeath self.now moment result }
+    {
+        if moment < self.heard_since + u64::from(self.death_timeout) {
+            return None;
+        }
+        silence::if_come(moment, silence::first_end(&self.rows, self.death_timeout))
+    }
+
+    /// Makes ready all that the entry's change of the rows needs, so that `apply` takes no memory.
+    pub fn reserve(&mut self, entry: &Entry) -> Result<(), AllocError>
+        ensures ok { OnOk result (self.new ≡ record self.old { ready = Some entry.now }) }
+        ensures err { OnErr result (self.new ≡ record self.old { ready = None }) }
+    {
+        drop(self.ready.take());
+        if self.rows.len() < self.most as usize {
+            self.rows.reserve(1)?;
+            self.by_name.reserve(1)?;
+        }
+        let copy = entry.try_copy(self.alloc)?;
+        drop(mem::replace(&mut self.ready, Some(copy)));
+        Ok(())
+    }
+
+    /// Does to the rows what the entry does that was reserved just before. It takes no memory.
+    pub fn apply(&mut self, entry: &Entry)
+        requires ready { self.old.ready ≡ Some entry.now }
+        requires early { entry.now.moment ≤ 2 ^ 40 }
+        requires follows { Follows self.old entry.now.kind }
+        ensures rows { IsAfter self.old.rows entry.now self.new.rows }
+        ensures rest { self.new ≡ record self.old { rows = self.new.rows; ready = None } }
+    {
+        match self.ready.take() {
+            None => unreachable!(),
+            Some(copy) => {
+                let Entry {
+                    moment,
+                    pass: _,
+                    kind,
+                } = copy;
+                names::follow(&self.rows, &mut self.by_name, &kind);
+                act(&mut self.rows, self.alloc, moment, kind);
+                let since = self.heard_since.min(moment);
+                self.heard_since = silence::heard_since(
+                    &self.rows,
+                    since,
+                    self.death_timeout,
+                    moment,
+                );
+            }
+        }
+    }
+}
