@@ -14,6 +14,7 @@ mod cancels;
 mod day;
 mod ends;
 mod moments;
+mod repeats;
 mod report_bodies;
 mod report_files;
 mod reporters;
@@ -346,12 +347,7 @@ fn report_with(alloc: Global, members: &str) -> Result<String, AllocError> {
 }
 
 /// What a bot reports on a run, with these members behind them, each with its comma.
-fn report_by(
-    alloc: Global,
-    bot: &str,
-    run: &str,
-    members: &str,
-) -> Result<String, AllocError> {
+fn report_by(alloc: Global, bot: &str, run: &str, members: &str) -> Result<String, AllocError> {
     format!(in alloc; r#"{{"bot_id":"{bot}","task_id":"{run}"{members}}}"#)
 }
 

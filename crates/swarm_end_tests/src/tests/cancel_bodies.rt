@@ -1,7 +1,7 @@
 //! Bodies of cancels.
 
 use crate::tests::{
-    BAD_JSON, BAD_REQUEST, CANCEL, CANCELED, Course, DONE, LATE, NEW_TASK, NOT_FOUND, NO_TASK,
+    BAD_JSON, BAD_REQUEST, CANCEL, CANCELED, Course, DONE, LATE, NEW_TASK, NO_TASK, NOT_FOUND,
     PENDING_10, TASK, repeated,
 };
 use std::test::Fail;
@@ -23,21 +23,57 @@ fn bodies_that_break_a_rule(rt: HostRuntime) -> Result<(), Fail> {
         (r#"{"task_id":true}"#, "task_id", "type"),
         (r#"{"task_id":["10"]}"#, "task_id", "type"),
         (r#"{"task_id":{"task_id":"10"}}"#, "task_id", "type"),
-        (r#"{"task_id":"10","kill_running":1}"#, "kill_running", "type"),
-        (r#"{"task_id":"10","kill_running":0}"#, "kill_running", "type"),
-        (r#"{"task_id":"10","kill_running":"true"}"#, "kill_running", "type"),
-        (r#"{"task_id":"10","kill_running":""}"#, "kill_running", "type"),
-        (r#"{"task_id":"10","kill_running":[]}"#, "kill_running", "type"),
-        (r#"{"task_id":"10","kill_running":{}}"#, "kill_running", "type"),
+        (
+            r#"{"task_id":"10","kill_running":1}"#,
+            "kill_running",
+            "type",
+        ),
+        (
+            r#"{"task_id":"10","kill_running":0}"#,
+            "kill_running",
+            "type",
+        ),
+        (
+            r#"{"task_id":"10","kill_running":"true"}"#,
+            "kill_running",
+            "type",
+        ),
+        (
+            r#"{"task_id":"10","kill_running":""}"#,
+            "kill_running",
+            "type",
+        ),
+        (
+            r#"{"task_id":"10","kill_running":[]}"#,
+            "kill_running",
+            "type",
+        ),
+        (
+            r#"{"task_id":"10","kill_running":{}}"#,
+            "kill_running",
+            "type",
+        ),
         // What is missing or of a wrong type comes first, in the order of the fields.
         (r#"{"kill_running":1}"#, "task_id", "missing"),
         (r#"{"kill_running":1,"task_id":1}"#, "task_id", "type"),
         (r#"{"task_id":"","kill_running":1}"#, "kill_running", "type"),
-        (r#"{"task_id":"12","kill_running":1}"#, "kill_running", "type"),
-        (r#"{"task_id":"400010","kill_running":1}"#, "kill_running", "type"),
+        (
+            r#"{"task_id":"12","kill_running":1}"#,
+            "kill_running",
+            "type",
+        ),
+        (
+            r#"{"task_id":"400010","kill_running":1}"#,
+            "kill_running",
+            "type",
+        ),
         // Of a key that comes twice the last value counts.
         (r#"{"task_id":"10","task_id":"1"}"#, "task_id", "grammar"),
-        (r#"{"kill_running":true,"task_id":"10","kill_running":5}"#, "kill_running", "type"),
+        (
+            r#"{"kill_running":true,"task_id":"10","kill_running":5}"#,
+            "kill_running",
+            "type",
+        ),
     ] {
         course.broken(alloc, CANCEL, body, field, rule)?;
     }
@@ -50,9 +86,38 @@ fn ids_that_are_none(rt: HostRuntime) -> Result<(), Fail> {
     let alloc = rt.alloc();
     let mut course = Course::new(alloc);
     for id in [
-        "", "0", "1", "a", "00", "01", "010", "0000010", "12", "1f", "1a", "1A0", "A0", "1G0",
-        "g0", "x10", "0x10", "10000000", "10000001", "1ffffff0", " 10", "10 ", "1 0", "+10", "-10",
-        "1.0", "10\\u0000", "\\u00e910", "\\uff110", "10\\n", "b1 ", "default",
+        "",
+        "0",
+        "1",
+        "a",
+        "00",
+        "01",
+        "010",
+        "0000010",
+        "12",
+        "1f",
+        "1a",
+        "1A0",
+        "A0",
+        "1G0",
+        "g0",
+        "x10",
+        "0x10",
+        "10000000",
+        "10000001",
+        "1ffffff0",
+        " 10",
+        "10 ",
+        "1 0",
+        "+10",
+        "-10",
+        "1.0",
+        "10\\u0000",
+        "\\u00e910",
+        "\\uff110",
+        "10\\n",
+        "b1 ",
+        "default",
     ] {
         let body = format!(in alloc; r#"{{"task_id":"{id}"}}"#)?;
         course.broken(alloc, CANCEL, body.as_str(), "task_id", "grammar")?;

@@ -4,7 +4,7 @@ use crate::tests::{
     ALL, B1, B1_CLAIMS, B1_CLAIMS_ANEW, B1_COMES, B1_COMES_ANEW, B1_ENDS, B1_POLLS, CANCEL,
     CANCELED, CLAIM, CLAIM_ONE, COUNT_1, COUNT_TASKS, Course, DONE, FIRST, FIRST_RUN, GET_RESULT,
     GOES_ON, HANDSHAKE, LATE, NEW_TASK, NO_LAST, NO_TASK, NOT_FOUND, PENDING_10, PENDING_20, POLL,
-    SHORT_TASK, SKIP, SLEEP_1, SPARED, SPARE_FIRST, STOPPED, STOP_FIRST, TASK, UPDATE, attempted,
+    SHORT_TASK, SKIP, SLEEP_1, SPARE_FIRST, SPARED, STOP_FIRST, STOPPED, TASK, UPDATE, attempted,
     report_with, run_of, short_run, unclaimed,
 };
 use std::test::Fail;
@@ -20,15 +20,33 @@ fn a_task_that_waits(rt: HostRuntime) -> Result<(), Fail> {
     for (moment, body, told, shown) in [
         (1599, SPARE_FIRST, CANCELED, canceled),
         (1599, STOP_FIRST, CANCELED, canceled),
-        (1599, r#"{"task_id":"10","kill_running":false}"#, CANCELED, canceled),
-        (1599, r#"{"kill_running":null,"task_id":"10","why":"late"}"#, CANCELED, canceled),
+        (
+            1599,
+            r#"{"task_id":"10","kill_running":false}"#,
+            CANCELED,
+            canceled,
+        ),
+        (
+            1599,
+            r#"{"kill_running":null,"task_id":"10","why":"late"}"#,
+            CANCELED,
+            canceled,
+        ),
         (1600, SPARE_FIRST, LATE, expired.as_str()),
         (1600, STOP_FIRST, LATE, expired.as_str()),
     ] {
         let mut course = Course::new(alloc);
         course.call(alloc, 1000, NEW_TASK, TASK, DONE, 1, PENDING_10)?;
         // It has no run.
-        course.call(alloc, 1000, CANCEL, r#"{"task_id":"11"}"#, NOT_FOUND, 1, NO_TASK)?;
+        course.call(
+            alloc,
+            1000,
+            CANCEL,
+            r#"{"task_id":"11"}"#,
+            NOT_FOUND,
+            1,
+            NO_TASK,
+        )?;
         course.call(alloc, moment, CANCEL, body, DONE, 2, told)?;
         course.call(alloc, moment, CANCEL, SPARE_FIRST, DONE, 2, LATE)?;
         course.call(alloc, moment, CANCEL, STOP_FIRST, DONE, 2, LATE)?;
@@ -90,16 +108,42 @@ fn a_task_that_runs(rt: HostRuntime) -> Result<(), Fail> {
     for (body, told, front, state, then) in [
         (SPARE_FIRST, SPARED, 3, "BOT_DIED", 4),
         (FIRST_RUN, SPARED, 3, "BOT_DIED", 4),
-        (r#"{"task_id":"10","kill_running":false}"#, SPARED, 3, "BOT_DIED", 4),
-        (r#"{"task_id":"11","kill_running":null}"#, SPARED, 3, "BOT_DIED", 4),
+        (
+            r#"{"task_id":"10","kill_running":false}"#,
+            SPARED,
+            3,
+            "BOT_DIED",
+            4,
+        ),
+        (
+            r#"{"task_id":"11","kill_running":null}"#,
+            SPARED,
+            3,
+            "BOT_DIED",
+            4,
+        ),
         (STOP_FIRST, STOPPED, 4, "KILLED", 5),
-        (r#"{"task_id":"11","kill_running":true}"#, STOPPED, 4, "KILLED", 5),
+        (
+            r#"{"task_id":"11","kill_running":true}"#,
+            STOPPED,
+            4,
+            "KILLED",
+            5,
+        ),
     ] {
         let ended = attempted(alloc, state, "1060", NO_LAST)?;
         let mut course = short_run(alloc)?;
         course.call(alloc, 1059, CANCEL, body, DONE, front, told)?;
         course.call(alloc, 1059, CANCEL, body, DONE, front, told)?;
-        course.call(alloc, 1059, GET_RESULT, FIRST, DONE, front, running.as_str())?;
+        course.call(
+            alloc,
+            1059,
+            GET_RESULT,
+            FIRST,
+            DONE,
+            front,
+            running.as_str(),
+        )?;
         course.call(alloc, 1060, CANCEL, body, DONE, then, LATE)?;
         course.call(alloc, 1060, GET_RESULT, FIRST, DONE, then, ended.as_str())?;
         course.compare(&rt, alloc)?;
@@ -113,9 +157,33 @@ fn a_task_that_has_ended(rt: HostRuntime) -> Result<(), Fail> {
     let alloc = rt.alloc();
     let takes_too_long = report_with(alloc, r#""exit_code":137,"hard_timeout":true"#)?;
     for (moment, path, body, told, state, completed, last) in [
-        (1020, UPDATE, B1_ENDS, GOES_ON, "COMPLETED", "1020", ("0", "10", "0")),
-        (1020, UPDATE, takes_too_long.as_str(), GOES_ON, "TIMED_OUT", "1020", ("0", "0", "137")),
-        (1020, HANDSHAKE, B1_COMES_ANEW, B1, "BOT_DIED", "1020", NO_LAST),
+        (
+            1020,
+            UPDATE,
+            B1_ENDS,
+            GOES_ON,
+            "COMPLETED",
+            "1020",
+            ("0", "10", "0"),
+        ),
+        (
+            1020,
+            UPDATE,
+            takes_too_long.as_str(),
+            GOES_ON,
+            "TIMED_OUT",
+            "1020",
+            ("0", "0", "137"),
+        ),
+        (
+            1020,
+            HANDSHAKE,
+            B1_COMES_ANEW,
+            B1,
+            "BOT_DIED",
+            "1020",
+            NO_LAST,
+        ),
         (1060, COUNT_TASKS, ALL, COUNT_1, "BOT_DIED", "1060", NO_LAST),
     ] {
         let shown = attempted(alloc, state, completed, last)?;
@@ -124,7 +192,15 @@ fn a_task_that_has_ended(rt: HostRuntime) -> Result<(), Fail> {
         course.call(alloc, 1100, CANCEL, SPARE_FIRST, DONE, 4, LATE)?;
         course.call(alloc, 1100, CANCEL, STOP_FIRST, DONE, 4, LATE)?;
         course.call(alloc, 1100, CANCEL, FIRST_RUN, DONE, 4, LATE)?;
-        course.call(alloc, 1100, CANCEL, r#"{"task_id":"11","kill_running":true}"#, DONE, 4, LATE)?;
+        course.call(
+            alloc,
+            1100,
+            CANCEL,
+            r#"{"task_id":"11","kill_running":true}"#,
+            DONE,
+            4,
+            LATE,
+        )?;
         course.call(alloc, 1100, GET_RESULT, FIRST, DONE, 4, shown.as_str())?;
         course.compare(&rt, alloc)?;
     }
@@ -140,7 +216,15 @@ fn tasks_that_never_waited(rt: HostRuntime) -> Result<(), Fail> {
     let shown = unclaimed(alloc, "10", 0, 1000, 0, "NO_RESOURCE", "1000")?;
     let mut course = Course::new(alloc);
     course.call(alloc, 1000, CANCEL, FIRST, NOT_FOUND, 0, NO_TASK)?;
-    course.call(alloc, 1000, NEW_TASK, hasty, DONE, 1, r#"{"state":"NO_RESOURCE","task_id":"10"}"#)?;
+    course.call(
+        alloc,
+        1000,
+        NEW_TASK,
+        hasty,
+        DONE,
+        1,
+        r#"{"state":"NO_RESOURCE","task_id":"10"}"#,
+    )?;
     course.call(alloc, 1000, CANCEL, SPARE_FIRST, DONE, 1, LATE)?;
     course.call(alloc, 1000, CANCEL, STOP_FIRST, DONE, 1, LATE)?;
     for body in [

@@ -5,12 +5,12 @@
 //! bot dies 600 seconds after its last sign of life.
 
 use crate::tests::{
-    ALL, B1, B1_CLAIMS, B1_IS_TO_END, B1_PINGS, B2, CANCEL, CLAIM, CLAIM_ONE, CONFLICT, COUNT_0,
-    COUNT_1, COUNT_2, COUNT_TASKS, Course, CANCELED, DEAD, DONE, EVENT, FIRST, FORBIDDEN,
-    GET_RESULT, GOES_ON, HANDSHAKE, LATE, MUST_STOP, NEW_TASK, NO_BOT, NO_LAST, NO_TASK, NOTED,
-    NOT_BUILT, NOT_FOUND, OVER_BY_KILL, OVER_BY_REPORT, OVER_BY_SILENCE, PENDING_10, PENDING_20,
-    POLL, QUARANTINED, SLEEP_1, SLEEP_2, SPARED, STOPPED, TERMINATE, TERMINATED, TERMINATING,
-    UNSERVED, UPDATE, attempted_by, unclaimed,
+    ALL, B1, B1_CLAIMS, B1_IS_TO_END, B1_PINGS, B2, CANCEL, CANCELED, CLAIM, CLAIM_ONE, CONFLICT,
+    COUNT_0, COUNT_1, COUNT_2, COUNT_TASKS, Course, DEAD, DONE, EVENT, FIRST, FORBIDDEN,
+    GET_RESULT, GOES_ON, HANDSHAKE, LATE, MUST_STOP, NEW_TASK, NO_BOT, NO_LAST, NO_TASK, NOT_BUILT,
+    NOT_FOUND, NOTED, OVER_BY_KILL, OVER_BY_REPORT, OVER_BY_SILENCE, PENDING_10, PENDING_20, POLL,
+    QUARANTINED, SLEEP_1, SLEEP_2, SPARED, STOPPED, TERMINATE, TERMINATED, TERMINATING, UNSERVED,
+    UPDATE, attempted_by, unclaimed,
 };
 use std::alloc::{AllocError, Global};
 use std::test::Fail;
@@ -113,7 +113,13 @@ fn morning(course: &mut Course, alloc: Global) -> Result<(), AllocError> {
         r#"{"key":"os","value":"Linux|Mac"},"#,
         "11",
     )?;
-    let test = run_with(alloc, 100, r#""test""#, r#"{"key":"os","value":"Mac"},"#, "21")?;
+    let test = run_with(
+        alloc,
+        100,
+        r#""test""#,
+        r#"{"key":"os","value":"Mac"},"#,
+        "21",
+    )?;
     let runs =
         r#"{"bot_id":"b1","completed_ts":null,"created_ts":1080,"current_task_slice":0,"deduped_from":null,"dropped":null,"duration_ms":null,"exit_code":null,"files":[],"name":"build linux-rel","output_length":0,"priority":50,"run_id":"11","started_ts":1180,"state":"RUNNING","task_id":"10","user":"ana"}"#;
     let is_done =
@@ -131,8 +137,22 @@ fn morning(course: &mut Course, alloc: Global) -> Result<(), AllocError> {
         // Task 1 expires at 1680, task 2 at 1500, and task 3 at 1320. Task 4 ends at once.
         (1080, NEW_TASK, BUILD, DONE, 5, PENDING_10),
         (1100, NEW_TASK, MAC_TEST, DONE, 6, PENDING_20),
-        (1120, NEW_TASK, GPU_TEST, DONE, 7, r#"{"state":"PENDING","task_id":"30"}"#),
-        (1140, NEW_TASK, WINDOWS_TEST, DONE, 8, r#"{"state":"NO_RESOURCE","task_id":"40"}"#),
+        (
+            1120,
+            NEW_TASK,
+            GPU_TEST,
+            DONE,
+            7,
+            r#"{"state":"PENDING","task_id":"30"}"#,
+        ),
+        (
+            1140,
+            NEW_TASK,
+            WINDOWS_TEST,
+            DONE,
+            8,
+            r#"{"state":"NO_RESOURCE","task_id":"40"}"#,
+        ),
         // Task 2 comes first, but it wants a Mac. Of tasks 1 and 3 the first has the lower priority.
         (1160, POLL, B1_POLLS, DONE, 9, CLAIM_ONE),
         (1180, CLAIM, B1_CLAIMS, DONE, 10, build.as_str()),
@@ -163,40 +183,114 @@ fn morning(course: &mut Course, alloc: Global) -> Result<(), AllocError> {
 fn noon(course: &mut Course, alloc: Global) -> Result<(), AllocError> {
     let fifth = run_with(alloc, 1200, r#""long""#, "", "51")?;
     let sixth = run_with(alloc, 1200, r#""long""#, "", "61")?;
-    let is_late = attempted_by(alloc, "b1", "6", 20, 1460, 1600, "TIMED_OUT", "1700", ("7", "100000", "137"))?;
+    let is_late = attempted_by(
+        alloc,
+        "b1",
+        "6",
+        20,
+        1460,
+        1600,
+        "TIMED_OUT",
+        "1700",
+        ("7", "100000", "137"),
+    )?;
     let stop_fifth = r#"{"task_id":"50","kill_running":true}"#;
     let progress = r#"{"bot_id":"b2","task_id":"51"}"#;
     let end = r#"{"bot_id":"b2","task_id":"51","exit_code":0}"#;
-    let late_end = r#"{"bot_id":"b1","task_id":"61","exit_code":137,"duration_ms":100000,"hard_timeout":true,"dropped":7}"#;
+    let late_end =
+        r#"{"bot_id":"b1","task_id":"61","exit_code":137,"duration_ms":100000,"hard_timeout":true,"dropped":7}"#;
     for (moment, path, body, status, front, told) in [
         // They expire at 2040, 2060 and 2080.
-        (1440, NEW_TASK, LONG_TEST, DONE, 19, r#"{"state":"PENDING","task_id":"50"}"#),
-        (1460, NEW_TASK, LONG_TEST, DONE, 20, r#"{"state":"PENDING","task_id":"60"}"#),
-        (1480, NEW_TASK, URGENT, DONE, 21, r#"{"state":"PENDING","task_id":"70"}"#),
+        (
+            1440,
+            NEW_TASK,
+            LONG_TEST,
+            DONE,
+            19,
+            r#"{"state":"PENDING","task_id":"50"}"#,
+        ),
+        (
+            1460,
+            NEW_TASK,
+            LONG_TEST,
+            DONE,
+            20,
+            r#"{"state":"PENDING","task_id":"60"}"#,
+        ),
+        (
+            1480,
+            NEW_TASK,
+            URGENT,
+            DONE,
+            21,
+            r#"{"state":"PENDING","task_id":"70"}"#,
+        ),
         (1500, CANCEL, r#"{"task_id":"70"}"#, DONE, 22, CANCELED),
-        (1520, CANCEL, r#"{"task_id":"70","kill_running":true}"#, DONE, 22, LATE),
+        (
+            1520,
+            CANCEL,
+            r#"{"task_id":"70","kill_running":true}"#,
+            DONE,
+            22,
+            LATE,
+        ),
         // Tasks 5 and 6 have one priority, and task 5 is older.
         (1540, CLAIM, B2_SECOND, DONE, 23, fifth.as_str()),
         (1560, CLAIM, B2_SECOND, DONE, 24, fifth.as_str()),
-        (1580, CLAIM, B2_THIRD, CONFLICT, 24, r#"{"code":"bot_busy","run":"51"}"#),
+        (
+            1580,
+            CLAIM,
+            B2_THIRD,
+            CONFLICT,
+            24,
+            r#"{"code":"bot_busy","run":"51"}"#,
+        ),
         (1600, CLAIM, B1_SECOND, DONE, 25, sixth.as_str()),
         (1620, CANCEL, stop_fifth, DONE, 26, STOPPED),
         (1640, CANCEL, stop_fifth, DONE, 26, STOPPED),
         (1660, UPDATE, progress, DONE, 27, MUST_STOP),
         (1680, UPDATE, end, DONE, 28, MUST_STOP),
         (1700, UPDATE, late_end, DONE, 29, GOES_ON),
-        (1720, GET_RESULT, r#"{"task_id":"61"}"#, DONE, 29, is_late.as_str()),
+        (
+            1720,
+            GET_RESULT,
+            r#"{"task_id":"61"}"#,
+            DONE,
+            29,
+            is_late.as_str(),
+        ),
         (1740, COUNT_TASKS, ALL, DONE, 29, r#"{"count":7}"#),
-        (1760, COUNT_TASKS, r#"{"pool":"default","state":"CANCELED"}"#, DONE, 29, COUNT_1),
+        (
+            1760,
+            COUNT_TASKS,
+            r#"{"pool":"default","state":"CANCELED"}"#,
+            DONE,
+            29,
+            COUNT_1,
+        ),
         // The bot of Linux takes no work, so task 8 ends at once.
         (1780, EVENT, B1_IS_HOT, DONE, 30, NOTED),
         (1800, CLAIM, B1_THIRD, CONFLICT, 30, QUARANTINED),
         // Its last poll was answered claim, so its naps begin anew.
         (1820, POLL, B1_POLLS_HOT, DONE, 31, SLEEP_1),
-        (1840, NEW_TASK, LINUX_TEST, DONE, 32, r#"{"state":"NO_RESOURCE","task_id":"80"}"#),
+        (
+            1840,
+            NEW_TASK,
+            LINUX_TEST,
+            DONE,
+            32,
+            r#"{"state":"NO_RESOURCE","task_id":"80"}"#,
+        ),
         (1860, POLL, B1_POLLS, DONE, 33, SLEEP_2),
         // Task 9 expires at 1940.
-        (1880, NEW_TASK, LINUX_TEST, DONE, 34, r#"{"state":"PENDING","task_id":"90"}"#),
+        (
+            1880,
+            NEW_TASK,
+            LINUX_TEST,
+            DONE,
+            34,
+            r#"{"state":"PENDING","task_id":"90"}"#,
+        ),
     ] {
         course.call(alloc, moment, path, body, status, front, told)?;
     }
@@ -205,11 +299,29 @@ fn noon(course: &mut Course, alloc: Global) -> Result<(), AllocError> {
 
 /// A bot that is to end, reports that come to nothing, and two runs that end without a report.
 fn evening(course: &mut Course, alloc: Global) -> Result<(), AllocError> {
-    let ninth = run_with(alloc, 80, r#""test""#, r#"{"key":"os","value":"Linux"},"#, "91")?;
+    let ninth = run_with(
+        alloc,
+        80,
+        r#""test""#,
+        r#"{"key":"os","value":"Linux"},"#,
+        "91",
+    )?;
     let tenth = run_with(alloc, 120, r#""least""#, "", "a1")?;
     let eleventh = run_with(alloc, 1200, r#""foremost""#, "", "b1")?;
-    let failed = attempted_by(alloc, "b1", "9", 30, 1880, 1900, "COMPLETED", "1960", ("7", "5", "1"))?;
-    let runs = attempted_by(alloc, "b2", "a", 255, 2100, 2160, "RUNNING", "null", NO_LAST)?;
+    let failed = attempted_by(
+        alloc,
+        "b1",
+        "9",
+        30,
+        1880,
+        1900,
+        "COMPLETED",
+        "1960",
+        ("7", "5", "1"),
+    )?;
+    let runs = attempted_by(
+        alloc, "b2", "a", 255, 2100, 2160, "RUNNING", "null", NO_LAST,
+    )?;
     let killed = attempted_by(alloc, "b2", "a", 255, 2100, 2160, "KILLED", "2280", NO_LAST)?;
     let tenth_task = r#"{"task_id":"a0"}"#;
     let end = r#"{"bot_id":"b1","task_id":"91","exit_code":1,"duration_ms":5,"dropped":7}"#;
@@ -220,35 +332,112 @@ fn evening(course: &mut Course, alloc: Global) -> Result<(), AllocError> {
         // The claim that was refused has left no trace. Run 91 ends by silence at 1980.
         (1900, CLAIM, B1_THIRD, DONE, 35, ninth.as_str()),
         (1920, TERMINATE, B1_IS_TO_END, DONE, 36, NOTED),
-        (1940, POLL, B1_POLLS, CONFLICT, 36, r#"{"code":"bot_busy","run":"91"}"#),
+        (
+            1940,
+            POLL,
+            B1_POLLS,
+            CONFLICT,
+            36,
+            r#"{"code":"bot_busy","run":"91"}"#,
+        ),
         (1960, UPDATE, end, DONE, 37, GOES_ON),
         (1980, POLL, B1_POLLS, DONE, 38, TERMINATED),
         (2000, CLAIM, B1_FOURTH, CONFLICT, 38, TERMINATING),
         (2020, TERMINATE, B1_IS_TO_END, DONE, 38, NOTED),
-        (2040, GET_RESULT, r#"{"task_id":"90"}"#, DONE, 38, failed.as_str()),
+        (
+            2040,
+            GET_RESULT,
+            r#"{"task_id":"90"}"#,
+            DONE,
+            38,
+            failed.as_str(),
+        ),
         (2060, HANDSHAKE, B1_COMES_SECOND, DONE, 39, B1),
         (2080, POLL, B1_POLLS, DONE, 40, SLEEP_1),
         // Task 11 comes before task 10, whoever is first.
-        (2100, NEW_TASK, LEAST, DONE, 41, r#"{"state":"PENDING","task_id":"a0"}"#),
-        (2120, NEW_TASK, FOREMOST, DONE, 42, r#"{"state":"PENDING","task_id":"b0"}"#),
+        (
+            2100,
+            NEW_TASK,
+            LEAST,
+            DONE,
+            41,
+            r#"{"state":"PENDING","task_id":"a0"}"#,
+        ),
+        (
+            2120,
+            NEW_TASK,
+            FOREMOST,
+            DONE,
+            42,
+            r#"{"state":"PENDING","task_id":"b0"}"#,
+        ),
         (2140, CLAIM, B1_FOURTH, DONE, 43, eleventh.as_str()),
         // The bot's last sign of life was that of 1680. Run a1 ends by silence at 2280.
         (2160, CLAIM, B2_THIRD, DONE, 44, tenth.as_str()),
-        (2180, CANCEL, r#"{"task_id":"a1","kill_running":true}"#, DONE, 45, STOPPED),
-        (2200, UPDATE, r#"{"bot_id":"b1","task_id":"a1","exit_code":0}"#, FORBIDDEN, 45, run_of_b2),
-        (2220, UPDATE, r#"{"bot_id":"b3","task_id":"a1","exit_code":0}"#, NOT_FOUND, 45, NO_BOT),
-        (2240, UPDATE, r#"{"bot_id":"b2","task_id":"c1","exit_code":0}"#, NOT_FOUND, 45, NO_TASK),
+        (
+            2180,
+            CANCEL,
+            r#"{"task_id":"a1","kill_running":true}"#,
+            DONE,
+            45,
+            STOPPED,
+        ),
+        (
+            2200,
+            UPDATE,
+            r#"{"bot_id":"b1","task_id":"a1","exit_code":0}"#,
+            FORBIDDEN,
+            45,
+            run_of_b2,
+        ),
+        (
+            2220,
+            UPDATE,
+            r#"{"bot_id":"b3","task_id":"a1","exit_code":0}"#,
+            NOT_FOUND,
+            45,
+            NO_BOT,
+        ),
+        (
+            2240,
+            UPDATE,
+            r#"{"bot_id":"b2","task_id":"c1","exit_code":0}"#,
+            NOT_FOUND,
+            45,
+            NO_TASK,
+        ),
         (2260, GET_RESULT, tenth_task, DONE, 45, runs.as_str()),
         // Entry 46 is the silence of run a1. Task 5 was the first that was killed.
-        (2280, COUNT_TASKS, r#"{"pool":"default","state":"KILLED"}"#, DONE, 46, COUNT_2),
+        (
+            2280,
+            COUNT_TASKS,
+            r#"{"pool":"default","state":"KILLED"}"#,
+            DONE,
+            46,
+            COUNT_2,
+        ),
         (2300, UPDATE, tenth_by_b2, CONFLICT, 46, OVER_BY_KILL),
         (2320, HANDSHAKE, B2_COMES_THIRD, DONE, 47, B2),
         // The next session ends run b1.
         (2340, HANDSHAKE, B1_COMES_THIRD, DONE, 48, B1),
-        (2360, UPDATE, r#"{"bot_id":"b1","task_id":"b1"}"#, CONFLICT, 48, OVER_BY_SILENCE),
+        (
+            2360,
+            UPDATE,
+            r#"{"bot_id":"b1","task_id":"b1"}"#,
+            CONFLICT,
+            48,
+            OVER_BY_SILENCE,
+        ),
         (2380, CLAIM, B1_FOURTH, CONFLICT, 48, claim_is_over),
         (2400, GET_RESULT, tenth_task, DONE, 48, killed.as_str()),
-        (2420, CANCEL, r#"{"task_id":"b0","kill_running":true}"#, DONE, 48, LATE),
+        (
+            2420,
+            CANCEL,
+            r#"{"task_id":"b0","kill_running":true}"#,
+            DONE,
+            48,
+            LATE,
+        ),
     ] {
         course.call(alloc, moment, path, body, status, front, told)?;
     }
@@ -259,7 +448,15 @@ fn evening(course: &mut Course, alloc: Global) -> Result<(), AllocError> {
 /// last handshakes.
 fn night(course: &mut Course, alloc: Global) -> Result<(), AllocError> {
     let expired = unclaimed(alloc, "30", 60, 1120, 1, "EXPIRED", "1320")?;
-    course.call(alloc, 2440, GET_RESULT, r#"{"task_id":"30"}"#, DONE, 48, expired.as_str())?;
+    course.call(
+        alloc,
+        2440,
+        GET_RESULT,
+        r#"{"task_id":"30"}"#,
+        DONE,
+        48,
+        expired.as_str(),
+    )?;
     for (moment, state, front, told) in [
         (2460, "PENDING", 48, COUNT_0),
         (2480, "RUNNING", 48, COUNT_0),
@@ -291,7 +488,13 @@ fn a_day_of_a_small_lab(rt: HostRuntime) -> Result<(), Fail> {
     let alloc = rt.alloc();
     let mut course = Course::new(alloc);
     morning(&mut course, alloc)?;
-    course.broken(alloc, UPDATE, r#"{"bot_id":"b1","task_id":"10"}"#, "task_id", "grammar")?;
+    course.broken(
+        alloc,
+        UPDATE,
+        r#"{"bot_id":"b1","task_id":"10"}"#,
+        "task_id",
+        "grammar",
+    )?;
     noon(&mut course, alloc)?;
     let output = r#"{"bot_id":"b1","task_id":"91","output":"aGVsbG8K"}"#;
     course.refused(alloc, UPDATE, output, UNSERVED, NOT_BUILT)?;

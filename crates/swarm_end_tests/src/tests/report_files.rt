@@ -1,7 +1,7 @@
 //! The files of a report.
 
 use crate::tests::{
-    Course, NOT_BUILT, NOT_FOUND, NO_TASK, UNSERVED, UPDATE, repeated, report_with,
+    Course, NO_TASK, NOT_BUILT, NOT_FOUND, UNSERVED, UPDATE, repeated, report_with,
 };
 use std::alloc::{AllocError, Global};
 use std::test::Fail;
@@ -15,12 +15,7 @@ fn with_files(alloc: Global, files: &str) -> Result<String, AllocError> {
 }
 
 /// A report with two files, of which the second has this path, digest and size.
-fn with_file(
-    alloc: Global,
-    path: &str,
-    digest: &str,
-    size: &str,
-) -> Result<String, AllocError> {
+fn with_file(alloc: Global, path: &str, digest: &str, size: &str) -> Result<String, AllocError> {
     format!(in alloc;
         r#"{{"bot_id":"b1","task_id":"11","exit_code":0,"files":[{{"path":"a","digest":"{DIGEST}","size":1}},{{"path":"{path}","digest":"{digest}","size":{size}}}]}}"#
     )
@@ -40,21 +35,61 @@ fn lists_of_files(rt: HostRuntime) -> Result<(), Fail> {
         ("[[]]", "files.0", "type"),
         ("[5,null]", "files.0", "type"),
         ("[{}]", "files.0.digest", "missing"),
-        (r#"[{"path":"a","digest":null}]"#, "files.0.digest", "missing"),
+        (
+            r#"[{"path":"a","digest":null}]"#,
+            "files.0.digest",
+            "missing",
+        ),
         (r#"[{"path":5}]"#, "files.0.path", "type"),
-        (r#"[{"path":["a"],"digest":5,"size":""}]"#, "files.0.path", "type"),
-        (r#"[{"path":"a","digest":5,"size":""}]"#, "files.0.digest", "type"),
-        (r#"[{"path":"","digest":"","size":"x"}]"#, "files.0.size", "type"),
-        (r#"[{"path":"","digest":"","size":1.0}]"#, "files.0.size", "type"),
+        (
+            r#"[{"path":["a"],"digest":5,"size":""}]"#,
+            "files.0.path",
+            "type",
+        ),
+        (
+            r#"[{"path":"a","digest":5,"size":""}]"#,
+            "files.0.digest",
+            "type",
+        ),
+        (
+            r#"[{"path":"","digest":"","size":"x"}]"#,
+            "files.0.size",
+            "type",
+        ),
+        (
+            r#"[{"path":"","digest":"","size":1.0}]"#,
+            "files.0.size",
+            "type",
+        ),
         // A wrong type comes before the other rules of the elements before it.
         (r#"[{"path":"","digest":""},5]"#, "files.1", "type"),
-        (r#"[{"path":"","digest":""},{"digest":[]}]"#, "files.1.digest", "type"),
-        (r#"[{"path":"","digest":""},{"path":"a"}]"#, "files.1.digest", "missing"),
+        (
+            r#"[{"path":"","digest":""},{"digest":[]}]"#,
+            "files.1.digest",
+            "type",
+        ),
+        (
+            r#"[{"path":"","digest":""},{"path":"a"}]"#,
+            "files.1.digest",
+            "missing",
+        ),
         // An absent path is empty, and an absent size 0.
         (r#"[{"digest":""}]"#, "files.0.path", "count"),
-        (r#"[{"path":null,"digest":"","size":-1}]"#, "files.0.path", "count"),
-        (r#"[{"path":"a","digest":"","size":-1}]"#, "files.0.digest", "grammar"),
-        (r#"[{"path":"/","digest":"","size":-1}]"#, "files.0.path", "grammar"),
+        (
+            r#"[{"path":null,"digest":"","size":-1}]"#,
+            "files.0.path",
+            "count",
+        ),
+        (
+            r#"[{"path":"a","digest":"","size":-1}]"#,
+            "files.0.digest",
+            "grammar",
+        ),
+        (
+            r#"[{"path":"/","digest":"","size":-1}]"#,
+            "files.0.path",
+            "grammar",
+        ),
     ] {
         let body = with_files(alloc, files)?;
         course.broken(alloc, UPDATE, body.as_str(), field, rule)?;
@@ -155,7 +190,10 @@ fn many_files(rt: HostRuntime) -> Result<(), Fail> {
     course.broken(alloc, UPDATE, body.as_str(), "files", "count")?;
     let empty = repeated(alloc, r#",{"path":"","digest":""}"#, 63)?;
     // Their number comes before their rules, and their types before both.
-    let body = with_files(alloc, format!(in alloc; r#"[{{"digest":""}}{empty}{more}]"#)?.as_str())?;
+    let body = with_files(
+        alloc,
+        format!(in alloc; r#"[{{"digest":""}}{empty}{more}]"#)?.as_str(),
+    )?;
     course.broken(alloc, UPDATE, body.as_str(), "files", "count")?;
     let body = with_files(alloc, format!(in alloc; r#"[{one}{empty}]"#)?.as_str())?;
     course.broken(alloc, UPDATE, body.as_str(), "files.1.path", "count")?;

@@ -4,7 +4,7 @@ use crate::tests::{
     ALL, B1, B1_CLAIMS, B1_CLAIMS_ANEW, B1_COMES, B1_COMES_ANEW, B1_ENDS, B1_IS_TO_END, B1_PINGS,
     B1_POLLS, B1_REPORTS, B2, B2_COMES, BUSY, CLAIM, CONFLICT, COUNT_1, COUNT_TASKS, Course, DEAD,
     DONE, EVENT, FIRST, FORBIDDEN, GET_RESULT, GOES_ON, HANDSHAKE, NEW_TASK, NO_BOT, NO_LAST,
-    NO_TASK, NOTED, NOT_FOUND, OVER_BY_REPORT, OVER_BY_SILENCE, PENDING_20, POLL, RUN_OF_B1,
+    NO_TASK, NOT_FOUND, NOTED, OVER_BY_REPORT, OVER_BY_SILENCE, PENDING_20, POLL, RUN_OF_B1,
     SHORT_TASK, SKIP, SLEEP_1, TERMINATE, TERMINATED, TERMINATING, UPDATE, attempted, long_run,
     report_by, run_of, short_run,
 };
@@ -59,10 +59,24 @@ fn reports_of_others_on_a_run_that_has_ended(rt: HostRuntime) -> Result<(), Fail
         (1010, HANDSHAKE, B2_COMES, DONE, 4, B2),
         (1020, UPDATE, B1_ENDS, DONE, 5, GOES_ON),
         (1030, UPDATE, end_by_b2.as_str(), FORBIDDEN, 5, RUN_OF_B1),
-        (1030, UPDATE, progress_by_b2.as_str(), FORBIDDEN, 5, RUN_OF_B1),
+        (
+            1030,
+            UPDATE,
+            progress_by_b2.as_str(),
+            FORBIDDEN,
+            5,
+            RUN_OF_B1,
+        ),
         (1040, NEW_TASK, SHORT_TASK, DONE, 6, PENDING_20),
         (1050, CLAIM, b2_claims, DONE, 7, run.as_str()),
-        (1060, UPDATE, on_second_by_b1.as_str(), FORBIDDEN, 7, run_of_b2),
+        (
+            1060,
+            UPDATE,
+            on_second_by_b1.as_str(),
+            FORBIDDEN,
+            7,
+            run_of_b2,
+        ),
         (1070, UPDATE, on_second_by_b2.as_str(), DONE, 8, GOES_ON),
         (1080, UPDATE, B1_ENDS, DONE, 9, GOES_ON),
         (1090, GET_RESULT, FIRST, DONE, 9, shown.as_str()),
@@ -108,10 +122,46 @@ fn reports_after_the_silence(rt: HostRuntime) -> Result<(), Fail> {
     let died = died.as_str();
     for (moment, body, status, told, shown, poll, then, front) in [
         (1059, B1_ENDS, DONE, GOES_ON, completed, DONE, SLEEP_1, 5),
-        (1060, B1_ENDS, CONFLICT, OVER_BY_SILENCE, died, CONFLICT, DEAD, 4),
-        (1060, B1_REPORTS, CONFLICT, OVER_BY_SILENCE, died, CONFLICT, DEAD, 4),
-        (1061, B1_ENDS, CONFLICT, OVER_BY_SILENCE, died, CONFLICT, DEAD, 4),
-        (5000, B1_ENDS, CONFLICT, OVER_BY_SILENCE, died, CONFLICT, DEAD, 4),
+        (
+            1060,
+            B1_ENDS,
+            CONFLICT,
+            OVER_BY_SILENCE,
+            died,
+            CONFLICT,
+            DEAD,
+            4,
+        ),
+        (
+            1060,
+            B1_REPORTS,
+            CONFLICT,
+            OVER_BY_SILENCE,
+            died,
+            CONFLICT,
+            DEAD,
+            4,
+        ),
+        (
+            1061,
+            B1_ENDS,
+            CONFLICT,
+            OVER_BY_SILENCE,
+            died,
+            CONFLICT,
+            DEAD,
+            4,
+        ),
+        (
+            5000,
+            B1_ENDS,
+            CONFLICT,
+            OVER_BY_SILENCE,
+            died,
+            CONFLICT,
+            DEAD,
+            4,
+        ),
     ] {
         let mut course = short_run(alloc)?;
         course.call(alloc, moment, UPDATE, body, status, 4, told)?;
@@ -195,7 +245,15 @@ fn tasks_by_their_priorities(rt: HostRuntime) -> Result<(), Fail> {
             r#"{{"priority":{priority},"task_slices":[{{"expiration_secs":600,"wait_for_capacity":true,"properties":{{"command":["true"],"dimensions":[{{"key":"pool","value":"default"}}]}}}}]}}"#
         )?;
         let told = format!(in alloc; r#"{{"state":"PENDING","task_id":"{task}"}}"#)?;
-        course.call(alloc, 1000, NEW_TASK, body.as_str(), DONE, front, told.as_str())?;
+        course.call(
+            alloc,
+            1000,
+            NEW_TASK,
+            body.as_str(),
+            DONE,
+            front,
+            told.as_str(),
+        )?;
     }
     for (claim, front, run, then) in [
         ("c1", 6, "31", 7),
@@ -203,16 +261,34 @@ fn tasks_by_their_priorities(rt: HostRuntime) -> Result<(), Fail> {
         ("c3", 10, "41", 11),
         ("c4", 12, "11", 13),
     ] {
-        let claims = format!(in alloc; r#"{{"pool":"default","bot_id":"b1","claim_id":"{claim}"}}"#)?;
+        let claims = format!(in alloc;
+            r#"{{"pool":"default","bot_id":"b1","claim_id":"{claim}"}}"#
+        )?;
         let told = run_of(alloc, 1200, run)?;
-        course.call(alloc, 1010, CLAIM, claims.as_str(), DONE, front, told.as_str())?;
+        course.call(
+            alloc,
+            1010,
+            CLAIM,
+            claims.as_str(),
+            DONE,
+            front,
+            told.as_str(),
+        )?;
         let report = report_by(alloc, "b1", run, r#","exit_code":0"#)?;
         course.call(alloc, 1010, UPDATE, report.as_str(), DONE, then, GOES_ON)?;
     }
     let last = r#"{"pool":"default","bot_id":"b1","claim_id":"c5"}"#;
     course.call(alloc, 1010, CLAIM, last, DONE, 14, SKIP)?;
     let completed = r#"{"pool":"default","state":"COMPLETED"}"#;
-    course.call(alloc, 1010, COUNT_TASKS, completed, DONE, 14, r#"{"count":4}"#)?;
+    course.call(
+        alloc,
+        1010,
+        COUNT_TASKS,
+        completed,
+        DONE,
+        14,
+        r#"{"count":4}"#,
+    )?;
     course.compare(&rt, alloc)
 }
 
