@@ -74,14 +74,13 @@ abbrev pub chunk_in : EntryKind → Option Chunk
 chunk_in (kind.Update b t try_no chunk last) = chunk
 chunk_in entry = None
 
--- the output with the chunk is shorter than 2^32 bytes
+-- where the chunk goes on from the output of the run, the two together are shorter than 2^32 bytes
 abbrev pub IsShortWith : Chunk → Attempt → Type 0
-IsShortWith chunk attempt = attempt.length + chunk.size < 2 ^ 32
+IsShortWith chunk attempt = chunk.start ≡ attempt.length → attempt.length + chunk.size < 2 ^ 32
 
--- the output stays short, where the entry's chunk goes on from it
-abbrev pub StaysShort : List TaskRow → ℕ → EntryKind → Type 0
-StaysShort rows number entry =
-    IfSome (fresh_chunk (run_of rows number) (chunk_in entry)) (λ chunk. IfSome (run_of rows number) (IsShortWith chunk))
+-- the output stays short
+abbrev pub StaysShort : Option Attempt → Option Chunk → Type 0
+StaysShort run chunk = IfSome chunk (λ c. IfSome run (IsShortWith c))
 
 abbrev pub HasFewSlices : TaskRow → Type 0
 HasFewSlices task = length task.request.task_slices ≤ 8

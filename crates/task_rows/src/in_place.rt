@@ -4,8 +4,8 @@ ghost use Rattle.std.specs.List.{All};
 ghost use Rattle.std.specs.Option.{option_copied};
 ghost use Rattle.swarm_model.specs.Numbers.{AreNumbered};
 ghost use Rattle.swarm_model.specs.Effects.{no_of_task, task_at, moved, fresh_chunk, chunk_at, finished_at, if_some};
-ghost use Rattle.task_rows.specs.Acting.{row_of, run_of, IsShortWith, HasFewSlices};
-ghost use Rattle.task_rows.specs.Inside.{KeepsNumber, StandsAt, TakesChunk, TakesFresh};
+ghost use Rattle.task_rows.specs.Acting.{row_of, run_of, StaysShort, HasFewSlices};
+ghost use Rattle.task_rows.specs.Inside.{IsShorter, KeepsNumber, StandsAt, TakesChunk, TakesFresh};
 
 use crate::output;
 use dimensions::Spare;
@@ -73,7 +73,7 @@ pub(crate) fn shift(rows: &mut Vec<TaskRow>, no: u32, by: Shift)
 fn lengthen(rows: &mut Vec<TaskRow>, no: u32, chunk: Chunk, spare: &mut Spare<Chunk>)
     requires numbered { AreNumbered no_of_task 1 rows.old.items }
     requires room { TakesChunk spare.old (run_of rows.old.items no) }
-    requires short { IfSome (run_of rows.old.items no) (IsShortWith chunk) }
+    requires short { IfSome (run_of rows.old.items no) (IsShorter chunk) }
     ensures rows { rows.new.items ≡ map (chunk_at no chunk) rows.old.items }
     ensures numbered { AreNumbered no_of_task 1 rows.new.items }
 {
@@ -102,7 +102,7 @@ pub(crate) fn keep_chunk(
 )
     requires numbered { AreNumbered no_of_task 1 rows.old.items }
     requires room { TakesFresh spare.old (run_of rows.old.items no) chunk }
-    requires short { IfSome (fresh_chunk (run_of rows.old.items no) chunk) (λ c. IfSome (run_of rows.old.items no) (IsShortWith c)) }
+    requires short { StaysShort (run_of rows.old.items no) chunk }
     ensures rows { rows.new.items ≡ map (if_some (chunk_at no) (fresh_chunk (run_of rows.old.items no) chunk)) rows.old.items }
     ensures numbered { AreNumbered no_of_task 1 rows.new.items }
 {
@@ -122,7 +122,7 @@ pub(crate) fn close(
 )
     requires numbered { AreNumbered no_of_task 1 rows.old.items }
     requires room { TakesFresh spare.old (run_of rows.old.items no) chunk }
-    requires short { IfSome (fresh_chunk (run_of rows.old.items no) chunk) (λ c. IfSome (run_of rows.old.items no) (IsShortWith c)) }
+    requires short { StaysShort (run_of rows.old.items no) chunk }
     ensures rows { rows.new.items ≡ map (λ task. finished_at moment no chunk last (if_some (chunk_at no) (fresh_chunk (run_of rows.old.items no) chunk) task)) rows.old.items }
     ensures numbered { AreNumbered no_of_task 1 rows.new.items }
 {

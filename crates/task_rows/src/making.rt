@@ -75,14 +75,14 @@ pub(crate) fn row_from(no: u32, entry: Entry) -> TaskRow
     } = entry;
     match kind {
         EntryKind::New {
-            t,
+            t: _,
             who,
             request,
             state,
             slice,
             from,
         } => TaskRow {
-            no: t,
+            no,
             creator: who,
             request,
             created: moment,

@@ -1,5 +1,5 @@
 ghost use Rattle.std.specs.Prelude.{◌≡◌, ◌+◌, [], length, Some, None, IfSome, OnOk, OnErr};
-ghost use Rattle.task_rows.specs.Acting.{row_of, IsAfter, IsAfterRun, AddsRow, Claims, Reports, EndsRun, Cancels, Kills, EndsSlice, StaysShort, HasFewSlices};
+ghost use Rattle.task_rows.specs.Acting.{row_of, run_of, chunk_in, IsAfter, IsAfterRun, AddsRow, Claims, Reports, EndsRun, Cancels, Kills, EndsSlice, StaysShort, HasFewSlices};
 
 use crate::in_place::{change, close, keep_chunk, row_of, shift};
 use crate::making::{chunk_of, make_room, row_from};
@@ -117,7 +117,7 @@ impl TaskRows {
     pub fn append_chunk(&mut self, no: u32, entry: &Entry)
         requires ready { self.old.ready ≡ Some entry.now }
         requires reports { Reports no entry.now.kind }
-        requires short { StaysShort self.old.rows no entry.now.kind }
+        requires short { StaysShort (run_of self.old.rows no) (chunk_in entry.now.kind) }
         ensures rows { IsAfter self.old.rows entry.now self.new.rows }
         ensures ready { self.new.ready ≡ None }
     {
@@ -131,7 +131,7 @@ impl TaskRows {
     pub fn finish(&mut self, no: u32, entry: &Entry)
         requires ready { self.old.ready ≡ Some entry.now }
         requires ends { EndsRun no entry.now.kind }
-        requires short { StaysShort self.old.rows no entry.now.kind }
+        requires short { StaysShort (run_of self.old.rows no) (chunk_in entry.now.kind) }
         ensures rows { IsAfterRun self.old.rows no entry.now self.new.rows }
         ensures ready { self.new.ready ≡ None }
     {
