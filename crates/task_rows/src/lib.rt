@@ -1,0 +1,18 @@
+//! The rows of a pool's tasks, found by number.
+//!
+//! [`TaskRows`] is seen as two things (`specs/Plain.antt`): the rows, and the entry that is made
+//! ready. A row is read through [`ReadRows`](swarm_model::ReadRows) alone, at one step a reading.
+//! An entry changes at most one row, by one of seven calls, each of which asks only what it needs
+//! of the entry and of that row (`specs/Acting.antt`), and ensures that the rows are those after
+//! the entry of every pool that had them before. `reserve` is the only call that takes memory: the
+//! texts of its copy of the entry move into the rows, and the chunks of a run grow in room that it
+//! made. The crate stands on `swarm_model` and is called by no crate yet; it is meant for a
+//! machine with indexes.
+#![tactic(auto)]
+
+mod in_place;
+mod making;
+mod output;
+mod rows;
+
+pub use rows::TaskRows;

@@ -1,0 +1,111 @@
+//! What is made ready for an entry, and what is taken from it.
+ghost use Rattle.std.specs.Prelude.{◌≡◌, ◌∷◌, [], OnOk, vec_capacity};
+ghost use Rattle.swarm_model.specs.Numbers.{AreNumbered};
+ghost use Rattle.swarm_model.specs.Effects.{no_of_task, end_at, added_tasks};
+ghost use Rattle.task_rows.specs.Acting.{AddsRow, run_of, chunk_in};
+ghost use Rattle.task_rows.specs.Inside.{HasRoom, TakesChunk, TakesFresh};
+
+use crate::in_place::{fresh, row_of};
+use crate::output::make_chunk_room;
+use dimensions::Spare;
+use std::alloc::AllocError;
+use swarm_model::{Chunk, Entry, EntryKind, TaskRow, TaskState};
+
+/// Makes the room that the entry needs.
+pub(crate) fn make_room(
+    rows: &mut Vec<TaskRow>,
+    spare: &mut Spare<Chunk>,
+    entry: &Entry,
+) -> Result<(), AllocError>
+    requires { AreNumbered no_of_task 1 rows.old.items }
+    ensures rows { rows.new.items ≡ rows.old.items }
+    ensures room { OnOk result (HasRoom rows.old.items (vec_capacity rows.new) spare.new entry.now.kind) }
+{
+    match &entry.kind {
+        EntryKind::New { .. } => rows.reserve(1),
+        EntryKind::Update { t, chunk, .. } => make_fresh_room(rows, spare, *t, *chunk),
+        _ => Ok(()),
+    }
+}
+
+fn make_fresh_room(
+    rows: &[TaskRow],
+    spare: &mut Spare<Chunk>,
+    no: u32,
+    chunk: Option<Chunk>,
+) -> Result<(), AllocError>
+    requires { AreNumbered no_of_task 1 rows.now }
+    ensures { OnOk result (TakesFresh spare.new (run_of rows.now no) chunk) }
+{
+    match fresh(rows, no, chunk) {
+        None => Ok(()),
+        Some(_) => make_run_room(rows, spare, no),
+    }
+}
+
+fn make_run_room(rows: &[TaskRow], spare: &mut Spare<Chunk>, no: u32) -> Result<(), AllocError>
+    requires { AreNumbered no_of_task 1 rows.now }
+    ensures { OnOk result (TakesChunk spare.new (run_of rows.now no)) }
+{
+    match row_of(rows, no) {
+        None => Ok(()),
+        Some(row) => make_chunk_room(row, spare),
+    }
+}
+
+fn end_at(state: TaskState, moment: u64) -> Option<u64>
+    ensures { result ≡ end_at state moment }
+{
+    match state {
+        TaskState::Pending => None,
+        _ => Some(moment),
+    }
+}
+
+/// The row that an entry adds; the entry's texts move into it.
+pub(crate) fn row_from(no: u32, entry: Entry) -> TaskRow
+    requires { AddsRow no entry.kind }
+    ensures no { result.no ≡ no }
+    ensures row { added_tasks entry.moment entry.kind ≡ result ∷ [] }
+{
+    let Entry {
+        moment,
+        pass: _,
+        kind,
+    } = entry;
+    match kind {
+        EntryKind::New {
+            t: _,
+            who,
+            request,
+            state,
+            slice,
+            from,
+        } => TaskRow {
+            no,
+            creator: who,
+            request,
+            created: moment,
+            state,
+            slice,
+            since: moment,
+            attempt: None,
+            source: from,
+            ended: end_at(state, moment),
+        },
+        other => {
+            drop(other);
+            unreachable!()
+        }
+    }
+}
+
+/// The chunk of an entry.
+pub(crate) fn chunk_of(entry: &Entry) -> Option<Chunk>
+    ensures { result ≡ chunk_in entry.now.kind }
+{
+    match &entry.kind {
+        EntryKind::Update { chunk, .. } => *chunk,
+        _ => None,
+    }
+}

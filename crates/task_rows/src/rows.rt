@@ -1,0 +1,208 @@
+ghost use Rattle.std.specs.Prelude.{◌≡◌, ◌+◌, [], length, Some, None, IfSome, OnOk, OnErr};
+ghost use Rattle.task_rows.specs.Acting.{row_of, run_of, chunk_in, IsAfter, IsAfterRun, AddsRow, Claims, Reports, EndsRun, Cancels, Kills, EndsSlice, StaysShort, HasFewSlices};
+
+use crate::in_place::{change, close, keep_chunk, row_of, shift};
+use crate::making::{chunk_of, make_room, row_from};
+use dimensions::{Growing, Spare, TryCopy};
+use std::alloc::{AllocError, Global};
+use std::marker::Model;
+use std::mem;
+use std::sync::ledger::Ledger;
+use swarm_model::{
+    Cancel, Chunk, Entry, EntryKind, Lose, MarkKill, ReadRows, Shift, Start, Steps, TaskRow,
+};
+
+/// The rows of a pool's tasks. Tasks are numbered from 1 in the order of their acceptance.
+///
+/// Each change takes the entry that was reserved just before, and the number of the task whose row
+/// it changes. None takes memory.
+#[derive(Drop)]
+pub struct TaskRows {
+    alloc: Global,
+    rows: Vec<TaskRow>,
+    /// A larger buffer for the run whose chunks fill their own.
+    spare: Spare<Chunk>,
+    ready: Option<Entry>,
+}
+
+impl Model for TaskRows {
+    ghost use Rattle.task_rows.specs.Plain.{Kept};
+
+    ghost Value = { Kept };
+
+    ghost use Rattle.task_rows.specs.Inside.{kept_of, IsKept};
+
+    ghost view = { kept_of };
+
+    ghost invariant = { IsKept };
+}
+
+impl TaskRows {
+    /// No task yet. It takes no memory.
+    pub fn new(alloc: Global) -> TaskRows
+        ensures { result ≡ record { rows = []; ready = None } }
+    {
+        TaskRows {
+            alloc,
+            rows: Vec::new(alloc),
+            spare: Spare::new(alloc),
+            ready: None,
+        }
+    }
+
+    /// Makes ready all that the entry's change of a row needs.
+    pub fn reserve(&mut self, entry: &Entry) -> Result<(), AllocError>
+        ensures ok { OnOk result (self.new ≡ record self.old { ready = Some entry.now }) }
+        ensures err { OnErr result (self.new ≡ record self.old { ready = None }) }
+    {
+        drop(self.ready.take());
+        make_room(&mut self.rows, &mut self.spare, entry)?;
+        let copy = entry.try_copy(self.alloc)?;
+        drop(mem::replace(&mut self.ready, Some(copy)));
+        Ok(())
+    }
+
+    /// Adds the row of a new task.
+    pub fn add_row(&mut self, no: u32, entry: &Entry)
+        requires ready { self.old.ready ≡ Some entry.now }
+        requires adds { AddsRow no entry.now.kind }
+        requires next { no ≡ length self.old.rows + 1 }
+        ensures rows { IsAfter self.old.rows entry.now self.new.rows }
+        ensures ready { self.new.ready ≡ None }
+    {
+        match self.ready.take() {
+            None => unreachable!(),
+            Some(copy) => {
+                let row = row_from(no, copy);
+                self.rows.push_reserved(row);
+            }
+        }
+    }
+
+    /// A bot begins the task.
+    pub fn claim_row(&mut self, no: u32, entry: &Entry)
+        requires ready { self.old.ready ≡ Some entry.now }
+        requires claims { Claims no entry.now.kind }
+        ensures rows { IsAfter self.old.rows entry.now self.new.rows }
+        ensures ready { self.new.ready ≡ None }
+    {
+        match self.ready.take() {
+            None => unreachable!(),
+            Some(copy) => {
+                let Entry {
+                    moment,
+                    pass: _,
+                    kind,
+                } = copy;
+                match kind {
+                    EntryKind::Claim { b, t: _, claim } => {
+                        let start = Start {
+                            moment,
+                            bot: b,
+                            claim,
+                            chunks: Growing::new(self.alloc),
+                        };
+                        change(&mut self.rows, no, start);
+                    }
+                    other => {
+                        drop(other);
+                        unreachable!()
+                    }
+                }
+            }
+        }
+    }
+
+    /// The run goes on after a report, whose chunk is kept where it goes on from the output.
+    pub fn append_chunk(&mut self, no: u32, entry: &Entry)
+        requires ready { self.old.ready ≡ Some entry.now }
+        requires reports { Reports no entry.now.kind }
+        requires short { StaysShort (run_of self.old.rows no) (chunk_in entry.now.kind) }
+        ensures rows { IsAfter self.old.rows entry.now self.new.rows }
+        ensures ready { self.new.ready ≡ None }
+    {
+        drop(self.ready.take());
+        keep_chunk(&mut self.rows, no, chunk_of(entry), &mut self.spare);
+    }
+
+    /// The run ends: with its last report, whose chunk is kept likewise, with its bot's silence, or
+    /// with its bot's next session. An entry with a session doesn't name the task: the rows are
+    /// those of the pools in which its bot runs the task.
+    pub fn finish(&mut self, no: u32, entry: &Entry)
+        requires ready { self.old.ready ≡ Some entry.now }
+        requires ends { EndsRun no entry.now.kind }
+        requires short { StaysShort (run_of self.old.rows no) (chunk_in entry.now.kind) }
+        ensures rows { IsAfterRun self.old.rows no entry.now self.new.rows }
+        ensures ready { self.new.ready ≡ None }
+    {
+        match self.ready.take() {
+            None => unreachable!(),
+            Some(copy) => {
+                let Entry {
+                    moment,
+                    pass: _,
+                    kind,
+                } = copy;
+                match kind {
+                    EntryKind::Update {
+                        chunk,
+                        last: Some(last),
+                        ..
+                    } => close(&mut self.rows, no, moment, chunk, last, &mut self.spare),
+                    other => {
+                        drop(other);
+                        change(&mut self.rows, no, Lose { moment });
+                    }
+                }
+            }
+        }
+    }
+
+    /// The task, which waits, is canceled.
+    pub fn cancel(&mut self, no: u32, entry: &Entry)
+        requires ready { self.old.ready ≡ Some entry.now }
+        requires cancels { Cancels no entry.now.kind }
+        ensures rows { IsAfter self.old.rows entry.now self.new.rows }
+        ensures ready { self.new.ready ≡ None }
+    {
+        drop(self.ready.take());
+        let moment = entry.moment;
+        change(&mut self.rows, no, Cancel { moment });
+    }
+
+    /// The run is asked to stop.
+    pub fn mark_kill(&mut self, no: u32, entry: &Entry)
+        requires ready { self.old.ready ≡ Some entry.now }
+        requires kills { Kills no entry.now.kind }
+        ensures rows { IsAfter self.old.rows entry.now self.new.rows }
+        ensures ready { self.new.ready ≡ None }
+    {
+        drop(self.ready.take());
+        change(&mut self.rows, no, MarkKill);
+    }
+
+    /// The task's slice ran out: it comes to another one, or ends at its last.
+    pub fn next_slice(&mut self, no: u32, entry: &Entry)
+        requires ready { self.old.ready ≡ Some entry.now }
+        requires slice { EndsSlice no entry.now.kind }
+        requires few { IfSome (row_of self.old.rows no) HasFewSlices }
+        ensures rows { IsAfter self.old.rows entry.now self.new.rows }
+        ensures ready { self.new.ready ≡ None }
+    {
+        drop(self.ready.take());
+        let moment = entry.moment;
+        match &entry.kind {
+            EntryKind::Slice { to, .. } => shift(&mut self.rows, no, Shift { moment, to: *to }),
+            _ => unreachable!(),
+        }
+    }
+}
+
+impl ReadRows for TaskRows {
+    ghost rows = { λ kept. kept.rows };
+
+    fn row<L: Ledger>(&self, no: u32, steps: &mut Steps<L>) -> Option<&TaskRow> {
+        steps.tick();
+        row_of(&self.rows, no)
+    }
+}
