@@ -5,7 +5,7 @@ use Rattle.swarm_model.specs.declared.reply.Reply.{Reply}
 use Rattle.swarm_model.specs.declared.reply.Reply.TheVariants as reply
 use Rattle.swarm_model.specs.declared.rule.Rule.{Rule}
 use Rattle.swarm_model.specs.declared.rule.Rule.TheVariants as rule
-use Rattle.swarm_wire.specs.Bodies.{body_of}
+use Rattle.reply_bodies.specs.Bodies.{body_of}
 
 -- the status of a refusal
 abbrev pub refusal_status : Rule → ℕ

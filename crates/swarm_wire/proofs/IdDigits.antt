@@ -11,7 +11,7 @@ use Rattle.std.proofs.Math.Nat.{pow-le-pow_right}
 use Rattle.std.proofs.lemmas.Str.Parse.{without_leading_plus_none}
 use Rattle.std.proofs.lemmas.Str.{digit_value_digit}
 use Rattle.swarm_model.specs.Words.{is_between}
-use Rattle.swarm_wire.specs.Ids.{is_id_digit, has_id_form}
+use Rattle.swarm_wire.specs.Ids.{is_hex_digit, has_id_form}
 
 digit_range : (c : ℕ) → is_ascii_digit c ≡ true → IsInRange 48 57 c
 digit_range c h = (grind (arith, h), grind (arith, h))
@@ -26,12 +26,12 @@ of_kind : (c : ℕ) (t : Bool) → is_ascii_digit c ≡ t → (t || is_between 9
 of_kind c true d h = let k = digit_range c d in omega (arith, digit_value_digit c k, k.1)
 of_kind c false d h = let k = letter_range c h in omega (arith, letter_value c k.0 k.1, k.1)
 
-id_digit_value : (c : ℕ) → is_id_digit c ≡ true → digit_value c < 16
+id_digit_value : (c : ℕ) → is_hex_digit c ≡ true → digit_value c < 16
 id_digit_value c h = of_kind c (is_ascii_digit c) refl h
 
-all_digits : (s : List ℕ) → list_all is_id_digit s ≡ true → AllDigits 16 s
+all_digits : (s : List ℕ) → list_all is_hex_digit s ≡ true → AllDigits 16 s
 all_digits [] h = tt
-all_digits (c ∷ cs) h = let k = and_parts (is_id_digit c) (list_all is_id_digit cs) h in (id_digit_value c k.0, all_digits cs k.1)
+all_digits (c ∷ cs) h = let k = and_parts (is_hex_digit c) (list_all is_hex_digit cs) h in (id_digit_value c k.0, all_digits cs k.1)
 
 no_plus : (s : List ℕ) → IsNumeral 16 s → get_or s 0 0 ≢ 43
 no_plus [] h e = let l = h.0 in absurd (omega (arith, l))
@@ -43,7 +43,7 @@ no_plus (c ∷ cs) h e =
 pub record IdParts (s : List ℕ) : Type 0 where
   pub some : 0 < length s
   pub short : length s ≤ 7
-  pub digits : list_all is_id_digit s ≡ true
+  pub digits : list_all is_hex_digit s ≡ true
 
 id_parts : (s : List ℕ) → has_id_form s ≡ true → IdParts s
 id_parts s h = record { some = grind (arith, h); short = grind (arith, h); digits = grind (arith, h) }

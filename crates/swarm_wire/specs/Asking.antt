@@ -1,14 +1,13 @@
 -- What the body of a request asks for.
 use Rattle.std.specs.Prelude.{◌≡◌, ◌≢◌, ℕ, List, [], length, nat_lt, Option, Some, None, Result, Ok, Err, if◌then◌else◌, IsTrue, IsSomeAnd, slice_get}
-use Rattle.std.specs.Str.{is_utf8}
 use Rattle.serde_json.specs.Data.{Data}
-use Rattle.serde_json.specs.Read.{read}
 use Rattle.task_props.specs.declared.prop_fault.PropFault.{PropFault}
 use Rattle.task_props.specs.declared.prop_fault.PropFault.TheVariants as prop_fault
 use Rattle.task_props.specs.declared.prop_rule.PropRule.TheVariants.{WrongType}
 use Rattle.task_props.specs.Checked.{pool_of_task}
 use Rattle.swarm_model.specs.declared.pool_settings.PoolSettings.{PoolSettings}
 use Rattle.swarm_model.specs.declared.pool_settings.Settings.{Settings}
+use Rattle.swarm_model.specs.declared.rule.Unbuilt.TheVariants as unbuilt
 use Rattle.swarm_model.specs.declared.request.Request.{Request}
 use Rattle.swarm_model.specs.declared.request.Request.TheVariants as ask
 use Rattle.swarm_model.specs.Fits.{fits}
@@ -18,18 +17,16 @@ use Rattle.swarm_wire.specs.declared.asked.WireFault.TheVariants as fault
 use Rattle.swarm_wire.specs.declared.addressed.Addressed.{Addressed}
 use Rattle.swarm_wire.specs.declared.route.Route.{Route}
 use Rattle.swarm_wire.specs.declared.route.Route.TheVariants as route
-use Rattle.swarm_wire.specs.Readings.{◌>>=◌}
-use Rattle.swarm_wire.specs.Fields.{is_object}
+use Rattle.json_fields.specs.Readings.{reading, ◌>>=◌}
+use Rattle.json_fields.specs.Fields.{is_object}
 use Rattle.swarm_wire.specs.Pools.{place_of}
-use Rattle.swarm_wire.specs.Ids.{place_of_id, task_of_id, try_of_id}
+use Rattle.reply_bodies.specs.Ids.{place_of_id, task_of_id, try_of_id}
 use Rattle.swarm_wire.specs.Tasks.{task_in, is_built}
 use Rattle.swarm_wire.specs.Results.{id_in}
+use Rattle.swarm_wire.specs.Cancels.{cancel_in}
 use Rattle.swarm_wire.specs.Counts.{count_in}
 use Rattle.swarm_wire.specs.BotCalls.{handshake_in, poll_in, claim_in, event_in, terminate_in}
-
--- the value that a body is, where it is UTF-8 and JSON
-abbrev pub reading : List ℕ → Option Data
-reading body = if is_utf8 body then read body else None
+use Rattle.swarm_wire.specs.Reports.{report_in, is_bare, update_by}
 
 -- a request that carries no bytes, to the pool at a place
 abbrev pub asked : ℕ → Request → Asked
@@ -56,19 +53,30 @@ unfoldable pub new_of : List PoolSettings → Data → Result Asked WireFault
 new_of pools d = do
   task ← unless_broken (task_in d)
   place ← pool_named pools (pool_of_task task)
-  if is_built d then Ok (asked place (ask.New task)) else Err fault.NotBuilt
+  if is_built d then Ok (asked place (ask.New task)) else Err (fault.NotBuilt unbuilt.Task)
 
--- the task of an id, where the settings have a pool at its place
-unfoldable pub result_at : List PoolSettings → ℕ → Result Asked WireFault
-result_at pools id =
-    if nat_lt (place_of_id id) (length pools)
-    then Ok (asked (place_of_id id) (ask.Result (task_of_id id) (try_of_id id)))
-    else Err fault.NoTask
+-- the place of an id, where the settings have a pool there
+abbrev pub pool_at : List PoolSettings → ℕ → Result ℕ WireFault
+pool_at pools id = if nat_lt (place_of_id id) (length pools) then Ok (place_of_id id) else Err fault.NoTask
 
 unfoldable pub result_of : List PoolSettings → Data → Result Asked WireFault
 result_of pools d = do
   id ← unless_broken (id_in d)
-  result_at pools id
+  place ← pool_at pools id
+  Ok (asked place (ask.Result (task_of_id id) (try_of_id id)))
+
+unfoldable pub cancel_of : List PoolSettings → Data → Result Asked WireFault
+cancel_of pools d = do
+  fields ← unless_broken (cancel_in d)
+  place ← pool_at pools fields.0
+  Ok (asked place (ask.Cancel (task_of_id fields.0) (try_of_id fields.0) fields.1))
+
+-- a report; what isn't served is told last
+unfoldable pub update_of : List PoolSettings → Data → Result Asked WireFault
+update_of pools d = do
+  report ← unless_broken (report_in d)
+  place ← pool_at pools report.run
+  if is_bare report then Ok (asked place (update_by report)) else Err (fault.NotBuilt unbuilt.Update)
 
 unfoldable pub count_of : List PoolSettings → Data → Result Asked WireFault
 count_of pools d = do
@@ -85,12 +93,14 @@ addressed_asks pools reading = do
 
 abbrev pub object_asks : List PoolSettings → Route → Data → Result Asked WireFault
 object_asks pools route.NewTask d = new_of pools d
+object_asks pools route.CancelTask d = cancel_of pools d
 object_asks pools route.GetResult d = result_of pools d
 object_asks pools route.CountTasks d = count_of pools d
 object_asks pools route.Handshake d = addressed_asks pools (handshake_in d)
 object_asks pools route.Poll d = addressed_asks pools (poll_in d)
 object_asks pools route.Claim d = addressed_asks pools (claim_in d)
 object_asks pools route.Event d = addressed_asks pools (event_in d)
+object_asks pools route.TaskUpdate d = update_of pools d
 object_asks pools route.TerminateBot d = addressed_asks pools (terminate_in d)
 
 -- what is no object breaks a rule of no field

@@ -8,8 +8,8 @@ use Rattle.swarm_model.specs.declared.pool_settings.PoolSettings.{PoolSettings}
 use Rattle.swarm_model.specs.declared.request.Request.TheVariants as ask
 use Rattle.swarm_model.specs.Fits.{fits}
 use Rattle.swarm_wire.specs.declared.addressed.Addressed.{Addressed}
-use Rattle.swarm_wire.specs.Readings.{at, ◌>>=◌}
-use Rattle.swarm_wire.specs.Fields.{text_at, required_text_at}
+use Rattle.json_fields.specs.Readings.{at, ◌>>=◌}
+use Rattle.json_fields.specs.Fields.{text_at, required_text_at}
 use Rattle.swarm_wire.specs.Names.{name_at}
 use Rattle.swarm_wire.specs.BotFields.{said_in, said_by, event_of, message_of}
 

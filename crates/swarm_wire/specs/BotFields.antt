@@ -17,8 +17,8 @@ use Rattle.swarm_model.specs.declared.entry.EventKind.TheVariants.{Ping, Quarant
 use Rattle.swarm_model.specs.Fits.{fits_message}
 use Rattle.swarm_wire.specs.declared.bot_fields.RawSaid.{RawSaid}
 use Rattle.swarm_wire.specs.declared.bot_fields.Said.{Said}
-use Rattle.swarm_wire.specs.Readings.{at, below, inside, each_from, ◌>>=◌}
-use Rattle.swarm_wire.specs.Fields.{object_of, text_at, each_at, items_at}
+use Rattle.json_fields.specs.Readings.{at, below, inside, each_from, ◌>>=◌}
+use Rattle.json_fields.specs.Fields.{object_of, text_at, each_at, items_at}
 use Rattle.swarm_wire.specs.Tasks.{text_item}
 
 -- ---- dimensions

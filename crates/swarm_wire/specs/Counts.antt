@@ -6,9 +6,9 @@ use Rattle.task_props.specs.declared.prop_rule.PropRule.{PropRule}
 use Rattle.task_props.specs.declared.prop_rule.PropRule.TheVariants.{Grammar}
 use Rattle.task_props.specs.declared.prop_fault.PropFault.{PropFault}
 use Rattle.swarm_model.specs.declared.task_state.TaskState.{TaskState}
-use Rattle.swarm_wire.specs.Readings.{at, ◌>>=◌}
-use Rattle.swarm_wire.specs.Fields.{text_of, or_absent, present, required_text_at}
-use Rattle.swarm_wire.specs.States.{state_named}
+use Rattle.json_fields.specs.Readings.{at, ◌>>=◌}
+use Rattle.json_fields.specs.Fields.{text_of, or_absent, present, required_text_at}
+use Rattle.reply_bodies.specs.States.{state_named}
 
 -- an absent state is any
 unfoldable pub state_text_in : Data → Result (List ℕ) PropRule

@@ -2,8 +2,8 @@
 use Rattle.std.specs.Prelude.{ℕ, Result, codes}
 use Rattle.serde_json.specs.Data.{Data}
 use Rattle.task_props.specs.declared.prop_fault.PropFault.{PropFault}
-use Rattle.swarm_wire.specs.Readings.{at, ◌>>=◌}
-use Rattle.swarm_wire.specs.Fields.{required_text_at}
+use Rattle.json_fields.specs.Readings.{at, ◌>>=◌}
+use Rattle.json_fields.specs.Fields.{required_text_at}
 use Rattle.swarm_wire.specs.Ids.{id_of}
 
 -- the id of the task or of its run

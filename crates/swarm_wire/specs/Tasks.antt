@@ -12,8 +12,8 @@ use Rattle.task_props.specs.declared.raw_task.RawProperties.{RawProperties}
 use Rattle.task_props.specs.declared.new_task.NewTask.{NewTask}
 use Rattle.task_props.specs.Broken.{first_broken_task}
 use Rattle.task_props.specs.Reading.{task_of}
-use Rattle.swarm_wire.specs.Readings.{at, inside, ◌>>=◌}
-use Rattle.swarm_wire.specs.Fields.{text_of, object_of, values_of, present, text_at, number_at, flag_at, list_in, object_at, each_at, unknown_key, unless_unknown}
+use Rattle.json_fields.specs.Readings.{at, inside, ◌>>=◌}
+use Rattle.json_fields.specs.Fields.{text_of, object_of, values_of, present, text_at, number_at, flag_at, list_in, object_at, each_at, unknown_key, unless_unknown}
 
 -- a text of a command, at its place
 abbrev pub text_item : ℕ → Data → Result (List ℕ) PropFault

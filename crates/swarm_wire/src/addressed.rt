@@ -2,7 +2,7 @@
 ghost use Rattle.std.specs.Prelude.{◌≡◌, ◌≤◌, IfOk, Result, length};
 ghost use Rattle.task_props.specs.declared.prop_fault.PropFault.{PropFault};
 ghost use Rattle.swarm_wire.specs.declared.addressed.Addressed.{Addressed as SpecAddressed};
-ghost use Rattle.swarm_wire.specs.Readings.{Reads};
+ghost use Rattle.json_fields.specs.Readings.{Reads};
 ghost use Rattle.swarm_wire.specs.BotCalls.{FitsNamed};
 ghost use Rattle.swarm_wire.specs.Asking.{Asks, FitsPool, addressed_asks};
 

@@ -1,6 +1,6 @@
 use dimensions::{Seq, Text};
 use std::alloc::AllocError;
-use swarm_model::Request;
+use swarm_model::{Request, Unbuilt};
 use task_props::{PropFault, PropRule};
 
 /// What a body asks for.
@@ -26,8 +26,8 @@ pub enum WireFault {
     NoPool,
     /// The settings have no pool at the place of the id.
     NoTask,
-    /// The task breaks no rule, and isn't served.
-    NotBuilt,
+    /// It breaks no rule, and isn't served.
+    NotBuilt { what: Unbuilt },
 }
 
 impl From<AllocError> for WireFault {

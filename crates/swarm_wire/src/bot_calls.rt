@@ -1,14 +1,14 @@
 //! The bodies of the calls of bots.
 ghost use Rattle.std.specs.Prelude.{◌≡◌, IfOk};
 ghost use Rattle.serde_json.specs.View.{view};
-ghost use Rattle.swarm_wire.specs.Readings.{Reads};
+ghost use Rattle.json_fields.specs.Readings.{Reads};
 ghost use Rattle.swarm_wire.specs.BotCalls.{handshake_in, poll_in, claim_in, event_in, terminate_in, FitsNamed};
 
 use crate::addressed::Addressed;
 use crate::bot_fields::{check_said, read_event, read_message, read_said};
-use crate::fields::{read_required_text, read_text};
 use crate::names::read_name;
 use dimensions::Text;
+use json_fields::{read_required_text, read_text};
 use serde_json::Value;
 use std::alloc::Global;
 use swarm_model::Request;

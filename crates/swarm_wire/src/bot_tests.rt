@@ -1,11 +1,7 @@
+use crate::Route;
 use crate::tests::{read, told};
-use crate::{Route, show_reply};
-use dimensions::{DimSet, Seq, Text};
-use std::alloc::Global;
 use std::test::Fail;
-use swarm_model::{Reply, Rule, TaskState, Unfit};
 use swarm_policy::open_settings;
-use task_props::{Cache, File, Properties};
 
 #[test]
 fn handshakes_in_bodies(rt: HostRuntime) -> Result<(), Fail> {
@@ -156,93 +152,32 @@ fn other_calls_of_bots_in_bodies(rt: HostRuntime) -> Result<(), Fail> {
     Ok(())
 }
 
-/// Properties with one of each.
-fn properties(alloc: Global) -> Result<Properties, Fail> {
-    let cache = Cache {
-        name: Text::from_str(alloc, "git")?,
-        path: Text::from_str(alloc, "c/git")?,
-    };
-    let input = File {
-        path: Text::from_str(alloc, "in/a")?,
-        digest: [0x0f; 32],
-        size: 12,
-    };
-    let pool = (
-        Text::from_str(alloc, "pool")?,
-        Text::from_str(alloc, "default")?,
-    );
-    let os = (Text::from_str(alloc, "os")?, Text::from_str(alloc, "Mac")?);
-    let pairs = vec![in alloc; pool, os]?;
-    let dimensions = DimSet::read(alloc, pairs.as_slice())?;
-    let variable = (Text::from_str(alloc, "A")?, Text::from_str(alloc, "b")?);
-    let output = Text::from_str(alloc, "out")?;
-    let program = Text::from_str(alloc, "ninja")?;
-    let flag = Text::from_str(alloc, "-v")?;
-    Ok(Properties {
-        command: Seq::from_vec(vec![in alloc; program, flag]?),
-        env: Seq::from_vec(vec![in alloc; variable]?),
-        dimensions,
-        caches: Seq::from_vec(vec![in alloc; cache]?),
-        inputs: Seq::from_vec(vec![in alloc; input]?),
-        outputs: Seq::from_vec(vec![in alloc; output]?),
-        execution_timeout_secs: 3600,
-        io_timeout_secs: 600,
-        grace_period_secs: 30,
-        idempotent: true,
-    })
-}
-
 #[test]
-fn replies_to_bots(rt: HostRuntime) -> Result<(), Fail> {
+fn reports_in_bodies(rt: HostRuntime) -> Result<(), Fail> {
     let alloc = rt.alloc();
-    for (reply, wanted) in [
+    let settings = open_settings(alloc)?;
+    for (more, wanted) in [
+        ("", "report on try 1 of task 1 of 0 by b1"),
         (
-            Reply::Shaken {
-                bot: Text::from_str(alloc, "b1")?,
-            },
-            r#"{"bot_id":"b1"}"#,
+            r#","exit_code":-9,"duration_ms":5,"dropped":"3""#,
+            "end -9 3 of try 1 of task 1 of 0 by b1",
         ),
         (
-            Reply::Sleep { secs: 16 },
-            r#"{"cmd":"sleep","duration":16}"#,
-        ),
-        (Reply::ClaimHint, r#"{"cmd":"claim"}"#),
-        (
-            Reply::Run {
-                task: 1,
-                try_no: 1,
-                slice: 2,
-                tolerance: 60,
-                properties: properties(alloc)?,
-            },
-            r#"{"bot_ping_tolerance_secs":60,"cmd":"run","properties":{"caches":[{"name":"git","path":"c/git"}],"command":["ninja","-v"],"dimensions":[{"key":"os","value":"Mac"},{"key":"pool","value":"default"}],"env":[{"key":"A","value":"b"}],"execution_timeout_secs":3600,"grace_period_secs":30,"idempotent":true,"inputs":[{"digest":"0f0f0f0f0f0f0f0f0f0f0f0f0f0f0f0f0f0f0f0f0f0f0f0f0f0f0f0f0f0f0f0f","path":"in/a","size":12}],"io_timeout_secs":600,"outputs":["out"]},"run_id":"400011","slice":2}"#,
-        ),
-        (Reply::Skip, r#"{"cmd":"skip"}"#),
-        (Reply::Noted, "{}"),
-        (Reply::No(Rule::NoBot), r#"{"code":"no_bot"}"#),
-        (
-            Reply::No(Rule::BotUnfit { why: Unfit::Dead }),
-            r#"{"code":"bot_unfit","why":"dead"}"#,
+            r#","output":"YQ==","output_chunk_start":67108863"#,
+            "report not_built",
         ),
         (
-            Reply::No(Rule::BotBusy { task: 2, try_no: 1 }),
-            r#"{"code":"bot_busy","run":"400021"}"#,
+            r#","output":"YQ==","output_chunk_start":67108864"#,
+            "output_chunk_start range",
         ),
         (
-            Reply::No(Rule::ClaimOver {
-                task: 26,
-                try_no: 1,
-                state: TaskState::BotDied,
-            }),
-            r#"{"code":"claim_over","run":"4001a1","state":"BOT_DIED"}"#,
-        ),
-        (
-            Reply::No(Rule::PoolBotsFull { limit: 2 }),
-            r#"{"code":"pool_bots_full","limit":2}"#,
+            r#","files":[{"path":"a/..","digest":"0"}]"#,
+            "files.0.path grammar",
         ),
     ] {
-        let bytes = show_reply(alloc, 1, &reply, &Seq::new(alloc))?;
-        assert_eq!(rt; bytes.as_slice(), wanted.as_bytes());
+        let body = format!(in alloc; r#"{{"bot_id":"b1","task_id":"11"{more}}}"#)?;
+        let asked = read(alloc, &settings, Route::TaskUpdate, body.as_str());
+        assert_eq!(rt; told(alloc, asked)?.as_str(), wanted);
     }
     Ok(())
 }

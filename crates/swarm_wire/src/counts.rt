@@ -1,16 +1,15 @@
 //! Asking how many tasks are in a state.
 ghost use Rattle.std.specs.Prelude.{◌≡◌, ◌≤◌, IfOk, length};
 ghost use Rattle.serde_json.specs.View.{view};
-ghost use Rattle.swarm_wire.specs.Readings.{Gives, GivesUnlessMemory};
+ghost use Rattle.json_fields.specs.Readings.{Gives, GivesUnlessMemory};
 ghost use Rattle.swarm_wire.specs.Counts.{state_text_in as spec_state_text_in, state_text_at as spec_state_text_at, state_of as spec_state_of, count_in};
 ghost use Rattle.swarm_wire.specs.Asking.{Asks, FitsPool, count_of};
 
-use crate::faults::broken;
-use crate::fields::{present, read_required_text};
 use crate::pools::place_of;
-use crate::states::state_named;
 use crate::{Asked, WireFault};
 use dimensions::Seq;
+use json_fields::{broken, present, read_required_text};
+use reply_bodies::state_named;
 use serde_json::Value;
 use std::alloc::Global;
 use swarm_model::{PoolSettings, Request, TaskState};

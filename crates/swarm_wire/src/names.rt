@@ -3,11 +3,11 @@ ghost use Rattle.std.specs.Prelude.{◌≡◌, IfOk, true};
 ghost use Rattle.std.specs.List.{list_all};
 ghost use Rattle.dimensions.specs.Rules.{is_key_byte};
 ghost use Rattle.swarm_model.specs.Fits.{is_name};
-ghost use Rattle.swarm_wire.specs.Readings.{Gives, Reads};
+ghost use Rattle.json_fields.specs.Readings.{Gives, Reads};
 ghost use Rattle.swarm_wire.specs.Names.{name_of as spec_name_of, name_at};
 
-use crate::faults::broken;
 use dimensions::Text;
+use json_fields::broken;
 use std::alloc::Global;
 use task_props::{PropFault, PropRule};
 

@@ -1,8 +1,11 @@
-//! The pools of the settings, by their names.
-ghost use Rattle.std.specs.Prelude.{◌≡◌, ◌≤◌, IfSome, IsTrue, IsSomeAnd, length, slice_get};
+//! The pools of the settings, by their names and by the ids of their tasks.
+ghost use Rattle.std.specs.Prelude.{◌≡◌, ◌≤◌, ◌<◌, IfOk, IfSome, IsTrue, IsSomeAnd, length, slice_get};
 ghost use Rattle.dimensions.specs.Alike.{same};
 ghost use Rattle.swarm_wire.specs.Pools.{place_of as spec_place_of};
+ghost use Rattle.swarm_wire.specs.Asking.{pool_at as spec_pool_at};
 
+use crate::WireFault;
+use crate::ids::place_of_id;
 use swarm_model::PoolSettings;
 
 /// The place of the pool of a name.
@@ -18,4 +21,17 @@ pub(crate) fn place_of(pools: &[PoolSettings], name: &str) -> Option<u32>
         }
     }
     None
+}
+
+/// The place of the pool of an id, where the settings have one there.
+pub(crate) fn pool_at(pools: &[PoolSettings], id: u32) -> Result<u32, WireFault>
+    ensures is { result ≡ spec_pool_at pools.now id }
+    ensures within { IfOk result (λ place. place < length pools.now) }
+{
+    let place = place_of_id(id);
+    if (place as usize) < pools.len() {
+        Ok(place)
+    } else {
+        Err(WireFault::NoTask)
+    }
 }

@@ -5,18 +5,20 @@ ghost use Rattle.swarm_model.specs.Settings.{AreOpen};
 ghost use Rattle.swarm_wire.specs.Asking.{Asks, FitsPool, new_of, object_asks, value_asks, asked_of};
 
 use crate::addressed::ask_named;
-use crate::body::read_body;
 use crate::bot_calls::{read_bot_event, read_claim, read_handshake, read_poll, read_terminate};
+use crate::cancels::ask_cancel;
 use crate::counts::ask_count;
 use crate::pools::place_of;
+use crate::reports::ask_update;
 use crate::results::ask_result;
 use crate::tasks::read_task;
 use crate::unserved::is_built;
 use crate::{Asked, Route, WireFault};
 use dimensions::{Seq, Text};
+use json_fields::read_body;
 use serde_json::Value;
 use std::alloc::Global;
-use swarm_model::{PoolSettings, Request, Settings};
+use swarm_model::{PoolSettings, Request, Settings, Unbuilt};
 use task_props::PropRule;
 
 #[tactic(auto, unfolding(crate::specs::Asking::new_of))]
@@ -36,7 +38,9 @@ fn ask_new(alloc: Global, pools: &[PoolSettings], body: &Value) -> Result<Asked,
             bytes: Seq::new(alloc),
         })
     } else {
-        Err(WireFault::NotBuilt)
+        Err(WireFault::NotBuilt {
+            what: Unbuilt::Task,
+        })
     }
 }
 
@@ -52,12 +56,14 @@ fn ask_object(
 {
     match route {
         Route::NewTask => ask_new(alloc, pools, body),
+        Route::CancelTask => ask_cancel(alloc, pools, body),
         Route::GetResult => ask_result(alloc, pools, body),
         Route::CountTasks => ask_count(alloc, pools, body),
         Route::Handshake => ask_named(alloc, pools, read_handshake(alloc, body)),
         Route::Poll => ask_named(alloc, pools, read_poll(alloc, body)),
         Route::Claim => ask_named(alloc, pools, read_claim(alloc, body)),
         Route::Event => ask_named(alloc, pools, read_bot_event(alloc, body)),
+        Route::TaskUpdate => ask_update(alloc, pools, body),
         Route::TerminateBot => ask_named(alloc, pools, read_terminate(alloc, body)),
     }
 }

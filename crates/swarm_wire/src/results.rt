@@ -1,51 +1,27 @@
 //! Asking what a task has come to.
 ghost use Rattle.std.specs.Prelude.{◌≡◌, ◌≤◌, ◌%◌, IfOk};
 ghost use Rattle.serde_json.specs.View.{view};
-ghost use Rattle.swarm_wire.specs.Readings.{Reads};
+ghost use Rattle.json_fields.specs.Readings.{Reads};
 ghost use Rattle.swarm_wire.specs.Results.{id_in};
-ghost use Rattle.swarm_wire.specs.Asking.{Asks, FitsPool, result_at, result_of};
+ghost use Rattle.swarm_wire.specs.Asking.{Asks, FitsPool, result_of};
 
-use crate::faults::broken;
-use crate::fields::read_required_text;
-use crate::ids::id_of;
+use crate::ids::{read_id, task_of_id, try_of_id};
+use crate::pools::pool_at;
 use crate::{Asked, WireFault};
 use dimensions::Seq;
+use json_fields::read_required_text;
 use serde_json::Value;
 use std::alloc::Global;
 use swarm_model::{PoolSettings, Request};
 use task_props::PropFault;
 
 #[tactic(auto, unfolding(crate::specs::Results::id_in))]
-fn read_id(alloc: Global, body: &Value) -> Result<u32, PropFault>
+fn read_id_in(alloc: Global, body: &Value) -> Result<u32, PropFault>
     ensures is { Reads result (id_in (view body.now)) }
     ensures try_no { IfOk result (λ id. id % 16 ≤ 1) }
 {
     let text = read_required_text(alloc, body, "task_id")?;
-    match id_of(text) {
-        Ok(id) => Ok(id),
-        Err(rule) => Err(broken(alloc, "task_id", rule)),
-    }
-}
-
-#[tactic(auto, unfolding(crate::specs::Asking::result_at))]
-fn ask_at(alloc: Global, pools: &[PoolSettings], id: u32) -> Result<Asked, WireFault>
-    requires { id % 16 ≤ 1 }
-    ensures asks { result ≡ result_at pools.now id }
-    ensures fits { IfOk result (λ asked. FitsPool pools.now asked) }
-{
-    let number = (id / 16).saturating_sub(1);
-    let place = number / 262_144;
-    if place as usize >= pools.len() {
-        return Err(WireFault::NoTask);
-    }
-    Ok(Asked {
-        place,
-        request: Request::Result {
-            task: number % 262_144 + 1,
-            try_no: id % 16,
-        },
-        bytes: Seq::new(alloc),
-    })
+    read_id(alloc, text)
 }
 
 /// What a body asks of the pool at the place of its id.
@@ -58,6 +34,14 @@ pub(crate) fn ask_result(
     ensures asks { Asks result (result_of pools.now (view body.now)) }
     ensures fits { IfOk result (λ asked. FitsPool pools.now asked) }
 {
-    let id = read_id(alloc, body)?;
-    ask_at(alloc, pools, id)
+    let id = read_id_in(alloc, body)?;
+    let place = pool_at(pools, id)?;
+    Ok(Asked {
+        place,
+        request: Request::Result {
+            task: task_of_id(id),
+            try_no: try_of_id(id),
+        },
+        bytes: Seq::new(alloc),
+    })
 }

@@ -5,12 +5,14 @@ ghost use Rattle.swarm_wire.specs.Routes.{route_of as spec_route_of};
 #[derive(Clone, Copy, Debug, PartialEq, Eq)]
 pub enum Route {
     NewTask,
+    CancelTask,
     GetResult,
     CountTasks,
     Handshake,
     Poll,
     Claim,
     Event,
+    TaskUpdate,
     TerminateBot,
 }
 
@@ -21,12 +23,14 @@ pub fn route_of(target: &str) -> Option<Route>
 {
     match target {
         "/prpc/swarming.v2.Tasks/NewTask" => Some(Route::NewTask),
+        "/prpc/swarming.v2.Tasks/CancelTask" => Some(Route::CancelTask),
         "/prpc/swarming.v2.Tasks/GetResult" => Some(Route::GetResult),
         "/prpc/swarming.v2.Tasks/CountTasks" => Some(Route::CountTasks),
         "/bot/handshake" => Some(Route::Handshake),
         "/bot/poll" => Some(Route::Poll),
         "/bot/claim" => Some(Route::Claim),
         "/bot/event" => Some(Route::Event),
+        "/bot/task_update" => Some(Route::TaskUpdate),
         "/prpc/swarming.v2.Bots/TerminateBot" => Some(Route::TerminateBot),
         _ => None,
     }

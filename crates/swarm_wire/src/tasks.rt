@@ -2,14 +2,15 @@
 ghost use Rattle.std.specs.Prelude.{◌≡◌, IfOk, map, option_map, true, codes};
 ghost use Rattle.serde_json.specs.View.{view};
 ghost use Rattle.task_props.specs.Checked.{is_checked};
-ghost use Rattle.swarm_wire.specs.Readings.{Reads, each_from};
-ghost use Rattle.swarm_wire.specs.Fields.{each_at, unknown_key as spec_unknown_key};
+ghost use Rattle.json_fields.specs.Readings.{Reads, each_from};
+ghost use Rattle.json_fields.specs.Fields.{each_at, unknown_key as spec_unknown_key};
 ghost use Rattle.swarm_wire.specs.Tasks.{text_item, property_keys, pair_in, pair_item, properties_in, properties_at, slice_in, slice_item, fields_of, checked, task_in};
 
-use crate::faults::{below, below_place, broken, broken_at};
-use crate::fields::{object_of, read_flag, read_list, read_number, read_object, read_text};
-use crate::keys::unknown_key;
 use dimensions::{Seq, Text};
+use json_fields::{
+    below, below_place, broken, broken_at, object_of, read_flag, read_list, read_number,
+    read_object, read_text, unknown_key,
+};
 use serde_json::Value;
 use std::alloc::Global;
 use task_props::{NewTask, PropFault, PropRule, RawProperties, RawSlice, RawTask};

@@ -1,12 +1,10 @@
 ghost use Rattle.swarm_model.specs.Settings.{AreOpen};
 
-use crate::{Asked, Route, WireFault, read_request, route_of, show_reply};
-use dimensions::{Seq, Text};
+use crate::{Asked, Route, WireFault, read_request, route_of};
 use std::alloc::Global;
 use std::test::Fail;
-use swarm_model::{Reply, Request, Rule, Settings, TaskState, TaskView, Unbuilt};
+use swarm_model::{Request, Settings, Unbuilt};
 use swarm_policy::open_settings;
-use task_props::File;
 
 fn fault_text(alloc: Global, fault: WireFault) -> Result<String, Fail> {
     match fault {
@@ -14,7 +12,12 @@ fn fault_text(alloc: Global, fault: WireFault) -> Result<String, Fail> {
         WireFault::BadJson => Ok(String::from_str(alloc, "bad_json")?),
         WireFault::NoPool => Ok(String::from_str(alloc, "no_pool")?),
         WireFault::NoTask => Ok(String::from_str(alloc, "no_task")?),
-        WireFault::NotBuilt => Ok(String::from_str(alloc, "not_built")?),
+        WireFault::NotBuilt {
+            what: Unbuilt::Task,
+        } => Ok(String::from_str(alloc, "not_built")?),
+        WireFault::NotBuilt {
+            what: Unbuilt::Update,
+        } => Ok(String::from_str(alloc, "report not_built")?),
         WireFault::BadField { field, rule } => {
             let path = field.as_str();
             let name = rule.name();
@@ -26,6 +29,12 @@ fn fault_text(alloc: Global, fault: WireFault) -> Result<String, Fail> {
 fn request_text(alloc: Global, place: u32, request: &Request) -> Result<String, Fail> {
     match request {
         Request::New(_) => Ok(format!(in alloc; "new of {place}")?),
+        Request::Cancel { task, try_no, kill } => {
+            let task = *task;
+            let try_no = *try_no;
+            let kill = *kill;
+            Ok(format!(in alloc; "cancel of try {try_no} of task {task} of {place} {kill}")?)
+        }
         Request::Result { task, try_no } => {
             let task = *task;
             let try_no = *try_no;
@@ -66,6 +75,29 @@ fn request_text(alloc: Global, place: u32, request: &Request) -> Result<String, 
             let kind = *kind;
             let message = message.as_str();
             Ok(format!(in alloc; "{kind:?} of {bot} {message} to {place}")?)
+        }
+        Request::Update {
+            bot,
+            task,
+            try_no,
+            chunk: _,
+            last,
+        } => {
+            let bot = bot.as_str();
+            let task = *task;
+            let try_no = *try_no;
+            match last {
+                Some(last) => {
+                    let code = last.exit_code;
+                    let dropped = last.dropped;
+                    Ok(format!(in alloc;
+                        "end {code} {dropped} of try {try_no} of task {task} of {place} by {bot}"
+                    )?)
+                }
+                None => Ok(format!(in alloc;
+                    "report on try {try_no} of task {task} of {place} by {bot}"
+                )?),
+            }
         }
         Request::Terminate { bot } => {
             let bot = bot.as_str();
@@ -204,6 +236,10 @@ fn slices_in_bodies(rt: HostRuntime) -> Result<(), Fail> {
 fn routes(rt: HostRuntime) -> Result<(), Fail> {
     for (target, wanted) in [
         ("/prpc/swarming.v2.Tasks/NewTask", Some(Route::NewTask)),
+        (
+            "/prpc/swarming.v2.Tasks/CancelTask",
+            Some(Route::CancelTask),
+        ),
         ("/prpc/swarming.v2.Tasks/GetResult", Some(Route::GetResult)),
         (
             "/prpc/swarming.v2.Tasks/CountTasks",
@@ -213,6 +249,7 @@ fn routes(rt: HostRuntime) -> Result<(), Fail> {
         ("/bot/poll", Some(Route::Poll)),
         ("/bot/claim", Some(Route::Claim)),
         ("/bot/event", Some(Route::Event)),
+        ("/bot/task_update", Some(Route::TaskUpdate)),
         (
             "/prpc/swarming.v2.Bots/TerminateBot",
             Some(Route::TerminateBot),
@@ -256,6 +293,26 @@ fn ids_in_bodies(rt: HostRuntime) -> Result<(), Fail> {
 }
 
 #[test]
+fn cancels_in_bodies(rt: HostRuntime) -> Result<(), Fail> {
+    let alloc = rt.alloc();
+    let settings = open_settings(alloc)?;
+    for (body, wanted) in [
+        (
+            "{\"task_id\":\"10\"}",
+            "cancel of try 0 of task 1 of 0 false",
+        ),
+        (
+            "{\"task_id\":\"11\",\"kill_running\":true}",
+            "cancel of try 1 of task 1 of 0 true",
+        ),
+    ] {
+        let asked = read(alloc, &settings, Route::CancelTask, body);
+        assert_eq!(rt; told(alloc, asked)?.as_str(), wanted);
+    }
+    Ok(())
+}
+
+#[test]
 fn states_in_bodies(rt: HostRuntime) -> Result<(), Fail> {
     let alloc = rt.alloc();
     let settings = open_settings(alloc)?;
@@ -288,123 +345,6 @@ fn states_in_bodies(rt: HostRuntime) -> Result<(), Fail> {
     ] {
         let asked = read(alloc, &settings, Route::CountTasks, body);
         assert_eq!(rt; told(alloc, asked)?.as_str(), wanted);
-    }
-    Ok(())
-}
-
-/// A task that waits.
-fn waiting(alloc: Global) -> Result<TaskView, Fail> {
-    Ok(TaskView {
-        bot_id: None,
-        completed_ts: None,
-        created_ts: 1000,
-        current_task_slice: 0,
-        deduped_from: None,
-        dropped: None,
-        duration_ms: None,
-        exit_code: None,
-        files: Seq::new(alloc),
-        name: Text::new(alloc),
-        output_length: 0,
-        priority: 0,
-        run_id: None,
-        started_ts: None,
-        state: TaskState::Pending,
-        task_id: 1,
-        user: Text::from_str(alloc, "ana")?,
-    })
-}
-
-/// A task that a bot ran, with all that there can be.
-fn ended(alloc: Global) -> Result<TaskView, Fail> {
-    let file = File {
-        path: Text::from_str(alloc, "out/a")?,
-        digest: [0x0f; 32],
-        size: 12,
-    };
-    Ok(TaskView {
-        bot_id: Some(Text::from_str(alloc, "b1")?),
-        completed_ts: Some(1020),
-        created_ts: 1000,
-        current_task_slice: 1,
-        deduped_from: Some((2, 1)),
-        dropped: Some(3),
-        duration_ms: Some(1500),
-        exit_code: Some(-9),
-        files: Seq::from_vec(vec![in alloc; file]?),
-        name: Text::from_str(alloc, "a\"b")?,
-        output_length: 7,
-        priority: 255,
-        run_id: Some((262_144, 1)),
-        started_ts: Some(1010),
-        state: TaskState::Completed,
-        task_id: 262_144,
-        user: Text::from_str(alloc, "ana")?,
-    })
-}
-
-#[test]
-fn views(rt: HostRuntime) -> Result<(), Fail> {
-    let alloc = rt.alloc();
-    for (place, view, wanted) in [
-        (
-            0,
-            waiting(alloc)?,
-            b"{\"bot_id\":null,\"completed_ts\":null,\"created_ts\":1000,\"current_task_slice\":0,\"deduped_from\":null,\"dropped\":null,\"duration_ms\":null,\"exit_code\":null,\"files\":[],\"name\":\"\",\"output_length\":0,\"priority\":0,\"run_id\":null,\"started_ts\":null,\"state\":\"PENDING\",\"task_id\":\"10\",\"user\":\"ana\"}".as_slice(),
-        ),
-        (
-            3,
-            ended(alloc)?,
-            b"{\"bot_id\":\"b1\",\"completed_ts\":1020,\"created_ts\":1000,\"current_task_slice\":1,\"deduped_from\":\"c00021\",\"dropped\":3,\"duration_ms\":1500,\"exit_code\":-9,\"files\":[{\"digest\":\"0f0f0f0f0f0f0f0f0f0f0f0f0f0f0f0f0f0f0f0f0f0f0f0f0f0f0f0f0f0f0f0f\",\"path\":\"out/a\",\"size\":12}],\"name\":\"a\\\"b\",\"output_length\":7,\"priority\":255,\"run_id\":\"1000001\",\"started_ts\":1010,\"state\":\"COMPLETED\",\"task_id\":\"1000000\",\"user\":\"ana\"}".as_slice(),
-        ),
-    ] {
-        let bytes = show_reply(alloc, place, &Reply::Result(view), &Seq::new(alloc))?;
-        assert_eq!(rt; bytes.as_slice(), wanted);
-    }
-    Ok(())
-}
-
-#[test]
-fn replies(rt: HostRuntime) -> Result<(), Fail> {
-    let alloc = rt.alloc();
-    for (reply, wanted) in [
-        (
-            Reply::New {
-                task: 1,
-                state: TaskState::Pending,
-            },
-            b"{\"state\":\"PENDING\",\"task_id\":\"10\"}".as_slice(),
-        ),
-        (Reply::Count { count: 7 }, b"{\"count\":7}".as_slice()),
-        (
-            Reply::No(Rule::LengthRequired),
-            b"{\"code\":\"length_required\"}".as_slice(),
-        ),
-        (
-            Reply::No(Rule::TooLarge { limit: 65_536 }),
-            b"{\"code\":\"too_large\",\"limit\":65536}".as_slice(),
-        ),
-        (
-            Reply::No(Rule::NoCaller),
-            b"{\"code\":\"no_caller\"}".as_slice(),
-        ),
-        (
-            Reply::No(Rule::NoTask),
-            b"{\"code\":\"no_task\"}".as_slice(),
-        ),
-        (
-            Reply::No(Rule::NotBuilt {
-                what: Unbuilt::Task,
-            }),
-            b"{\"code\":\"not_built\",\"what\":\"task\"}".as_slice(),
-        ),
-        (
-            Reply::No(Rule::PoolTasksFull { limit: 2 }),
-            b"{\"code\":\"pool_tasks_full\",\"limit\":2}".as_slice(),
-        ),
-    ] {
-        let bytes = show_reply(alloc, 0, &reply, &Seq::new(alloc))?;
-        assert_eq!(rt; bytes.as_slice(), wanted);
     }
     Ok(())
 }

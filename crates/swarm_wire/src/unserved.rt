@@ -3,9 +3,9 @@ ghost use Rattle.std.specs.Prelude.{◌≡◌, map, codes};
 ghost use Rattle.std.specs.List.{list_any};
 ghost use Rattle.serde_json.specs.View.{view};
 ghost use Rattle.swarm_wire.specs.Tasks.{holds as spec_holds, holds_any as spec_holds_any, is_not_empty as spec_is_not_empty, has_inputs as spec_has_inputs, are_unserved as spec_are_unserved, is_unserved_slice as spec_is_unserved_slice, is_built as spec_is_built, any_item, unserved_properties};
-ghost use Rattle.swarm_wire.specs.Fields.{list_in as spec_list_in};
+ghost use Rattle.json_fields.specs.Fields.{list_in as spec_list_in};
 
-use crate::fields::{list_in, present, values_of};
+use json_fields::{list_in, present, values_of};
 use serde_json::Value;
 
 /// The keys of properties that aren't served, but for `inputs`.

@@ -1,8 +1,8 @@
 use Rattle.std.proofs.Common.{◌≡◌, map, drop}
 use Rattle.serde_json.specs.View.{view}
-use Rattle.swarm_wire.specs.Readings.{each_from}
+use Rattle.json_fields.specs.Readings.{each_from}
 use Rattle.swarm_wire.specs.BotFields.{bot_pair_item}
-use Rattle.swarm_wire.proofs.Steps.{then_more}
+use Rattle.json_fields.proofs.Steps.{then_more}
 use Rattle.swarm_wire.proofs.bot_fields.read_bot_pairs.Given as goal
 
 abbrev pub invariant-loop-place : goal.invariant-loop-place

@@ -1,8 +1,8 @@
 use Rattle.std.proofs.Common.{◌≡◌, map, drop}
 use Rattle.serde_json.specs.View.{view}
-use Rattle.swarm_wire.specs.Readings.{each_from}
+use Rattle.json_fields.specs.Readings.{each_from}
 use Rattle.swarm_wire.specs.Tasks.{text_item}
-use Rattle.swarm_wire.proofs.Steps.{then_more}
+use Rattle.json_fields.proofs.Steps.{then_more}
 use Rattle.swarm_wire.proofs.tasks.read_texts.Given as goal
 
 abbrev pub invariant-loop-place : goal.invariant-loop-place

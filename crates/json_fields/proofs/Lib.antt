@@ -1,0 +1,4 @@
+pub mod BodyLemmas
+pub mod Numerals
+pub mod Lists
+pub mod Steps

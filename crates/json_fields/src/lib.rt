@@ -1,0 +1,27 @@
+//! The fields of a JSON object (RFC 8259), read by their keys.
+//!
+//! [`read_body`] is the value that a text is. Each reader of a field gives the value there, or the
+//! rule that it breaks with the key as its path, exactly as the definition beside it says
+//! (`specs/Fields.antt`), but for want of memory: `Gives` and `Reads` of `specs/Readings.antt`. A
+//! null is as absent. Of a key that comes twice the last value counts. A number is one that is held
+//! as whole, or a text of its digits (`specs/Numbers.antt`). [`unknown_key`] finds a key that isn't
+//! known. [`broken`] and [`broken_at`] make a fault, and [`below`] and [`below_place`] put it below
+//! the key or the place where its value stands, so that a path grows from the value outwards.
+//!
+//! What a field may hold beyond its type is no matter of this crate. It stands on the rules of
+//! `task_props`, on the texts of `dimensions`, and on `serde_json`.
+#![tactic(auto)]
+
+mod body;
+mod faults;
+mod fields;
+mod keys;
+mod numbers;
+
+pub use body::read_body;
+pub use faults::{below, below_place, broken, broken_at};
+pub use fields::{
+    list_in, object_of, present, read_flag, read_items, read_list, read_number, read_object,
+    read_optional_number, read_required_text, read_text, values_of,
+};
+pub use keys::unknown_key;

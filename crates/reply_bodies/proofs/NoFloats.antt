@@ -1,0 +1,114 @@
+-- No float is shown.
+use Rattle.std.proofs.Common.{◌≡◌, ℕ, List, [], ◌∷◌, false, refl}
+use Rattle.std.specs.Prelude.{ℤ, pos, negsuc, map, Option, Some, None}
+use Rattle.serde_json.specs.Data.{Data, string}
+use Rattle.serde_json.specs.View.{items_of}
+use Rattle.serde_json.specs.Written.{has_float, items_have_float, members_have_float}
+use Rattle.task_props.specs.declared.file.File.{File}
+use Rattle.task_props.specs.declared.properties.Properties.{Properties}
+use Rattle.swarm_model.specs.declared.task_view.TaskView.{TaskView}
+use Rattle.swarm_model.specs.declared.rule.Rule.{Rule}
+use Rattle.swarm_model.specs.declared.rule.Rule.TheVariants as rule
+use Rattle.swarm_model.specs.declared.reply.Reply.{Reply}
+use Rattle.swarm_model.specs.declared.reply.Reply.TheVariants as reply
+use Rattle.reply_bodies.specs.Views.{whole, signed, or_null, file_data, run_data, last_members, task_data}
+use Rattle.reply_bodies.specs.Commands.{pair_data, cache_data, last_properties, properties_data, run_command}
+use Rattle.reply_bodies.specs.Bodies.{refusal_data, reply_data}
+
+refusal_is_plain : (place : ℕ) (why : Rule) → has_float (refusal_data place why) ≡ false
+refusal_is_plain place rule.BadHead = refl
+refusal_is_plain place rule.LengthRequired = refl
+refusal_is_plain place (rule.TooLarge limit) = refl
+refusal_is_plain place rule.NoRoute = refl
+refusal_is_plain place rule.BadMethod = refl
+refusal_is_plain place rule.BadJson = refl
+refusal_is_plain place (rule.BadField field broken) = refl
+refusal_is_plain place rule.NoCaller = refl
+refusal_is_plain place (rule.Denied permission pool) = refl
+refusal_is_plain place rule.NoPool = refl
+refusal_is_plain place rule.NoTask = refl
+refusal_is_plain place rule.NoBot = refl
+refusal_is_plain place (rule.BotUnfit why) = refl
+refusal_is_plain place (rule.BotBusy task try_no) = refl
+refusal_is_plain place (rule.ClaimOver task try_no state) = refl
+refusal_is_plain place (rule.NotClaimant bot) = refl
+refusal_is_plain place (rule.AttemptOver state) = refl
+refusal_is_plain place (rule.PoolTasksFull limit) = refl
+refusal_is_plain place (rule.PoolBotsFull limit) = refl
+refusal_is_plain place rule.LogFull = refl
+refusal_is_plain place (rule.FrontAhead length) = refl
+refusal_is_plain place rule.WantOfMemory = refl
+refusal_is_plain place (rule.NotBuilt what) = refl
+
+or_null_is_plain : {A : Type 0} (show : A → Data) → ((a : A) → has_float (show a) ≡ false) → (o : Option A) → has_float (or_null show o) ≡ false
+or_null_is_plain show h None = refl
+or_null_is_plain show h (Some a) = h a
+
+signed_is_plain : (z : ℤ) → has_float (signed z) ≡ false
+signed_is_plain (pos n) = refl
+signed_is_plain (negsuc n) = refl
+
+file_is_plain : (file : File) → has_float (file_data file) ≡ false
+unfolding file_data
+file_is_plain file = refl
+
+plain_items : {A : Type 0} (show : A → Data) → ((a : A) → has_float (show a) ≡ false) → (list : List A) → items_have_float (items_of (map show list)) ≡ false
+plain_items show h [] = refl
+plain_items show h (a ∷ list) = rw (h a, plain_items show h list) refl
+
+files_are_plain : (files : List File) → items_have_float (items_of (map file_data files)) ≡ false
+files_are_plain files = plain_items file_data file_is_plain files
+
+last_are_plain : (place : ℕ) (task : TaskView) → members_have_float (last_members place task) ≡ false
+unfolding last_members
+last_are_plain place task =
+    rw (files_are_plain task.files, or_null_is_plain (run_data place) (λ _. refl) task.run_id, or_null_is_plain whole (λ _. refl) task.started_ts) refl
+
+task_is_plain : (place : ℕ) (task : TaskView) → has_float (task_data place task) ≡ false
+unfolding task_data
+task_is_plain place task =
+    rw (
+      or_null_is_plain string (λ _. refl) task.bot_id,
+      or_null_is_plain whole (λ _. refl) task.completed_ts,
+      or_null_is_plain (run_data place) (λ _. refl) task.deduped_from,
+      or_null_is_plain whole (λ _. refl) task.dropped,
+      or_null_is_plain whole (λ _. refl) task.duration_ms,
+      or_null_is_plain signed signed_is_plain task.exit_code,
+      last_are_plain place task,
+    ) refl
+
+last_properties_are_plain : (properties : Properties) → members_have_float (last_properties properties) ≡ false
+unfolding last_properties
+last_properties_are_plain properties =
+    rw (files_are_plain properties.inputs, plain_items string (λ _. refl) properties.outputs) refl
+
+properties_are_plain : (properties : Properties) → has_float (properties_data properties) ≡ false
+unfolding properties_data
+properties_are_plain properties =
+    rw (
+      plain_items cache_data (λ _. refl) properties.caches,
+      plain_items string (λ _. refl) properties.command,
+      plain_items pair_data (λ _. refl) properties.dimensions,
+      plain_items pair_data (λ _. refl) properties.env,
+      last_properties_are_plain properties,
+    ) refl
+
+run_is_plain : (place : ℕ) (run : ℕ × ℕ) (slice tolerance : ℕ) (properties : Properties) → has_float (run_command place run slice tolerance properties) ≡ false
+unfolding run_command
+run_is_plain place run slice tolerance properties = rw (properties_are_plain properties) refl
+
+pub reply_is_plain : (place : ℕ) (r : Reply) → has_float (reply_data place r) ≡ false
+reply_is_plain place (reply.New task state) = refl
+reply_is_plain place (reply.Canceled canceled was_running) = refl
+reply_is_plain place (reply.Result task) = task_is_plain place task
+reply_is_plain place (reply.Count count) = refl
+reply_is_plain place (reply.Shaken bot) = refl
+reply_is_plain place (reply.Sleep secs) = refl
+reply_is_plain place reply.ClaimHint = refl
+reply_is_plain place reply.Terminate = refl
+reply_is_plain place (reply.Run task try_no slice tolerance properties) = run_is_plain place (task, try_no) slice tolerance properties
+reply_is_plain place reply.Skip = refl
+reply_is_plain place reply.Noted = refl
+reply_is_plain place (reply.Updated must_stop) = refl
+reply_is_plain place reply.Terminating = refl
+reply_is_plain place (reply.No why) = refusal_is_plain place why

@@ -1,0 +1,5 @@
+pub mod States
+pub mod Ids
+pub mod Views
+pub mod Commands
+pub mod Bodies

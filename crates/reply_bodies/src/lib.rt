@@ -1,0 +1,25 @@
+//! The bodies of replies, in JSON (RFC 8259) with the names of `swarming.v2`.
+//!
+//! [`show_reply`] is the body of a reply of the pool at a place, exactly `body_of` of
+//! `specs/Bodies.antt`: compact, with the keys of each object in the order of their bytes. Each
+//! value is a definition first: `Bodies` has the table of replies and refusals, `Views` what is
+//! shown of a task, `Commands` what a bot is told to do, `States` and `Ids` the names of states and
+//! the ids of tasks and runs. Any body may give way to want of memory.
+//!
+//! An id is shown here and read in the crate of requests: [`id_tells_its_parts`] is the law by
+//! which the number of an id tells the place, the task and the try that it was made of. So is a
+//! state, by [`state_named`]. The crate stands on `swarm_model`, `task_props` and `dimensions`, and
+//! on `serde_json` and `hex`.
+#![tactic(auto)]
+
+mod commands;
+mod ids;
+mod reply;
+mod states;
+#[cfg(test)]
+mod tests;
+mod views;
+
+pub use ids::id_tells_its_parts;
+pub use reply::show_reply;
+pub use states::state_named;

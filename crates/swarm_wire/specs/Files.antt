@@ -1,0 +1,63 @@
+-- The files that a bot reports.
+use Rattle.std.specs.Prelude.{ℕ, ◌==◌, ◌&&◌, nat_le, decimal, List, length, if◌then◌else◌, Result, Ok, Err, codes}
+use Rattle.std.specs.List.{list_all}
+use Rattle.hex.specs.declared.error.FromHexError.{FromHexError}
+use Rattle.hex.specs.Hex.{decode_sized}
+use Rattle.serde_json.specs.Data.{Data}
+use Rattle.task_props.specs.declared.file.File.{File}
+use Rattle.task_props.specs.declared.prop_rule.PropRule.{PropRule}
+use Rattle.task_props.specs.declared.prop_rule.PropRule.TheVariants.{Count, Grammar}
+use Rattle.task_props.specs.declared.prop_fault.PropFault.{PropFault}
+use Rattle.json_fields.specs.Readings.{at, inside, each_from, ◌>>=◌}
+use Rattle.json_fields.specs.Fields.{object_of, text_at, required_text_at, number_at, items_at}
+use Rattle.swarm_wire.specs.declared.files.RawFile.{RawFile}
+use Rattle.swarm_wire.specs.Ids.{is_hex_digit}
+use Rattle.swarm_wire.specs.Paths.{path_of}
+use Rattle.swarm_wire.specs.Ranges.{whole_at}
+
+-- ---- fields
+
+unfoldable pub file_in : Data → Result RawFile PropFault
+file_in d = do
+  path ← text_at (codes "path") d
+  digest ← required_text_at (codes "digest") d
+  size ← number_at (codes "size") d
+  Ok (record { path = path; digest = digest; size = size })
+
+unfoldable pub file_item : ℕ → Data → Result RawFile PropFault
+file_item place d = do
+  file ← at (decimal place) (object_of d)
+  inside (decimal place) (file_in file)
+
+-- an absent list is empty
+abbrev pub files_in : Data → Result (List RawFile) PropFault
+files_in d = items_at file_item (codes "files") d
+
+-- ---- rules
+
+abbrev pub or_no_digest : Result (List ℕ) FromHexError → Result (List ℕ) PropRule
+or_no_digest (Ok digest) = Ok digest
+or_no_digest (Err e) = Err Grammar
+
+-- 64 hexadecimal digits in lower case
+unfoldable pub digest_of : List ℕ → Result (List ℕ) PropRule
+digest_of text = if list_all is_hex_digit text then or_no_digest (decode_sized text 32) else Err Grammar
+
+unfoldable pub file_of : RawFile → Result File PropFault
+file_of raw = do
+  path ← at (codes "path") (path_of raw.path)
+  digest ← at (codes "digest") (digest_of raw.digest)
+  size ← whole_at (codes "size") 16777216 raw.size
+  Ok (record { path = path; digest = digest; size = size })
+
+abbrev pub file_at : ℕ → RawFile → Result File PropFault
+file_at place raw = inside (decimal place) (file_of raw)
+
+abbrev pub few_files : List RawFile → Result (List RawFile) PropRule
+few_files raws = if nat_le (length raws) 64 then Ok raws else Err Count
+
+-- at most 64 files
+unfoldable pub files_of : List RawFile → Result (List File) PropFault
+files_of raws = do
+  few ← at (codes "files") (few_files raws)
+  inside (codes "files") (each_from file_at 0 few)
