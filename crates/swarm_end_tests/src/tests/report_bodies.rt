@@ -266,6 +266,13 @@ fn long_outputs(rt: HostRuntime) -> Result<(), Fail> {
         )?;
         course.broken(alloc, UPDATE, body.as_str(), "output", "count")?;
     }
+    // A text that isn't base64 has no bytes to count.
+    for more in ["A", "AAAAAA", "AAAAAAAA="] {
+        let body = format!(in alloc;
+            r#"{{"bot_id":"b1","task_id":"11","output":"{groups}{more}"}}"#
+        )?;
+        course.broken(alloc, UPDATE, body.as_str(), "output", "grammar")?;
+    }
     let groups = repeated(alloc, "AAAA", 16000)?;
     let body = format!(in alloc; r#"{{"bot_id":"b1","task_id":"11","output":"{groups}"}}"#)?;
     course.broken(alloc, UPDATE, body.as_str(), "output", "count")?;
