@@ -24,8 +24,9 @@ use Rattle.swarm_model.specs.Effects.{no_of_task, task_after, added_tasks, added
 use Rattle.swarm_model.specs.History.{MayFollow}
 use Rattle.swarm_model.specs.Soundness.{IsSound, IsSoundBot}
 use Rattle.swarm_laws.proofs.Lists.{Among, each_one, number_within}
-use Rattle.swarm_laws.proofs.Finds.{FindsClaim, IsFitting, finds, fitting}
-use Rattle.swarm_laws.proofs.Rows.{bot_by, bot_is, all_bots, no_fewer, claim_gets}
+use Rattle.swarm_laws.proofs.Findings.{FindsClaim}
+use Rattle.swarm_laws.proofs.Finds.{IsFitting, finds, fitting}
+use Rattle.swarm_laws.proofs.Rows.{bot_by, bot_is, all_bots, no_fewer, claim_gets, relieved}
 
 -- no entry changes the settings
 
@@ -112,6 +113,10 @@ module _ (s : PoolState) (e : Entry) (o : IsSound s) (follows : MayFollow s e) w
     heard_sound : IsSoundBot (after s e) (heard e.moment x)
     heard_sound = record { contact = omega arith; streak = sound.streak; known = kept_sound.known; has_task = kept_sound.has_task }
 
+    -- that is done with its task
+    relieved_sound : IsSoundBot (after s e) (relieved e.moment x)
+    relieved_sound = record { contact = omega arith; streak = sound.streak; known = kept_sound.known; has_task = tt }
+
     -- that polled
     polled_sound : (dims : Option BotDims) (q : Option Text) (hint : Bool) → IsTrue (fits s.settings (ask.Poll x.name (unwrap_or dims x.dims) (unwrap_or q x.quarantined))) →
         IsSoundBot (after s e) (polled e.moment dims q hint x)
@@ -170,6 +175,7 @@ module _ (s : PoolState) (e : Entry) (o : IsSound s) (follows : MayFollow s e) w
         busies = busied_sound x was;
         hears = heard_sound x was;
         notes = noted_sound x was;
+        rests = relieved_sound x was;
         stops = same_sound x was x.dead true;
       }) e.kind (finds s e follows) (fitting s e follows))
       (added_sound e.kind (fitting s e follows))

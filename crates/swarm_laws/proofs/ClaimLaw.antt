@@ -22,7 +22,8 @@ use Rattle.swarm_model.specs.Soundness.{IsSound, runner}
 use Rattle.swarm_model.specs.Claims.{is_claim_of, is_claim_kind, ComesFirst, IsRightClaim, ClaimsAreRight}
 use Rattle.swarm_laws.proofs.Lists.{Among, Found, all, filter_has}
 use Rattle.swarm_laws.proofs.Earliest.{none_come}
-use Rattle.swarm_laws.proofs.Finds.{Finds, FindsClaim, HasTask, finds, none_due, waits}
+use Rattle.swarm_laws.proofs.Findings.{Finds, FindsClaim, HasTask, waits}
+use Rattle.swarm_laws.proofs.Finds.{finds, none_due}
 use Rattle.swarm_laws.proofs.Rows.{one_task, find_task, find_bot, claim_gets, claim_waits}
 use Rattle.swarm_laws.proofs.Runs.{idle_bot}
 use Rattle.swarm_laws.proofs.Sound.{sound_after, sound_replay, opening_sound}

@@ -15,11 +15,12 @@ use Rattle.swarm_model.specs.declared.entry.Outcome.TheVariants as outcome
 use Rattle.dimensions.specs.Alike.{same}
 use Rattle.swarm_model.specs.Answers.{claimed, is_claim, is_claimed}
 use Rattle.swarm_model.specs.Deadlines.{next_of}
-use Rattle.swarm_model.specs.Effects.{task_after, added_tasks, task_at, begun, moved, new_row, after}
+use Rattle.swarm_model.specs.Effects.{task_after, added_tasks, task_at, begun, moved, killed, closed, new_row, after}
 use Rattle.swarm_model.specs.History.{MayFollow}
 use Rattle.swarm_model.specs.Soundness.{IsSound, claim_key, AreClaimedApart}
 use Rattle.swarm_laws.proofs.Lists.{Among, Found, each, all, each_one, find_is, find_none}
-use Rattle.swarm_laws.proofs.Finds.{Finds, FindsClaim, finds}
+use Rattle.swarm_laws.proofs.Findings.{Finds, FindsClaim}
+use Rattle.swarm_laws.proofs.Finds.{finds}
 use Rattle.swarm_laws.proofs.Rows.{task_by, all_tasks, one_task}
 use Rattle.swarm_laws.proofs.Numbers.{task_no}
 use Rattle.swarm_laws.proofs.Alike.{same_is, is_same}
@@ -51,6 +52,11 @@ abbrev is_claiming : EntryKind → Bool
 is_claiming (kind.Claim b t id) = true
 is_claiming entry = false
 
+-- a run that is marked or closed keeps its own
+key_kept : (f : Attempt → Attempt) → ((a : Attempt) → key_in (Some (f a)) ≡ key_in (Some a)) → (attempt : Option Attempt) → key_in (option_map f attempt) ≡ key_in attempt
+key_kept f e None = refl
+key_kept f e (Some a) = e a
+
 -- only a claim changes it
 key_same : (s : PoolState) (m : ℕ) (k : EntryKind) → IsSound s → Finds s k → is_claiming k ≡ false → (x : TaskRow) → Among x s.tasks → claim_key (task_after s m k x) ≡ claim_key x
 key_same s m k o f q x a =
@@ -59,6 +65,9 @@ key_same s m k o f q x a =
       moves = λ w. by_outcome (next_of s x);
       loses = λ w. refl;
       begins = λ b t id is found w. absurd (cc (q, ap is_claiming is));
+      cancels = λ w. refl;
+      marks = λ w. key_kept killed (λ a. refl) x.attempt;
+      finishes = λ last w. key_kept (closed None last) (λ a. refl) x.attempt;
     })
   where
     by_outcome : (to : Outcome) → claim_key (moved m to x) ≡ claim_key x

@@ -1,21 +1,25 @@
 -- What an entry that may follow finds in the pool.
-use Rattle.std.proofs.Common.{◌≡◌, ℕ, ◌+◌, ◌<◌, ◌≤◌, ◌&&◌, not, Bool, true, false, cond, List, [], ◌∷◌, ◌⊎◌, inl, inr, length, drop, length-drop, refl, subst, arith, Option, Some, None, IfSome, IsTrue, IsSomeAnd, is_some, is_none, filter_map}
+use Rattle.std.proofs.Common.{◌≡◌, ℕ, ◌+◌, ◌<◌, ◌≤◌, ◌==◌, ◌&&◌, ◌||◌, not, Bool, true, false, cond, List, [], ◌∷◌, inl, inr, length, drop, length-drop, refl, subst, arith, Option, Some, None, IfSome, IsTrue, IsSomeAnd, is_some, is_none, filter_map, eqb-true}
 use Rattle.std.specs.Prelude.{⊤, nat_le}
 use Rattle.std.specs.Bool.{MatchBool}
 use Rattle.std.specs.List.{All, position_from}
-use Rattle.std.specs.Option.{option_map, option_map_or}
+use Rattle.std.specs.Option.{option_map, option_and_then}
 use Rattle.std.proofs.lemmas.Bool.{and_parts, cond_both}
 use Rattle.std.proofs.lemmas.Option.{same_Some}
 use Rattle.std.proofs.lemmas.List.Elements.{All-append}
 use Rattle.dimensions.specs.declared.bot_dims.BotDims.{BotDims}
 use Rattle.dimensions.specs.Alike.{same}
+use Rattle.dimensions.specs.Choosing.{when}
 use Rattle.dimensions.specs.Rules.{is_empty}
 use Rattle.task_props.specs.declared.new_task.NewTask.{NewTask}
 use Rattle.task_props.specs.declared.slice.Slice.{Slice}
 use Rattle.task_props.specs.Checked.{is_checked, pool_of_task}
 use Rattle.task_props.proofs.Checked.{slices_counted}
-use Rattle.swarm_model.specs.declared.task_state.TaskState.{TaskState}
-use Rattle.swarm_model.specs.declared.task_state.TaskState.TheVariants.{Pending, Running, NoResource}
+use Rattle.swarm_model.specs.declared.attempt.Attempt.{Attempt}
+use Rattle.swarm_model.specs.declared.attempt.Chunk.{Chunk}
+use Rattle.swarm_model.specs.declared.attempt.Last.{Last}
+use Rattle.swarm_model.specs.declared.pool_settings.Permission.TheVariants as permission
+use Rattle.swarm_model.specs.declared.pool_settings.PoolSettings.{PoolSettings}
 use Rattle.swarm_model.specs.declared.task_row.TaskRow.{TaskRow}
 use Rattle.swarm_model.specs.declared.bot_row.BotRow.{BotRow}
 use Rattle.swarm_model.specs.declared.pool_state.PoolState.{PoolState}
@@ -30,88 +34,21 @@ use Rattle.swarm_model.specs.declared.entry.Entry.{Entry}
 use Rattle.swarm_model.specs.declared.entry.EventKind.{EventKind}
 use Rattle.swarm_model.specs.declared.entry.EntryKind.{EntryKind}
 use Rattle.swarm_model.specs.declared.entry.EntryKind.TheVariants as kind
-use Rattle.swarm_model.specs.declared.entry.Outcome.{Outcome}
-use Rattle.swarm_model.specs.declared.entry.Outcome.TheVariants as outcome
 use Rattle.swarm_model.specs.declared.request.Request.{Request}
 use Rattle.swarm_model.specs.declared.request.Request.TheVariants as ask
-use Rattle.swarm_model.specs.Finding.{has_state, is_state, is_final, task_of, bot_named, is_called}
-use Rattle.swarm_model.specs.Fits.{fits}
+use Rattle.swarm_model.specs.Words.{◌otherwise◌, is_between}
+use Rattle.swarm_model.specs.Finding.{is_final, is_task, task_of, bot_named, is_called}
+use Rattle.swarm_model.specs.Fits.{fits, is_name}
 use Rattle.swarm_model.specs.Slices.{is_open, admit, current_slice, first}
-use Rattle.swarm_model.specs.Answers.{tell, entry_at, accepted, accepted_at, tasks_full, named_task, result_of, greet, handshake, poll, busy, run_on, claim, claim_again, claimed, claims, unfit_of, unfit_told, event, terminate, answers}
-use Rattle.swarm_model.specs.Deadlines.{next_of, settled, slice_end, slice_limit, silence_end, silence_limit, runner_of, bot_end, deadlines, due_entry}
+use Rattle.swarm_model.specs.Answers.{tell, entry_at, accepted, accepted_at, tasks_full, named_task, result_of, greet, handshake, poll, busy, run_on, claim, claim_again, claimed, claims, unfit_of, unfit_told, event, terminate, answers, with, has_try, if_named, may, denied, cancel, cancel_row, stop, is_killed, is_kept, updates, report, report_again, report_on, not_claimant, update, update_row}
+use Rattle.swarm_model.specs.Deadlines.{settled, slice_end, slice_limit, silence_end, silence_limit, runner_of, bot_end, deadlines, due_entry}
 use Rattle.swarm_model.specs.Entries.{asks, is_deadline, Asked}
 use Rattle.swarm_model.specs.History.{MayFollow, IsDue, IsAnswered}
-use Rattle.swarm_laws.specs.Served.{is_served}
+use Rattle.swarm_laws.specs.Served.{is_served, ends_run}
+use Rattle.swarm_laws.proofs.Findings.{Finds, HasTask, waits, runs, served_of, ends_of}
 use Rattle.swarm_laws.proofs.Lists.{Among, Found, find_is, all_filter_map}
 use Rattle.swarm_laws.proofs.Earliest.{due_at, due_has}
 use Rattle.swarm_laws.proofs.Answering.{by_when, by_map, by_with}
-
--- a task of that number of which the test holds
-pub record HasTask (s : PoolState) (number : ℕ) (test : TaskRow → Bool) : Type 0 where
-  pub task : TaskRow
-  pub among : Among task s.tasks
-  pub named : task.no ≡ number
-  pub passes : test task ≡ true
-
-abbrev pub waits : TaskRow → Bool
-waits task = has_state Pending task
-
-abbrev pub runs : TaskRow → Bool
-runs task = has_state Running task
-
-pub record FindsSlice (s : PoolState) (t : ℕ) (to : Outcome) : Type 0 where
-  pub waiting : HasTask s t waits
-  pub goes : to ≡ option_map_or (next_of s) (task_of s t) (outcome.Ended NoResource)
-
-pub record FindsNew (s : PoolState) (t : ℕ) (request : NewTask) (state : TaskState) (slice : ℕ) : Type 0 where
-  pub next : t ≡ length s.tasks + 1
-  pub idle : is_state state Running ≡ false
-  pub checked : is_checked request ≡ true
-  pub has_slice : slice < length request.task_slices
-
-pub record IsOld (s : PoolState) (b : ℕ) (id : List ℕ) : Type 0 where
-  pub bot : BotRow
-  pub among : Among bot s.bots
-  pub named : bot.no ≡ b
-  pub called : same bot.name id ≡ true
-
-pub record IsNewcomer (s : PoolState) (b : ℕ) (id : List ℕ) : Type 0 where
-  pub unknown : bot_named s id ≡ None
-  pub next : b ≡ length s.bots + 1
-
-pub record FindsClaim (s : PoolState) (b t : ℕ) (id : List ℕ) : Type 0 where
-  pub bot : BotRow
-  pub among : Among bot s.bots
-  pub named : bot.no ≡ b
-  pub fresh : claimed s bot.no id ≡ None
-  pub fit : unfit_of bot ≡ None
-  pub idle : run_on s bot ≡ None
-  pub task : TaskRow
-  pub gets : first s bot.dims ≡ Some task
-  pub task_named : task.no ≡ t
-
--- nothing at all, where no request and no deadline adds the kind
-abbrev pub Finds : PoolState → EntryKind → Type 0
-Finds s (kind.Slice t to) = FindsSlice s t to
-Finds s (kind.Silence t) = HasTask s t runs
-Finds s (kind.Dead b) = ⊤
-Finds s (kind.New t who request state slice from) = FindsNew s t request state slice
-Finds s (kind.Handshake b id session dims q) = IsNewcomer s b id ⊎ IsOld s b id
-Finds s (kind.Poll b dims q hint) = ⊤
-Finds s (kind.Claim b t id) = FindsClaim s b t id
-Finds s (kind.Contact b) = ⊤
-Finds s (kind.Event b e text) = ⊤
-Finds s (kind.Terminate b) = ⊤
-Finds s entry = ⊥
-
--- the kind is served
-served_of : (s : PoolState) (k : EntryKind) → Finds s k → is_served k ≡ true
-served_of s (kind.Blob n kept) f = absurd f
-served_of s (kind.Cancel t) f = absurd f
-served_of s (kind.Kill t) f = absurd f
-served_of s (kind.Update b t try_no chunk last) f = absurd f
-served_of s (kind.Put digest size) f = absurd f
-served_of s entry f = refl
 
 -- a place that is found lies within the list
 position_within : (test : Slice → Bool) (start : ℕ) (xs : List Slice) (place : ℕ) → position_from test start xs ≡ Some place → place < start + length xs
@@ -130,6 +67,12 @@ drop_within start xs place low few = omega (arith, length-drop start xs)
 pub admit_within : (s : PoolState) (slices : List Slice) (start place : ℕ) → start ≤ length slices → admit s slices start ≡ Some place → place < length slices
 admit_within s slices start place few h = drop_within start slices place (position_within (is_open s) start (drop start slices) place h) few
 
+-- a task that is named by its number and a try
+pub record IsNamed (s : PoolState) (number try_no : ℕ) (row : TaskRow) : Type 0 where
+  pub among : Among row s.tasks
+  pub named : row.no ≡ number
+  pub has : (try_no == 0 || has_try try_no row.attempt) ≡ true
+
 abbrev Adds : PoolState → Told → Type 0
 Adds s told = IfSome told.adds (Finds s)
 
@@ -143,6 +86,59 @@ accepted_finds s who request None checked h =
 -- a bot that is named is one of the pool, of that name
 bot_is : (s : PoolState) (name : List ℕ) (bot : BotRow) → bot_named s name ≡ Some bot → Found (is_called name) s.bots bot
 bot_is s name bot e = find_is (is_called name) s.bots bot e
+
+-- a task that is named has the number
+pub named_is : (s : PoolState) (number try_no : ℕ) (row : TaskRow) → named_task s number try_no ≡ Some row → IsNamed s number try_no row
+named_is s number try_no row e = by_row (task_of s number) refl e
+  where
+    by_try : (x : TaskRow) (b : Bool) → (try_no == 0 || has_try try_no x.attempt) ≡ b → task_of s number ≡ Some x → when b x ≡ Some row → IsNamed s number try_no row
+    by_try x true t g h = subst (IsNamed s number try_no) (same_Some _ _ h) (let f = find_is (is_task number) s.tasks x g in record { among = f.among; named = eqb-true x.no number f.passes; has = t })
+    by_try x false t g h = absurd (cc (h))
+
+    by_row : (o : Option TaskRow) → task_of s number ≡ o → option_and_then (if_named try_no) o ≡ Some row → IsNamed s number try_no row
+    by_row None g h = absurd (cc (h))
+    by_row (Some x) g h = by_try x (try_no == 0 || has_try try_no x.attempt) refl g h
+
+-- a cancel finds a task that waits, or that runs
+cancel_finds : (s : PoolState) (who : List ℕ) (kill : Bool) (row : TaskRow) → Among row s.tasks → Adds s (cancel s who kill row)
+cancel_finds s who kill row a =
+    by_when (Adds s) (not (may s who permission.CancelTask row)) (denied s permission.CancelTask) (cancel_row kill row) (λ t. tt) (λ t.
+    by_when (Adds s) (waits row) _ _ (λ w. record { task = row; among = a; named = refl; passes = w }) (λ w.
+    by_when (Adds s) (runs row) (stop kill row) _ (by_kill kill) (λ r. tt)))
+  where
+    by_kill : (k : Bool) → runs row ≡ true → Adds s (stop k row)
+    by_kill false r = tt
+    by_kill true r = cond_both (is_killed row.attempt) None (Some (kind.Kill row.no)) (λ (o : Option EntryKind). IfSome o (Finds s)) (λ t. tt) (λ t. record { task = row; among = a; named = refl; passes = r })
+
+-- a report finds the run of its bot, where it ends it
+report_finds : (s : PoolState) (bot : BotRow) (row : TaskRow) (chunk : Option Chunk) (last : Option Last) (o : Option Attempt) → Among bot s.bots → Among row s.tasks → row.attempt ≡ o → chunk ≡ None →
+    Adds s (with o rule.NoTask (report_on s bot row chunk last))
+report_finds s bot row chunk last None b a has none = tt
+report_finds s bot row chunk last (Some attempt) b a has none =
+    by_when (Adds s) (not (attempt.bot == bot.no)) (not_claimant s attempt) (report bot row chunk last attempt) (λ t. tt) (λ t.
+    by_when (Adds s) (is_final row.state) (report_again bot row chunk last attempt) _ (λ f. cond_both (is_kept attempt chunk last) _ _ (Adds s) (λ k. tt) (λ k. tt)) (λ f.
+    by_last last (eqb-true attempt.bot bot.no (not_not (attempt.bot == bot.no) t)) f))
+  where
+    not_not : (c : Bool) → not c ≡ false → c ≡ true
+    not_not true e = refl
+    not_not false e = absurd (cc (e))
+
+    by_last : (l : Option Last) → attempt.bot ≡ bot.no → is_final row.state ≡ false →
+        Adds s (when (is_some l) (updates attempt (kind.Update bot.no row.no attempt.try_no chunk l)) otherwise updates attempt (kind.Contact bot.no))
+    by_last None by f = tt
+    by_last (Some end) by f =
+        record { bot = bot; known = b; called = refl; task = row; among = a; named = refl; goes_on = f; attempt = attempt; attempted = has; by_bot = by; end = end; ends = refl; no_output = none }
+
+-- what a report may hold
+pub update_fits : (settings : PoolSettings) (name : List ℕ) (task try_no : ℕ) (chunk : Option Chunk) (last : Option Last) → IsTrue (fits settings (ask.Update name task try_no chunk last)) → (try_no ≡ 1) × (chunk ≡ None)
+update_fits settings name task try_no chunk last may =
+    let numbers = and_parts (is_between 1 262144 task) _ (and_parts (is_name name) _ may).1 in
+    let one = and_parts (try_no == 1) _ numbers.1 in
+    (eqb-true try_no 1 one.0, no_chunk chunk (and_parts (is_none chunk) _ one.1).0)
+  where
+    no_chunk : (o : Option Chunk) → is_none o ≡ true → o ≡ None
+    no_chunk None e = refl
+    no_chunk (Some x) e = absurd (cc (e))
 
 -- a handshake finds its bot, or room for a new one
 handshake_finds : (s : PoolState) (name session : List ℕ) (dims : BotDims) (q : List ℕ) → Adds s (handshake s name session dims q)
@@ -178,12 +174,18 @@ tell_finds : (s : PoolState) (who : List ℕ) (m : ℕ) (request : Request) → 
 tell_finds s who m (ask.New request) may =
     let checked = (and_parts (is_checked request) (same (pool_of_task request) s.settings.name) may).0 in
     by_when (Adds s) (nat_le s.settings.most_tasks (length s.tasks)) (tasks_full s) (accepted s who request) (λ t. tt) (λ t. accepted_finds s who request (admit s request.task_slices 0) checked refl)
+tell_finds s who m (ask.Cancel task try_no kill) may =
+    by_with (Adds s) (named_task s task try_no) rule.NoTask (cancel s who kill) tt (λ row e. cancel_finds s who kill row (named_is s task try_no row e).among)
 tell_finds s who m (ask.Result task try_no) may = by_with (Adds s) (named_task s task try_no) rule.NoTask (result_of s) tt (λ row e. tt)
 tell_finds s who m (ask.Count state) may = tt
 tell_finds s who m (ask.Handshake name session dims q) may = handshake_finds s name session dims q
 tell_finds s who m (ask.Poll name dims q) may = by_with (Adds s) (bot_named s name) rule.NoBot (poll s dims q) tt (λ bot e. poll_finds s dims q bot)
 tell_finds s who m (ask.Claim name id) may = by_with (Adds s) (bot_named s name) rule.NoBot (claim s id) tt (λ bot e. claim_finds s id bot (bot_is s name bot e).among)
 tell_finds s who m (ask.Event name which text) may = by_with (Adds s) (bot_named s name) rule.NoBot (event which text) tt (λ bot e. event_finds s which text bot)
+tell_finds s who m (ask.Update name task try_no chunk last) may =
+    by_with (Adds s) (bot_named s name) rule.NoBot (update s task try_no chunk last) tt (λ bot e.
+    by_with (Adds s) (named_task s task try_no) rule.NoTask (update_row s bot chunk last) tt (λ row f.
+    report_finds s bot row chunk last row.attempt (bot_is s name bot e).among (named_is s task try_no row f).among refl (update_fits s.settings name task try_no chunk last may).1))
 tell_finds s who m (ask.Terminate name) may =
     by_with (Adds s) (bot_named s name) rule.NoBot terminate tt (λ bot e. cond_both bot.terminating _ _ (Adds s) (λ t. tt) (λ t. tt))
 
@@ -251,6 +253,10 @@ finds s e follows = by_cause (is_deadline e.kind) (asks s e.kind) follows.has_ca
 -- an entry of a kind that no request and no deadline adds does not come
 pub served_kind : (s : PoolState) (e : Entry) → MayFollow s e → IsTrue (is_served e.kind)
 served_kind s e follows = served_of s e.kind (finds s e follows)
+
+-- and a report that comes ends its run
+pub report_ends : (s : PoolState) (e : Entry) → MayFollow s e → IsTrue (ends_run e.kind)
+report_ends s e follows = ends_of s e.kind (finds s e follows)
 
 -- the request for which an entry stands may be asked
 abbrev pub IsFitting : PoolState → EntryKind → Type 0

@@ -1,6 +1,7 @@
 pub mod Lists
 pub mod Earliest
 pub mod Answering
+pub mod Findings
 pub mod Finds
 pub mod Rows
 pub mod Tasks
@@ -11,9 +12,18 @@ pub mod Claimed
 pub mod Moments
 pub mod Sound
 pub mod Alike
+pub mod Standing
 pub mod Following
 pub mod Tracks
+pub mod Phases
+pub mod PhaseSteps
+pub mod VerdictFrom
+pub mod VerdictLaw
+pub mod Finals
+pub mod TallyLaw
 mod Order
 pub mod ClaimLaw
+pub mod Shown
+pub mod Keeping
 mod RepeatLaws
 mod Worked

@@ -24,14 +24,15 @@ use Rattle.swarm_model.specs.declared.entry.Outcome.TheVariants as outcome
 use Rattle.swarm_model.specs.Finding.{is_bot, bot_of}
 use Rattle.swarm_model.specs.Slices.{admit, current_slice}
 use Rattle.swarm_model.specs.Deadlines.{slice_limit, slice_end, silence_limit, silence_end, bot_end, next_of, last_state}
-use Rattle.swarm_model.specs.Effects.{task_after, added_tasks, bot_after, added_bots, new_row, moved, lost, end_state, greeted, busied, noted, after}
+use Rattle.swarm_model.specs.Effects.{task_after, added_tasks, bot_after, added_bots, new_row, moved, lost, finished, end_state, greeted, busied, noted, after}
 use Rattle.swarm_model.specs.History.{MayFollow}
 use Rattle.swarm_model.specs.Soundness.{IsSound, runner}
 use Rattle.swarm_laws.proofs.Lists.{Among, Found, each, all, each_one, among_left, among_right, find_is, from_filter_map, all_filter_map}
 use Rattle.swarm_laws.proofs.Earliest.{Ahead, ahead_of_next}
-use Rattle.swarm_laws.proofs.Finds.{Finds, IsFitting, finds, fitting, waits, runs}
+use Rattle.swarm_laws.proofs.Findings.{Finds, waits, runs}
+use Rattle.swarm_laws.proofs.Finds.{IsFitting, finds, fitting}
 use Rattle.swarm_laws.proofs.Rows.{task_by, bot_by, all_tasks, all_bots, find_bot}
-use Rattle.swarm_laws.proofs.Tasks.{end_final, last_final, not_pending, runner_lost, runner_moved, added_idle}
+use Rattle.swarm_laws.proofs.Tasks.{end_final, finished_final, last_final, not_pending, runner_lost, runner_marked, runner_finished, runner_moved, added_idle}
 use Rattle.swarm_laws.proofs.Bots.{settings_same}
 use Rattle.swarm_laws.proofs.Numbers.{bot_no}
 
@@ -188,6 +189,9 @@ module _ (s : PoolState) (m : ℕ) (k : EntryKind) (o : IsSound s) (f : Finds s 
         moves = λ w. slice_moved s m x;
         loses = λ w. slice_none m (lost m x) (not_pending (end_state x.attempt BotDied) (end_final x.attempt BotDied refl));
         begins = λ b t id is found w. tt;
+        cancels = λ w. tt;
+        marks = λ w. r.slices x a;
+        finishes = λ last w. slice_none m (finished m None last x) (not_pending (finished m None last x).state (finished_final m last x));
       }))
       (added_slice m k)
 
@@ -203,6 +207,7 @@ module _ (s : PoolState) (m : ℕ) (k : EntryKind) (o : IsSound s) (f : Finds s 
         busies = λ b t id found. omega arith;
         hears = omega arith;
         notes = λ e text may. (let l = noted_contact m e text x in omega (arith, l));
+        rests = omega arith;
         stops = h;
       }) k f g
 
@@ -219,6 +224,9 @@ module _ (s : PoolState) (m : ℕ) (k : EntryKind) (o : IsSound s) (f : Finds s 
         same = λ r. contact_ahead b c x.request.bot_ping_tolerance_secs (h (r ∙ ap (λ n. Some n) (bot_no s m k o f g b c)));
         moves = λ w r. absurd (cc (r, runner_moved s m x w));
         loses = λ w r. absurd (cc (r, runner_lost m x));
+        cancels = λ w r. absurd (cc (r));
+        marks = λ w r. contact_ahead b c x.request.bot_ping_tolerance_secs (h (sym (runner_marked x) ∙ r ∙ ap (λ n. Some n) (bot_no s m k o f g b c)));
+        finishes = λ last w r. absurd (cc (r, runner_finished m last x));
         begins = λ n t id is found w r. begun_ahead b x.request.bot_ping_tolerance_secs n t id is (sym (same_Some _ _ r ∙ bot_no s m k o f g b c));
       })
 
@@ -242,6 +250,7 @@ module _ (s : PoolState) (m : ℕ) (k : EntryKind) (o : IsSound s) (f : Finds s 
         busies = λ b t id found e. omega arith;
         hears = λ e. omega arith;
         notes = λ e text may. bot_fresh life m (noted m e text x) (noted_contact m e text x);
+        rests = λ e. omega arith;
         stops = r x a;
       }) k f g)
       (λ x a. bot_fresh life m x (added_contact s m k x a))

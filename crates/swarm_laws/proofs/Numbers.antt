@@ -18,12 +18,13 @@ use Rattle.swarm_model.specs.Effects.{no_of_task, no_of_bot, task_after, added_t
 use Rattle.swarm_model.specs.History.{MayFollow}
 use Rattle.swarm_model.specs.Soundness.{IsSound}
 use Rattle.swarm_laws.proofs.Lists.{Among, numbered_after}
-use Rattle.swarm_laws.proofs.Finds.{Finds, IsOld, IsNewcomer, IsFitting, finds, fitting}
+use Rattle.swarm_laws.proofs.Findings.{Finds, IsOld, IsNewcomer}
+use Rattle.swarm_laws.proofs.Finds.{IsFitting, finds, fitting}
 use Rattle.swarm_laws.proofs.Rows.{task_by, bot_by, find_bot}
 
 -- no entry changes the number of a task
 pub task_no : (s : PoolState) (m : ℕ) (k : EntryKind) → IsSound s → Finds s k → (x : TaskRow) → Among x s.tasks → (task_after s m k x).no ≡ x.no
-task_no s m k o f x a = task_by (λ (y : TaskRow). y.no ≡ x.no) s m o x a k f (record { same = refl; moves = λ w. by_outcome (next_of s x); loses = λ w. refl; begins = λ b t id is found w. refl })
+task_no s m k o f x a = task_by (λ (y : TaskRow). y.no ≡ x.no) s m o x a k f (record { same = refl; moves = λ w. by_outcome (next_of s x); loses = λ w. refl; begins = λ b t id is found w. refl; cancels = λ w. refl; marks = λ w. refl; finishes = λ last w. refl })
   where
     by_outcome : (to : Outcome) → (moved m to x).no ≡ x.no
     by_outcome (outcome.Slice place) = refl
@@ -47,6 +48,7 @@ bot_no s m k o f g x a =
       busies = λ b t id found. refl;
       hears = refl;
       notes = λ e text may. noted_no m e text x;
+      rests = refl;
       stops = refl;
     }) k f g
 

@@ -1,5 +1,5 @@
 -- Rows by their numbers, and what holds of them before and after an entry.
-use Rattle.std.proofs.Common.{◌≡◌, ℕ, ◌≤◌, ◌==◌, Bool, true, false, cond, List, [], ◌∷◌, ◌++◌, ◌⊎◌, inl, inr, map, length, length-append, refl, sym, ap, ◌∙◌, subst, arith, Option, Some, None, IsTrue, IsSomeAnd, eqb-true, filter}
+use Rattle.std.proofs.Common.{◌≡◌, ℕ, ◌≤◌, ◌==◌, ◌&&◌, Bool, true, false, cond, List, [], ◌∷◌, ◌++◌, ◌⊎◌, inl, inr, map, length, length-append, refl, sym, ap, ◌∙◌, subst, arith, Option, Some, None, is_some, is_none, IsTrue, IsSomeAnd, eqb-true, filter}
 use Rattle.std.specs.Prelude.{if◌then◌else◌, unwrap_or}
 use Rattle.std.specs.List.{All, fold}
 use Rattle.std.specs.Option.{option_map, option_map_or, option_and_then}
@@ -8,8 +8,10 @@ use Rattle.std.proofs.lemmas.List.{length-map}
 use Rattle.dimensions.specs.declared.text.Text.{Text}
 use Rattle.dimensions.specs.declared.bot_dims.BotDims.{BotDims}
 use Rattle.swarm_model.specs.declared.task_state.TaskState.{TaskState}
-use Rattle.swarm_model.specs.declared.task_state.TaskState.TheVariants.{Running, NoResource}
+use Rattle.swarm_model.specs.declared.task_state.TaskState.TheVariants.{Pending, Running, NoResource}
 use Rattle.swarm_model.specs.declared.attempt.Attempt.{Attempt}
+use Rattle.swarm_model.specs.declared.attempt.Chunk.{Chunk}
+use Rattle.swarm_model.specs.declared.attempt.Last.{Last}
 use Rattle.swarm_model.specs.declared.task_row.TaskRow.{TaskRow}
 use Rattle.swarm_model.specs.declared.bot_row.BotRow.{BotRow}
 use Rattle.swarm_model.specs.declared.pool_state.PoolState.{PoolState}
@@ -19,15 +21,16 @@ use Rattle.swarm_model.specs.declared.entry.EntryKind.TheVariants as kind
 use Rattle.swarm_model.specs.declared.entry.Outcome.{Outcome}
 use Rattle.swarm_model.specs.declared.entry.Outcome.TheVariants as outcome
 use Rattle.swarm_model.specs.declared.request.Request.TheVariants as ask
-use Rattle.swarm_model.specs.Finding.{is_state, is_bot, task_of, bot_of}
+use Rattle.swarm_model.specs.Finding.{is_state, is_final, is_bot, task_of, bot_of}
 use Rattle.swarm_model.specs.Fits.{fits, fits_message, is_name}
 use Rattle.swarm_model.specs.Slices.{foremost, goes_before, waits_for, takes_slice, current_slice}
 use Rattle.swarm_model.specs.Deadlines.{next_of}
 use Rattle.swarm_model.specs.Entries.{poll_of, event_of, Asked}
-use Rattle.swarm_model.specs.Effects.{no_of_task, no_of_bot, task_after, added_tasks, bot_after, added_bots, moved, lost, lost_at, begun, if_some, run_of_bot, runs_task, hushed, deadened, greeted, polled, busied, heard, noted, terminated}
+use Rattle.swarm_model.specs.Effects.{no_of_task, no_of_bot, task_after, added_tasks, bot_after, added_bots, task_at, bot_at, moved, lost, lost_at, canceled, kill_marked, begun, finished, fresh_chunk, chunk_at, attempt_of, if_some, run_of_bot, runs_task, hushed, deadened, greeted, polled, busied, heard, freed, noted, terminated}
 use Rattle.swarm_model.specs.Soundness.{IsSound, IsSoundTask, IsSoundBot, Agree, runner}
 use Rattle.swarm_laws.proofs.Lists.{Among, here, later, Found, each, all, each_append, each_map, find_is, filter_is, number_tells, number_finds}
-use Rattle.swarm_laws.proofs.Finds.{Finds, HasTask, FindsSlice, FindsClaim, IsFitting, waits, runs}
+use Rattle.swarm_laws.proofs.Findings.{Finds, HasTask, FindsSlice, FindsClaim, FindsUpdate, waits, runs}
+use Rattle.swarm_laws.proofs.Finds.{IsFitting}
 
 module _ (s : PoolState) (o : IsSound s) where
   -- what soundness says of a row
@@ -101,6 +104,17 @@ claim_waits s b t id f =
     let g = claim_gets s b t id f in
     record { task = f.task; among = g.among; named = f.task_named; passes = (and_parts (waits f.task) (takes_slice f.bot.dims (current_slice f.task)) g.passes).0 }
 
+-- the bot was heard, and is done with its task
+abbrev pub relieved : ℕ → BotRow → BotRow
+relieved moment bot = freed (heard moment bot)
+
+-- the attempt and the end that go with a state
+abbrev pub fits_in : TaskState → Option Attempt → Option ℕ → Bool
+fits_in state attempt ended =
+    if is_state state Pending then is_none attempt && is_none ended
+    else if is_state state Running then is_some attempt && (is_none (option_and_then (λ (a : Attempt). a.last) attempt) && is_none ended)
+    else is_some ended
+
 -- the run of a bot is named by its row
 pub record HasRun (s : PoolState) (b t : ℕ) : Type 0 where
   pub bot : BotRow
@@ -116,6 +130,22 @@ run_is s b t e = by_bot (bot_of s b) refl e
     by_bot None g h = absurd (cc (h))
     by_bot (Some x) g h = (let f : Found (is_bot b) s.bots x = find_is (is_bot b) s.bots x g in record { bot = x; among = f.among; named = eqb-true x.no b f.passes; task = h })
 
+-- what a report that ends a run does to the task, and to the bot
+module _ (s : PoolState) (m b t try_no : ℕ) (chunk : Option Chunk) (last : Option Last) (f : FindsUpdate s b t chunk last) where
+  pub ended_task : (x : TaskRow) → task_after s m (kind.Update b t try_no chunk last) x ≡ task_at t (finished m None f.end) x
+  ended_task x = rw (f.no_output, f.ends) (by_attempt (attempt_of s t))
+    where
+      by_attempt : (o : Option Attempt) → task_at t (finished m None f.end) (if_some (chunk_at t) (fresh_chunk o None) x) ≡ task_at t (finished m None f.end) x
+      by_attempt None = refl
+      by_attempt (Some a) = refl
+
+  pub ended_bot : (x : BotRow) → bot_after m (kind.Update b t try_no chunk last) x ≡ bot_at b (relieved m) x
+  ended_bot x = rw f.ends (by_test (x.no == b) refl)
+    where
+      by_test : (c : Bool) → (x.no == b) ≡ c → bot_at b freed (cond c (heard m x) x) ≡ cond c (relieved m x) x
+      by_test true e = rw e refl
+      by_test false e = rw e refl
+
 -- the bot that runs a task, from the parts of its row
 abbrev pub runner_in : TaskState → Option Attempt → Option ℕ
 runner_in state attempt = if is_state state Running then option_map (λ (a : Attempt). a.bot) attempt else None
@@ -128,35 +158,54 @@ has_runner x n r = by_test (runs x) r
     by_test true g = refl
     by_test false g = absurd (cc (g))
 
+-- a task that isn't over and has a run runs
+pub goes_on_runs : (s : PoolState) → IsSound s → (b t : ℕ) (chunk : Option Chunk) (last : Option Last) (f : FindsUpdate s b t chunk last) → runs f.task ≡ true
+goes_on_runs s o b t chunk last f = by_state f.task.state f.task.attempt (task_is s o f.task f.among).state f.goes_on f.attempted
+  where
+    by_state : (state : TaskState) (attempt : Option Attempt) → fits_in state attempt f.task.ended ≡ true → is_final state ≡ false → attempt ≡ Some f.attempt → is_state state Running ≡ true
+    by_state Pending None h g e = absurd (cc (e))
+    by_state Pending (Some a) h g e = absurd (cc (h))
+    by_state Running attempt h g e = refl
+    by_state state attempt h g e = absurd (cc (g))
+
+-- it is one that runs
+pub update_runs : (s : PoolState) → IsSound s → (b t : ℕ) (chunk : Option Chunk) (last : Option Last) → FindsUpdate s b t chunk last → HasTask s t runs
+update_runs s o b t chunk last f = record { task = f.task; among = f.among; named = f.named; passes = goes_on_runs s o b t chunk last f }
+
 -- what a fact of a task needs so that an entry keeps it
 pub record Stays (P : TaskRow → Type 0) (s : PoolState) (m : ℕ) (k : EntryKind) (x : TaskRow) : Type 0 where
   pub same : P x
   pub moves : waits x ≡ true → P (moved m (next_of s x) x)
   pub loses : runs x ≡ true → P (lost m x)
   pub begins : (b t : ℕ) (id : List ℕ) → k ≡ kind.Claim b t id → FindsClaim s b t id → waits x ≡ true → P (begun m b id x)
+  pub cancels : waits x ≡ true → P (canceled m x)
+  pub marks : runs x ≡ true → P (kill_marked x)
+  pub finishes : (last : Last) → runs x ≡ true → P (finished m None last x)
 
 module _ (P : TaskRow → Type 0) (s : PoolState) (m : ℕ) (o : IsSound s) (x : TaskRow) (a : Among x s.tasks) where
   -- a task of a bot that comes anew is lost
-  lost_by : (k : EntryKind) → Stays P s m k x → (b : ℕ) (run : Option ℕ) → run_of_bot s b ≡ run → P (if_some (lost_at m) run x)
-  lost_by k p b None e = p.same
-  lost_by k p b (Some t) e =
+  pub lost_by : P x → (runs x ≡ true → P (lost m x)) → (b : ℕ) (run : Option ℕ) → run_of_bot s b ≡ run → P (if_some (lost_at m) run x)
+  lost_by same loses b None e = same
+  lost_by same loses b (Some t) e =
       cond_both (x.no == t) (lost m x) x P
-      (λ n. let f : HasRun s b t = run_is s b t e in p.loses (has_runner x f.bot.no ((agree s o f.bot f.among x a).0 (f.task ∙ ap (λ j. Some j) (sym (eqb-true x.no t n))))))
-      (λ n. p.same)
+      (λ n. let f : HasRun s b t = run_is s b t e in loses (has_runner x f.bot.no ((agree s o f.bot f.among x a).0 (f.task ∙ ap (λ j. Some j) (sym (eqb-true x.no t n))))))
+      (λ n. same)
 
-  -- the row after an entry is as it was, or moved, or lost, or begun
+  -- the row after an entry is as it was, or changed in one of six ways
   pub task_by : (k : EntryKind) → Finds s k → Stays P s m k x → P (task_after s m k x)
   task_by (kind.Slice t to) f p =
       cond_both (x.no == t) (moved m to x) x P
       (λ n. subst (λ (z : Outcome). P (moved m z x)) (sym (goes_to s o t to f x a n)) (p.moves (row_is s o t waits f.waiting x a n)))
       (λ n. p.same)
   task_by (kind.Silence t) f p = cond_both (x.no == t) (lost m x) x P (λ n. p.loses (row_is s o t runs f x a n)) (λ n. p.same)
-  task_by (kind.Cancel t) f p = absurd f
-  task_by (kind.Kill t) f p = absurd f
-  task_by (kind.Handshake b id session dims q) f p = lost_by (kind.Handshake b id session dims q) p b (run_of_bot s b) refl
+  task_by (kind.Cancel t) f p = cond_both (x.no == t) (canceled m x) x P (λ n. p.cancels (row_is s o t waits f x a n)) (λ n. p.same)
+  task_by (kind.Kill t) f p = cond_both (x.no == t) (kill_marked x) x P (λ n. p.marks (row_is s o t runs f x a n)) (λ n. p.same)
+  task_by (kind.Handshake b id session dims q) f p = lost_by p.same p.loses b (run_of_bot s b) refl
   task_by (kind.Claim b t id) f p =
       cond_both (x.no == t) (begun m b id x) x P (λ n. p.begins b t id refl f (row_is s o t waits (claim_waits s b t id f) x a n)) (λ n. p.same)
-  task_by (kind.Update b t try_no chunk last) f p = absurd f
+  task_by (kind.Update b t try_no chunk last) f p =
+      subst P (sym (ended_task s m b t try_no chunk last f x))
+      (cond_both (x.no == t) (finished m None f.end x) x P (λ n. p.finishes f.end (row_is s o t runs (update_runs s o b t chunk last f) x a n)) (λ n. p.same))
   task_by entry f p = p.same
 
 -- what a fact of a bot needs so that an entry keeps it
@@ -169,6 +218,7 @@ pub record Keeps (P : BotRow → Type 0) (s : PoolState) (m : ℕ) (x : BotRow) 
   pub busies : (b t : ℕ) (id : List ℕ) → FindsClaim s b t id → P (busied m t x)
   pub hears : P (heard m x)
   pub notes : (e : EventKind) (text : List ℕ) → fits_message e text ≡ true → P (noted m e text x)
+  pub rests : P (relieved m x)
   pub stops : P (terminated x)
 
 module _ (P : BotRow → Type 0) (s : PoolState) (m : ℕ) (o : IsSound s) (x : BotRow) (a : Among x s.bots) (p : Keeps P s m x) where
@@ -181,7 +231,7 @@ module _ (P : BotRow → Type 0) (s : PoolState) (m : ℕ) (o : IsSound s) (x : 
   asked_of b request_of f n =
       subst (λ (r : Option BotRow). IsSomeAnd (option_map request_of r) (λ asked. IsTrue (fits s.settings asked.request))) (find_bot s o x b a (eqb-true x.no b n)) f
 
-  -- the row after an entry is as it was, or changed in one of eight ways
+  -- the row after an entry is as it was, or changed in one of nine ways
   pub bot_by : (k : EntryKind) → Finds s k → IsFitting s k → P (bot_after m k x)
   bot_by (kind.Silence t) f g = cond_both (runs_task t x) (hushed x) x P (λ n. p.hushes) (λ n. p.same)
   bot_by (kind.Dead b) f g = at_bot b (deadened x) (λ n. p.dies)
@@ -190,7 +240,7 @@ module _ (P : BotRow → Type 0) (s : PoolState) (m : ℕ) (o : IsSound s) (x : 
   bot_by (kind.Claim b t id) f g = at_bot b (busied m t x) (λ n. p.busies b t id f)
   bot_by (kind.Contact b) f g = at_bot b (heard m x) (λ n. p.hears)
   bot_by (kind.Event b e text) f g = at_bot b (noted m e text x) (λ n. p.notes e text (and_parts (is_name x.name) (fits_message e text) (asked_of b (event_of e text) g n)).1)
-  bot_by (kind.Update b t try_no chunk last) f g = absurd f
+  bot_by (kind.Update b t try_no chunk last) f g = subst P (sym (ended_bot s m b t try_no chunk last f x)) (at_bot b (relieved m x) (λ n. p.rests))
   bot_by (kind.Terminate b) f g = at_bot b (terminated x) (λ n. p.stops)
   bot_by entry f g = p.same
 

@@ -1,10 +1,13 @@
 -- A bot's row names its run, before and after each entry.
 use Rattle.std.proofs.Common.{◌≡◌, ◌↔◌, ℕ, ◌≤◌, ◌==◌, List, [], ◌∷◌, length, refl, ap, sym, ◌∙◌, subst, cond, true, false, Bool, Option, Some, None, IfSome, ◌⊎◌, inl, inr, eqb-true, arith}
 use Rattle.std.specs.List.{All}
-use Rattle.std.specs.Option.{option_map_or, option_and_then}
+use Rattle.std.specs.Option.{option_map, option_map_or, option_and_then}
 use Rattle.std.proofs.lemmas.Bool.{cond_both, eq-eqb, eqb-false}
 use Rattle.std.proofs.lemmas.Option.{same_Some}
 use Rattle.dimensions.specs.declared.bot_dims.BotDims.{BotDims}
+use Rattle.swarm_model.specs.declared.attempt.Attempt.{Attempt}
+use Rattle.swarm_model.specs.declared.attempt.Chunk.{Chunk}
+use Rattle.swarm_model.specs.declared.attempt.Last.{Last}
 use Rattle.swarm_model.specs.declared.task_row.TaskRow.{TaskRow}
 use Rattle.swarm_model.specs.declared.bot_row.BotRow.{BotRow}
 use Rattle.swarm_model.specs.declared.pool_state.PoolState.{PoolState}
@@ -18,13 +21,14 @@ use Rattle.swarm_model.specs.declared.entry.Outcome.TheVariants as outcome
 use Rattle.swarm_model.specs.Finding.{task_of, bot_of}
 use Rattle.swarm_model.specs.Deadlines.{next_of}
 use Rattle.swarm_model.specs.Answers.{run_on}
-use Rattle.swarm_model.specs.Effects.{task_after, added_tasks, bot_after, added_bots, new_row, moved, lost, lost_at, task_at, begun, if_some, run_of_bot, runs_task, bot_at, hushed, deadened, greeted, polled, busied, heard, noted, terminated, after}
+use Rattle.swarm_model.specs.Effects.{task_after, added_tasks, bot_after, added_bots, new_row, moved, lost, lost_at, canceled, kill_marked, finished, task_at, begun, if_some, run_of_bot, runs_task, bot_at, hushed, deadened, greeted, polled, busied, heard, noted, terminated, after}
 use Rattle.swarm_model.specs.History.{MayFollow}
 use Rattle.swarm_model.specs.Soundness.{IsSound, Agree, runner}
 use Rattle.swarm_laws.proofs.Lists.{Among, each_one, find_none}
-use Rattle.swarm_laws.proofs.Finds.{Finds, IsOld, IsNewcomer, finds, waits}
-use Rattle.swarm_laws.proofs.Rows.{task_is, bot_is, agree, find_bot, row_is, goes_to, claim_waits, HasRun, run_is, all_tasks, all_bots}
-use Rattle.swarm_laws.proofs.Tasks.{runner_waits, runner_lost, runner_moved, added_idle}
+use Rattle.swarm_laws.proofs.Findings.{Finds, FindsUpdate, IsOld, IsNewcomer, waits}
+use Rattle.swarm_laws.proofs.Finds.{finds}
+use Rattle.swarm_laws.proofs.Rows.{task_is, bot_is, agree, one_task, find_bot, relieved, ended_task, ended_bot, goes_on_runs, row_is, goes_to, claim_waits, HasRun, run_is, all_tasks, all_bots}
+use Rattle.swarm_laws.proofs.Tasks.{runner_waits, runner_lost, runner_marked, runner_finished, runner_moved, added_idle}
 
 -- the fact on plain values: a bot's task, a task's number, the task's runner, the bot's number
 abbrev Same : Option ℕ → ℕ → Option ℕ → ℕ → Type 0
@@ -154,6 +158,33 @@ module _ (s : PoolState) (o : IsSound s) where
           (left b t x.no y.no x.task (runner y) (x.no == b) (y.no == t) refl refl (agree s o x a y c) (λ p. its_run p ∙ g)
           (λ p. (agree s o f.bot f.among y c).0 (f.task ∙ ap (λ n. Some n) (sym p)) ∙ ap (λ n. Some n) f.named)))
 
+  -- and ends so, where it is canceled
+  canceled_agree : (m : ℕ) (x : BotRow) (y : TaskRow) → waits y ≡ true → Agree x y → Agree x (canceled m y)
+  canceled_agree m x y w h =
+      agree_by x (canceled m y) x.task None y.no x.no refl refl refl refl (subst (λ (r : Option ℕ). Same x.task y.no r x.no) (runner_waits y.state y.attempt w) h)
+
+  -- a task that a report ends runs on the bot that sends it
+  its_runner : (b t : ℕ) (chunk : Option Chunk) (last : Option Last) (f : FindsUpdate s b t chunk last) → runner f.task ≡ Some b
+  its_runner b t chunk last f =
+      ap (λ (c : Bool). cond c (option_map (λ (a : Attempt). a.bot) f.task.attempt) None) (goes_on_runs s o b t chunk last f)
+      ∙ ap (option_map (λ (a : Attempt). a.bot)) f.attempted ∙ ap (λ n. Some n) f.by_bot
+
+  ended_agree : (m b t try_no : ℕ) (chunk : Option Chunk) (last : Option Last) → FindsUpdate s b t chunk last → (x : BotRow) → Among x s.bots → (y : TaskRow) → Among y s.tasks →
+      Agree (bot_after m (kind.Update b t try_no chunk last) x) (task_after s m (kind.Update b t try_no chunk last) y)
+  ended_agree m b t try_no chunk last f x a y c =
+      rw (ended_task s m b t try_no chunk last f y, ended_bot s m b t try_no chunk last f x)
+      (agree_by (bot_at b (relieved m) x) (task_at t (finished m None f.end) y) (cond (x.no == b) None x.task) (cond (y.no == t) None (runner y)) y.no x.no (task_of_at b (relieved m) x)
+      (task_no_at t (finished m None f.end) y refl) (runner_at t (finished m None f.end) y ∙ ap (λ z. cond (y.no == t) z (runner y)) (runner_finished m f.end y))
+      (cond_both (x.no == b) (relieved m x) x (λ (z : BotRow). z.no ≡ x.no) (λ n. refl) (λ n. refl))
+      (left b t x.no y.no x.task (runner y) (x.no == b) (y.no == t) refl refl (agree s o x a y c) its_task its_bot))
+    where
+      its_task : x.no ≡ b → x.task ≡ Some t
+      its_task p =
+          (agree s o x a f.task f.among).1 (its_runner b t chunk last f ∙ ap (λ n. Some n) (sym p)) ∙ ap (λ n. Some n) f.named
+
+      its_bot : y.no ≡ t → runner y ≡ Some b
+      its_bot p = ap runner (one_task s o y f.task c f.among (p ∙ sym f.named)) ∙ its_runner b t chunk last f
+
   -- rows that were there
   row_agree : (m : ℕ) (k : EntryKind) → Finds s k → (x : BotRow) → Among x s.bots → (y : TaskRow) → Among y s.tasks → Agree (bot_after m k x) (task_after s m k y)
   row_agree m (kind.Slice t to) f x a y c =
@@ -165,8 +196,11 @@ module _ (s : PoolState) (o : IsSound s) where
       (task_no_at t (lost m) y refl) (runner_at t (lost m) y ∙ ap (λ z. cond (y.no == t) z (runner y)) (runner_lost m y)) (cond_both (runs_task t x) (hushed x) x (λ (z : BotRow). z.no ≡ x.no) (λ n. refl) (λ n. refl))
       (silences t x.no y.no x.task (runner y) (runs_task t x) (y.no == t) refl refl (agree s o x a y c))
   row_agree m (kind.Dead b) f x a y c = cond_both (x.no == b) (deadened x) x (λ (z : BotRow). Agree z y) (λ n. agree s o x a y c) (λ n. agree s o x a y c)
-  row_agree m (kind.Cancel t) f x a y c = absurd f
-  row_agree m (kind.Kill t) f x a y c = absurd f
+  row_agree m (kind.Cancel t) f x a y c =
+      cond_both (y.no == t) (canceled m y) y (Agree x) (λ n. canceled_agree m x y (row_is s o t waits f y c n) (agree s o x a y c)) (λ n. agree s o x a y c)
+  row_agree m (kind.Kill t) f x a y c =
+      cond_both (y.no == t) (kill_marked y) y (Agree x)
+      (λ n. agree_by x (kill_marked y) x.task (runner y) y.no x.no refl refl (runner_marked y) refl (agree s o x a y c)) (λ n. agree s o x a y c)
   row_agree m (kind.Handshake b id session dims q) f x a y c = shaken_agree m b id session dims q x a y c (run_of_bot s b) refl
   row_agree m (kind.Poll b dims q hint) f x a y c = cond_both (x.no == b) (polled m dims q hint x) x (λ (z : BotRow). Agree z y) (λ n. agree s o x a y c) (λ n. agree s o x a y c)
   row_agree m (kind.Claim b t id) f x a y c =
@@ -177,7 +211,7 @@ module _ (s : PoolState) (o : IsSound s) where
       (λ p. runner_waits y.state y.attempt (row_is s o t waits (claim_waits s b t id f) y c (eq-eqb y.no t p))))
   row_agree m (kind.Contact b) f x a y c = cond_both (x.no == b) (heard m x) x (λ (z : BotRow). Agree z y) (λ n. agree s o x a y c) (λ n. agree s o x a y c)
   row_agree m (kind.Event b e text) f x a y c = cond_both (x.no == b) (noted m e text x) x (λ (z : BotRow). Agree z y) (λ n. noted_agree m e text x y (agree s o x a y c)) (λ n. agree s o x a y c)
-  row_agree m (kind.Update b t try_no chunk last) f x a y c = absurd f
+  row_agree m (kind.Update b t try_no chunk last) f x a y c = ended_agree m b t try_no chunk last f x a y c
   row_agree m (kind.Terminate b) f x a y c = cond_both (x.no == b) (terminated x) x (λ (z : BotRow). Agree z y) (λ n. agree s o x a y c) (λ n. agree s o x a y c)
   row_agree m k f x a y c = agree s o x a y c
 

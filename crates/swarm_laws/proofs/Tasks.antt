@@ -1,14 +1,14 @@
 -- A task's row stays sound.
-use Rattle.std.proofs.Common.{◌≡◌, ℕ, ◌+◌, ◌≤◌, ◌==◌, ◌&&◌, Bool, true, false, List, length, refl, arith, Option, Some, None, IfSome, is_some, is_none}
-use Rattle.std.specs.Prelude.{if◌then◌else◌}
+use Rattle.std.proofs.Common.{◌≡◌, ℕ, ◌+◌, ◌≤◌, ◌==◌, ◌||◌, true, false, List, length, refl, sym, subst, arith, Option, Some, None, IfSome, is_some, is_none}
 use Rattle.std.specs.List.{All}
-use Rattle.std.specs.Option.{option_map_or, option_and_then}
+use Rattle.std.specs.Option.{option_map, option_map_or}
 use Rattle.std.proofs.lemmas.Bool.{cond_both, and_parts}
 use Rattle.std.proofs.lemmas.Option.{IfSome_then}
 use Rattle.task_props.proofs.Checked.{slices_counted}
 use Rattle.swarm_model.specs.declared.task_state.TaskState.{TaskState}
-use Rattle.swarm_model.specs.declared.task_state.TaskState.TheVariants.{Pending, Running, Expired, NoResource, BotDied, Killed}
+use Rattle.swarm_model.specs.declared.task_state.TaskState.TheVariants.{Pending, Running, Expired, TimedOut, BotDied, Completed, Killed, NoResource}
 use Rattle.swarm_model.specs.declared.attempt.Attempt.{Attempt}
+use Rattle.swarm_model.specs.declared.attempt.Last.{Last}
 use Rattle.swarm_model.specs.declared.task_row.TaskRow.{TaskRow}
 use Rattle.swarm_model.specs.declared.pool_state.PoolState.{PoolState}
 use Rattle.swarm_model.specs.declared.entry.Entry.{Entry}
@@ -18,12 +18,13 @@ use Rattle.swarm_model.specs.declared.entry.Outcome.TheVariants as outcome
 use Rattle.swarm_model.specs.Finding.{is_state, is_final}
 use Rattle.swarm_model.specs.Slices.{admit}
 use Rattle.swarm_model.specs.Deadlines.{next_of, last_state}
-use Rattle.swarm_model.specs.Effects.{no_of_bot, added_tasks, added_bots, bot_after, moved, lost, begun, end_state, new_row, end_at, after}
+use Rattle.swarm_model.specs.Effects.{no_of_bot, added_tasks, added_bots, bot_after, moved, lost, canceled, killed, kill_marked, begun, reported, finished, end_state, new_row, end_at, after}
 use Rattle.swarm_model.specs.History.{MayFollow}
 use Rattle.swarm_model.specs.Soundness.{IsSound, IsSoundTask, runner}
 use Rattle.swarm_laws.proofs.Lists.{Among, each_one, number_within}
-use Rattle.swarm_laws.proofs.Finds.{Finds, FindsClaim, finds, admit_within, waits}
-use Rattle.swarm_laws.proofs.Rows.{task_by, task_is, all_tasks, no_fewer, runner_in}
+use Rattle.swarm_laws.proofs.Findings.{Finds, FindsClaim, waits}
+use Rattle.swarm_laws.proofs.Finds.{finds, admit_within}
+use Rattle.swarm_laws.proofs.Rows.{task_by, task_is, all_tasks, no_fewer, runner_in, fits_in}
 
 -- states
 
@@ -31,6 +32,14 @@ use Rattle.swarm_laws.proofs.Rows.{task_by, task_is, all_tasks, no_fewer, runner
 pub end_final : (attempt : Option Attempt) (state : TaskState) → is_final state ≡ true → is_final (end_state attempt state) ≡ true
 end_final None state f = f
 end_final (Some a) state f = cond_both a.kill Killed state (λ x. is_final x ≡ true) (λ t. refl) (λ t. f)
+
+-- what a report says is one
+pub reported_final : (last : Last) → is_final (reported last) ≡ true
+reported_final last = cond_both (last.hard_timeout || last.io_timeout) TimedOut Completed (λ state. is_final state ≡ true) (λ t. refl) (λ t. refl)
+
+-- so a run that was reported has ended
+pub finished_final : (m : ℕ) (last : Last) (x : TaskRow) → is_final (finished m None last x).state ≡ true
+finished_final m last x = end_final x.attempt (reported last) (reported_final last)
 
 -- a task whose slices ran out does
 pub last_final : (x : TaskRow) → is_final (last_state x) ≡ true
@@ -63,6 +72,18 @@ runner_final state attempt f = refl
 pub runner_lost : (m : ℕ) (x : TaskRow) → runner (lost m x) ≡ None
 runner_lost m x = runner_final (end_state x.attempt BotDied) x.attempt (end_final x.attempt BotDied refl)
 
+-- nor what a report ended
+pub runner_finished : (m : ℕ) (last : Last) (x : TaskRow) → runner (finished m None last x) ≡ None
+runner_finished m last x = runner_final (finished m None last x).state (finished m None last x).attempt (finished_final m last x)
+
+-- whoever runs a task that is to stop runs it still
+pub runner_marked : (x : TaskRow) → runner (kill_marked x) ≡ runner x
+runner_marked x = by_attempt x.attempt
+  where
+    by_attempt : (attempt : Option Attempt) → runner_in x.state (option_map killed attempt) ≡ runner_in x.state attempt
+    by_attempt None = refl
+    by_attempt (Some a) = refl
+
 -- a task that waits has no runner, and none after its slice ran out
 pub runner_moved : (s : PoolState) (m : ℕ) (x : TaskRow) → waits x ≡ true → runner (moved m (next_of s x) x) ≡ None
 runner_moved s m x w = by_place (admit s x.request.task_slices (x.slice + 1))
@@ -72,12 +93,6 @@ runner_moved s m x w = by_place (admit s x.request.task_slices (x.slice + 1))
     by_place (Some place) = runner_waits x.state x.attempt w
 
 -- the attempt and the end that go with a state
-
-abbrev fits_in : TaskState → Option Attempt → Option ℕ → Bool
-fits_in state attempt ended =
-    if is_state state Pending then is_none attempt && is_none ended
-    else if is_state state Running then is_some attempt && (is_none (option_and_then (λ (a : Attempt). a.last) attempt) && is_none ended)
-    else is_some ended
 
 -- a final state has an end
 final_fits : (state : TaskState) (attempt : Option Attempt) (ended : Option ℕ) → is_final state ≡ true → is_some ended ≡ true → fits_in state attempt ended ≡ true
@@ -89,6 +104,11 @@ final_fits state attempt ended f h = h
 waits_fits : (state : TaskState) (attempt : Option Attempt) (ended : Option ℕ) → is_state state Pending ≡ true → fits_in state attempt ended ≡ true → is_none ended ≡ true
 waits_fits Pending attempt ended p h = (and_parts (is_none attempt) (is_none ended) h).1
 waits_fits state attempt ended p h = absurd (cc (p))
+
+-- a run that is to stop is still one
+marked_fits : (state : TaskState) (attempt : Option Attempt) (ended : Option ℕ) → fits_in state attempt ended ≡ true → fits_in state (option_map killed attempt) ended ≡ true
+marked_fits state None ended h = h
+marked_fits state (Some a) ended h = h
 
 -- a new task has none, where it waits
 new_fits : (m : ℕ) (state : TaskState) → is_state state Running ≡ false → fits_in state None (end_at state m) ≡ true
@@ -163,6 +183,40 @@ module _ (s : PoolState) (e : Entry) (o : IsSound s) (follows : MayFollow s e) w
         has_bot = no_bot (runner (lost e.moment x)) (runner_lost e.moment x);
       }
 
+  -- that was canceled
+  canceled_sound : (x : TaskRow) → IsSoundTask s x → IsSoundTask (after s e) (canceled e.moment x)
+  canceled_sound x sound =
+      let was = sound.since in
+      let before = may in
+      record { checked = sound.checked; has_slice = sound.has_slice; since = omega (arith, before, was); state = refl; has_bot = no_bot None refl }
+
+  -- whose run is to stop
+  marked_sound : (x : TaskRow) → IsSoundTask s x → IsSoundTask (after s e) (kill_marked x)
+  marked_sound x sound =
+      let was = sound.since in
+      let before = may in
+      record {
+        checked = sound.checked;
+        has_slice = sound.has_slice;
+        since = omega (arith, before, was);
+        state = marked_fits x.state x.attempt x.ended sound.state;
+        has_bot = still_bot (runner (kill_marked x)) (subst (λ (r : Option ℕ). IfSome r (λ b. b ≤ length s.bots)) (sym (runner_marked x)) sound.has_bot);
+      }
+
+  -- whose run was reported to its end
+  finished_sound : (last : Last) (x : TaskRow) → IsSoundTask s x → IsSoundTask (after s e) (finished e.moment None last x)
+  finished_sound last x sound =
+      let was = sound.since in
+      let before = may in
+      let y : TaskRow = finished e.moment None last x in
+      record {
+        checked = sound.checked;
+        has_slice = sound.has_slice;
+        since = omega (arith, before, was);
+        state = final_fits y.state y.attempt y.ended (finished_final e.moment last x) refl;
+        has_bot = no_bot (runner y) (runner_finished e.moment last x);
+      }
+
   -- that a bot began
   begun_sound : (x : TaskRow) → IsSoundTask s x → waits x ≡ true → (b t : ℕ) (id : List ℕ) → FindsClaim s b t id → IsSoundTask (after s e) (begun e.moment b id x)
   begun_sound x sound w b t id f =
@@ -207,5 +261,8 @@ module _ (s : PoolState) (e : Entry) (o : IsSound s) (follows : MayFollow s e) w
         moves = λ w. moved_sound x (task_is s o x a) w (admit s x.request.task_slices (x.slice + 1)) refl;
         loses = λ w. lost_sound x (task_is s o x a);
         begins = λ b t id is f w. begun_sound x (task_is s o x a) w b t id f;
+        cancels = λ w. canceled_sound x (task_is s o x a);
+        marks = λ w. marked_sound x (task_is s o x a);
+        finishes = λ last w. finished_sound last x (task_is s o x a);
       }))
       (added_sound e.kind (finds s e follows))

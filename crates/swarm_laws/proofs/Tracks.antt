@@ -1,17 +1,19 @@
 -- A task followed through a log.
-use Rattle.std.proofs.Common.{◌≡◌, ℕ, List, [], ◌∷◌, refl, ◌∙◌, false}
+use Rattle.std.proofs.Common.{◌≡◌, ℕ, List, [], ◌∷◌, refl, sym, ◌∙◌, subst, true, false, None}
 use Rattle.swarm_model.specs.declared.task_state.TaskState.TheVariants.{BotDied}
 use Rattle.swarm_model.specs.declared.task_row.TaskRow.{TaskRow}
 use Rattle.swarm_model.specs.declared.pool_state.PoolState.{PoolState}
 use Rattle.swarm_model.specs.declared.entry.Entry.{Entry}
 use Rattle.swarm_model.specs.declared.entry.EntryKind.{EntryKind}
-use Rattle.swarm_model.specs.Effects.{task_after, added_tasks, after, end_state}
+use Rattle.swarm_model.specs.Finding.{is_final}
+use Rattle.swarm_model.specs.Effects.{task_after, added_tasks, after, end_state, finished}
 use Rattle.swarm_model.specs.History.{replay, IsCaused}
 use Rattle.swarm_model.specs.Soundness.{IsSound}
 use Rattle.swarm_laws.proofs.Lists.{Among, among_map, among_left}
-use Rattle.swarm_laws.proofs.Finds.{Finds, finds, waits}
+use Rattle.swarm_laws.proofs.Findings.{Finds, waits}
+use Rattle.swarm_laws.proofs.Finds.{finds}
 use Rattle.swarm_laws.proofs.Rows.{task_by}
-use Rattle.swarm_laws.proofs.Tasks.{end_final, not_pending}
+use Rattle.swarm_laws.proofs.Tasks.{end_final, finished_final, not_pending, not_running}
 use Rattle.swarm_laws.proofs.Numbers.{task_no}
 use Rattle.swarm_laws.proofs.Sound.{sound_after}
 
@@ -49,4 +51,24 @@ past_lasts s m k o f x a p =
       moves = λ w. absurd (cc (w, p));
       loses = λ w. not_pending (end_state x.attempt BotDied) (end_final x.attempt BotDied refl);
       begins = λ b t id is found w. refl;
+      cancels = λ w. refl;
+      marks = λ w. p;
+      finishes = λ last w. not_pending (finished m None last x).state (finished_final m last x);
     })
+
+-- a task that is over stays as it is
+pub final_same : (s : PoolState) (m : ℕ) (k : EntryKind) → IsSound s → Finds s k → (x : TaskRow) → Among x s.tasks → is_final x.state ≡ true → task_after s m k x ≡ x
+final_same s m k o f x a final =
+    task_by (λ (y : TaskRow). y ≡ x) s m o x a k f (record {
+      same = refl;
+      moves = λ w. absurd (cc (w, not_pending x.state final));
+      loses = λ w. absurd (cc (w, not_running x.state final));
+      begins = λ b t id is found w. absurd (cc (w, not_pending x.state final));
+      cancels = λ w. absurd (cc (w, not_pending x.state final));
+      marks = λ w. absurd (cc (w, not_running x.state final));
+      finishes = λ last w. absurd (cc (w, not_running x.state final));
+    })
+
+-- so a final row lasts
+pub final_lasts : (x : TaskRow) → is_final x.state ≡ true → Lasts (λ (y : TaskRow). y ≡ x)
+final_lasts x final s m k o f y a e = final_same s m k o f y a (subst (λ (z : TaskRow). is_final z.state ≡ true) (sym e) final) ∙ e

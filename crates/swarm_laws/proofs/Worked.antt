@@ -1,6 +1,6 @@
--- The worked log, entry by entry.
+-- The worked logs, entry by entry.
 use Rattle.std.proofs.Common.{refl, lit≤}
-use Rattle.swarm_laws.specs.Worked.{ItHappens}
+use Rattle.swarm_laws.specs.Worked.{ItHappens, RunsEnd}
 
 -- each entry may follow those before it
 pub it_happens : ItHappens
@@ -15,6 +15,30 @@ it_happens = (
         (
           record { not_before = lit≤ tt; not_late = lit≤ tt; has_cause = refl },
           (record { not_before = lit≤ tt; not_late = lit≤ tt; has_cause = refl }, tt),
+        ),
+      ),
+    ),
+  ),
+)
+
+pub runs_end : RunsEnd
+runs_end = (
+  record { not_before = lit≤ tt; not_late = lit≤ tt; has_cause = record { nothing_due = refl; may_ask = refl; gives = refl } },
+  (
+    record { not_before = lit≤ tt; not_late = lit≤ tt; has_cause = record { nothing_due = refl; may_ask = refl; gives = refl } },
+    (
+      record { not_before = lit≤ tt; not_late = lit≤ tt; has_cause = record { nothing_due = refl; may_ask = refl; gives = refl } },
+      (
+        record { not_before = lit≤ tt; not_late = lit≤ tt; has_cause = record { nothing_due = refl; may_ask = refl; gives = refl } },
+        (
+          record { not_before = lit≤ tt; not_late = lit≤ tt; has_cause = record { nothing_due = refl; may_ask = refl; gives = refl } },
+          (
+            record { not_before = lit≤ tt; not_late = lit≤ tt; has_cause = record { nothing_due = refl; may_ask = refl; gives = refl } },
+            (
+              record { not_before = lit≤ tt; not_late = lit≤ tt; has_cause = record { nothing_due = refl; may_ask = refl; gives = refl } },
+              (record { not_before = lit≤ tt; not_late = lit≤ tt; has_cause = record { nothing_due = refl; may_ask = refl; gives = refl } }, tt),
+            ),
+          ),
         ),
       ),
     ),

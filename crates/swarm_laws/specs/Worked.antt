@@ -1,5 +1,5 @@
--- A log in which a bot comes, claims a task, is heard once more, and falls silent.
-use Rattle.std.specs.Prelude.{List, [], ◌∷◌, None, codes}
+-- Logs that a pool may have.
+use Rattle.std.specs.Prelude.{List, [], ◌∷◌, Some, None, pos, codes}
 use Rattle.dimensions.specs.declared.bot_dims.BotDims.{BotDims}
 use Rattle.swarm_model.specs.declared.task_state.TaskState.TheVariants.{Pending}
 use Rattle.swarm_model.specs.declared.entry.Entry.{Entry}
@@ -7,11 +7,13 @@ use Rattle.swarm_model.specs.declared.entry.EntryKind.TheVariants as kind
 use Rattle.swarm_model.specs.Answers.{entry_at}
 use Rattle.swarm_model.specs.Effects.{opening}
 use Rattle.swarm_model.specs.Examples.{settings, small_task}
+use Rattle.swarm_model.specs.EndExamples.{exits}
 use Rattle.swarm_model.specs.History.{IsCaused}
 
 abbrev pub small_dims : BotDims
 small_dims = (codes "id", codes "bot-1" ∷ []) ∷ (codes "pool", codes "default" ∷ []) ∷ []
 
+-- a bot comes, claims a task, is heard once more, and falls silent
 abbrev pub worked_log : List Entry
 worked_log =
     entry_at 1000 0 (kind.New 1 (codes "ana") (small_task 600) Pending 0 None)
@@ -25,3 +27,20 @@ worked_log =
 -- it is a log that a pool may have
 abbrev pub ItHappens : Type 0
 ItHappens = IsCaused (opening settings) worked_log
+
+-- of two tasks one is canceled while it waits; the other runs, is asked to stop, and ends by a report that comes twice
+abbrev pub ended_log : List Entry
+ended_log =
+    entry_at 1000 0 (kind.New 1 (codes "ana") (small_task 600) Pending 0 None)
+    ∷ entry_at 1000 0 (kind.New 2 (codes "ana") (small_task 600) Pending 0 None)
+    ∷ entry_at 1001 0 (kind.Handshake 1 (codes "bot-1") (codes "session-1") small_dims [])
+    ∷ entry_at 1002 0 (kind.Claim 1 1 (codes "claim-1"))
+    ∷ entry_at 1003 0 (kind.Cancel 2)
+    ∷ entry_at 1004 0 (kind.Kill 1)
+    ∷ entry_at 1005 0 (kind.Update 1 1 1 None (Some (exits (pos 0))))
+    ∷ entry_at 1006 0 (kind.Contact 1)
+    ∷ []
+
+-- such a log, too
+abbrev pub RunsEnd : Type 0
+RunsEnd = IsCaused (opening settings) ended_log

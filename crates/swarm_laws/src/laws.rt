@@ -1,7 +1,10 @@
-ghost use Rattle.swarm_laws.specs.Worked.{ItHappens};
+ghost use Rattle.std.specs.Prelude.{◌≡◌};
+ghost use Rattle.swarm_laws.specs.Worked.{ItHappens, RunsEnd, ended_log};
+ghost use Rattle.swarm_model.specs.declared.task_state.TaskState.TheVariants.{Canceled, Killed};
 ghost use Rattle.swarm_model.specs.Claims.{ClaimsAreRight};
-ghost use Rattle.swarm_model.specs.Repeats.{ClaimAgain, ClaimIsOver, ContactChanges, HandshakeAgain};
+ghost use Rattle.swarm_model.specs.Repeats.{ClaimAgain, ClaimIsOver, ContactChanges, HandshakeAgain, UpdateAgain, UpdateIsOver};
 ghost use Rattle.swarm_model.specs.Soundness.{StaysSound};
+ghost use Rattle.swarm_model.specs.Verdicts.{FinalsStay, TallyAddsUp, TallyCountsVerdicts, VerdictsAreStates, verdict};
 
 /// Every pool that a log leads to is sound.
 pub fn stays_sound()
@@ -14,12 +17,31 @@ pub fn claims_are_right()
     ensures { ClaimsAreRight }
 {}
 
-/// A claim or a handshake that is sent again says only that the bot was heard, and a claim whose
-/// attempt has ended is refused.
+/// The state of each task is the one that the log alone tells.
+pub fn verdicts_are_states()
+    ensures { VerdictsAreStates }
+{}
+
+/// The row of a task that has ended stays as it is, whatever follows.
+pub fn finals_stay()
+    ensures { FinalsStay }
+{}
+
+/// The tally counts, for each state, the accepted tasks of which the log tells it, and so it adds
+/// up to all of them.
+pub fn tally_counts_verdicts()
+    ensures counts { TallyCountsVerdicts }
+    ensures adds_up { TallyAddsUp }
+{}
+
+/// A claim, a handshake or a report that is sent again says only that the bot was heard; a claim
+/// whose attempt has ended is refused, and so is a report of it that is not the one that ended it.
 pub fn repeats_act_once()
     ensures claim { ClaimAgain }
     ensures claim_over { ClaimIsOver }
     ensures handshake { HandshakeAgain }
+    ensures update { UpdateAgain }
+    ensures update_over { UpdateIsOver }
     ensures contact { ContactChanges }
 {}
 
@@ -27,4 +49,12 @@ pub fn repeats_act_once()
 /// that a pool may have, so the laws speak of something.
 pub fn a_claim_happens()
     ensures { ItHappens }
+{}
+
+/// So is one in which a task is canceled while it waits, and another is asked to stop and ends by
+/// the report of its bot.
+pub fn a_run_ends()
+    ensures happens { RunsEnd }
+    ensures killed { verdict ended_log 1 ≡ Killed }
+    ensures canceled { verdict ended_log 2 ≡ Canceled }
 {}

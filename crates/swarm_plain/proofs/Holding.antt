@@ -4,14 +4,18 @@ use Rattle.std.specs.List.{All}
 use Rattle.task_props.proofs.Checked.{slices_counted}
 use Rattle.swarm_model.specs.declared.pool_state.PoolState.{PoolState}
 use Rattle.swarm_model.specs.Soundness.{IsSound}
+use Rattle.swarm_model.specs.Kept.{IsHistory}
 use Rattle.swarm_laws.proofs.Sound.{sound_always}
 use Rattle.swarm_plain.specs.declared.rows.Rows.{Rows}
 use Rattle.swarm_plain.specs.declared.list_pool.ListPool.TheInside.{Inside}
 use Rattle.swarm_plain.specs.Inside.{state_of, IsEarly, IsHeard, HasFewSlices, IsInOrder}
-use Rattle.swarm_plain.specs.Invariant.{IsKept}
+use Rattle.swarm_plain.specs.Invariant.{kept_of, IsKept}
 
 pub kept_sound : (pool : Inside) → IsKept pool → IsSound (state_of pool.rows)
 kept_sound pool kept = subst IsSound (sym kept.replayed) (sound_always pool.rows.settings pool.log.items kept.legal.caused)
+
+pub kept_history : (pool : Inside) → IsKept pool → IsHistory (kept_of pool)
+kept_history pool kept = record { replayed = kept.replayed; legal = kept.legal }
 
 pub all_early : (s : PoolState) → IsSound s → All IsEarly s.tasks
 all_early s sound = λ k d low. let last = sound.last in let since = (sound.tasks k d low).since in omega (arith, last, since)

@@ -1,21 +1,22 @@
 //! What each entry does to the rows, in place.
-ghost use Rattle.std.specs.Prelude.{◌≡◌, ◌≤◌, ◌<◌, ◌++◌, ◌∷◌, [], length, map, IsTrue, None, vec_len, vec_capacity};
+ghost use Rattle.std.specs.Prelude.{◌≡◌, ◌≤◌, ◌<◌, ◌++◌, ◌∷◌, [], length, map, ℕ, ◌&&◌, is_some, is_none, IsTrue, Some, None, vec_len, vec_capacity};
 ghost use Rattle.std.specs.List.{All};
 ghost use Rattle.std.specs.Option.{option_copied, option_map};
 ghost use Rattle.swarm_model.specs.declared.entry.EntryKind.TheVariants as kind;
 ghost use Rattle.swarm_model.specs.Numbers.{AreNumbered, change_at};
 ghost use Rattle.swarm_model.specs.Finding.{bot_of};
-ghost use Rattle.swarm_laws.specs.Served.{is_served};
+ghost use Rattle.swarm_laws.specs.Served.{is_served, ends_run};
 ghost use Rattle.swarm_model.specs.Effects.{no_of_task, no_of_bot, if_some, lost_at, new_row, end_at, greeted, runs_task, hushed, bot_after, after};
 ghost use Rattle.swarm_plain.specs.Inside.{state_of, IsInOrder, HasRoom, Becomes, hushed_if};
 
 use crate::rows::Rows;
 use crate::scans;
-use dimensions::{BotDims, Seq, Text};
+use dimensions::{BotDims, Growing, Text};
 use std::alloc::Global;
 use swarm_model::{
-    BotRow, Change, Die, Entry, EntryKind, EventKind, Hear, Lose, MarkTerminating, Note, Outcome,
-    Poll, Renew, Row, Shift, Start, TakeOn, TaskRow, TaskState, change_row, hush,
+    BotRow, Cancel, Change, Chunk, Die, Entry, EntryKind, EventKind, Finish, Free, Hear, Last,
+    Lose, MarkKill, MarkTerminating, Note, Outcome, Poll, Renew, Row, Shift, Start, TakeOn,
+    TaskRow, TaskState, change_row, hush,
 };
 use task_props::NewTask;
 
@@ -148,6 +149,22 @@ impl Rows {
         );
     }
 
+    fn cancel(&mut self, moment: u64, t: u32)
+        requires order { IsInOrder self.old }
+        ensures { Becomes self.old self.new moment (kind.Cancel t) }
+    {
+        self.last = moment;
+        change(&mut self.tasks, t, Cancel { moment });
+    }
+
+    fn kill(&mut self, moment: u64, t: u32)
+        requires order { IsInOrder self.old }
+        ensures { Becomes self.old self.new moment (kind.Kill t) }
+    {
+        self.last = moment;
+        change(&mut self.tasks, t, MarkKill);
+    }
+
     /// The task of the bot of this number, where there is such a bot.
     fn run_of(&self, b: u32) -> Option<Option<u32>>
         ensures { result ≡ option_map (λ bot. bot.task) (bot_of (state_of self.now) b) }
@@ -202,7 +219,7 @@ impl Rows {
                 moment,
                 bot: b,
                 claim,
-                chunks: Seq::new(alloc),
+                chunks: Growing::new(alloc),
             },
         );
         change(&mut self.bots, b, TakeOn { moment, task: t });
@@ -223,6 +240,35 @@ impl Rows {
                 empty: Text::new(alloc),
             },
         );
+    }
+
+    /// The bot is heard, its run ends with this last report, and it is free.
+    fn finish(&mut self, moment: u64, b: u32, t: u32, chunk: Option<Chunk>, last: Last)
+        requires order { IsInOrder self.old }
+        requires no_output { IsTrue (is_none chunk) }
+        ensures { (try_no : ℕ) → Becomes self.old self.new moment (kind.Update b t try_no chunk (Some last)) }
+    {
+        self.last = moment;
+        let end = Finish {
+            moment,
+            chunk,
+            last,
+        };
+        let sign = Hear { moment };
+        change(&mut self.tasks, t, end);
+        change(&mut self.bots, b, sign);
+        change(&mut self.bots, b, Free);
+    }
+
+    fn update(&mut self, moment: u64, b: u32, t: u32, chunk: Option<Chunk>, last: Option<Last>)
+        requires order { IsInOrder self.old }
+        requires ends { IsTrue (is_none chunk && is_some last) }
+        ensures { (try_no : ℕ) → Becomes self.old self.new moment (kind.Update b t try_no chunk last) }
+    {
+        match last {
+            None => unreachable!(),
+            Some(last) => self.finish(moment, b, t, chunk, last),
+        }
     }
 
     fn terminate(&mut self, moment: u64, b: u32)
@@ -272,6 +318,7 @@ impl Rows {
     /// What the entry does; its texts move into the rows.
     pub(crate) fn apply(&mut self, alloc: Global, entry: Entry)
         requires served { IsTrue (is_served entry.kind) }
+        requires ends { IsTrue (ends_run entry.kind) }
         requires order { IsInOrder self.old }
         requires room { HasRoom self.old }
         ensures { Becomes self.old self.new entry.moment entry.kind }
@@ -293,6 +340,8 @@ impl Rows {
                 slice,
                 from,
             } => self.new_task(moment, t, who, request, state, slice, from),
+            EntryKind::Cancel { t } => self.cancel(moment, t),
+            EntryKind::Kill { t } => self.kill(moment, t),
             EntryKind::Handshake {
                 b,
                 id,
@@ -304,12 +353,15 @@ impl Rows {
             EntryKind::Claim { b, t, claim } => self.claim(alloc, moment, b, t, claim),
             EntryKind::Contact { b } => self.contact(moment, b),
             EntryKind::Event { b, e, text } => self.event(alloc, moment, b, e, text),
+            EntryKind::Update {
+                b,
+                t,
+                try_no: _,
+                chunk,
+                last,
+            } => self.update(moment, b, t, chunk, last),
             EntryKind::Terminate { b } => self.terminate(moment, b),
-            EntryKind::Blob { .. }
-            | EntryKind::Cancel { .. }
-            | EntryKind::Kill { .. }
-            | EntryKind::Update { .. }
-            | EntryKind::Put { .. } => unreachable!(),
+            EntryKind::Blob { .. } | EntryKind::Put { .. } => unreachable!(),
         }
     }
 }

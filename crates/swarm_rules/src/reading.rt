@@ -22,7 +22,7 @@ fn if_named(try_no: u32, task: &TaskRow) -> Option<&TaskRow>
 }
 
 /// The task, where it has the try that the number names.
-fn named_task<'a, P: LookUps, L: Ledger>(
+pub(crate) fn named_task<'a, P: LookUps, L: Ledger>(
     pool: &'a P,
     number: u32,
     try_no: u32,

@@ -2,7 +2,7 @@
 ghost use Rattle.std.specs.Prelude.{◌≡◌};
 ghost use Rattle.std.specs.Option.{option_copied};
 ghost use Rattle.dimensions.specs.Rules.{is_empty};
-ghost use Rattle.swarm_model.specs.Finding.{place_of, is_state, is_final};
+ghost use Rattle.swarm_model.specs.Finding.{place_of, is_state, has_state, is_final};
 ghost use Rattle.swarm_model.specs.Slices.{current_slice};
 ghost use Rattle.swarm_model.specs.Answers.{has_try, try_of};
 
@@ -36,6 +36,12 @@ fn is_state(one: TaskState, other: TaskState) -> bool
     ensures { result ≡ is_state one other }
 {
     place_of(one) == place_of(other)
+}
+
+pub(crate) fn has_state(state: TaskState, task: &TaskRow) -> bool
+    ensures { result ≡ has_state state task.now }
+{
+    is_state(task.state, state)
 }
 
 /// Whether a task in this state has ended.

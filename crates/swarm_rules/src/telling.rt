@@ -3,6 +3,7 @@ ghost use Rattle.swarm_model.specs.Fits.{fits};
 ghost use Rattle.swarm_model.specs.Answers.{tell};
 
 use crate::LookUps;
+use crate::canceling::cancel;
 use crate::claiming::claim;
 use crate::events::event;
 use crate::handshakes::handshake;
@@ -10,6 +11,7 @@ use crate::new_tasks::new_task;
 use crate::polling::poll;
 use crate::reading::{task_count, task_result};
 use crate::terminating::terminate;
+use crate::updating::update;
 use dimensions::Text;
 use std::alloc::{AllocError, Global};
 use std::sync::ledger::Ledger;
@@ -29,6 +31,9 @@ pub fn tell<P: LookUps, L: Ledger>(
 {
     match request {
         Request::New(task) => new_task(alloc, pool, who, task),
+        Request::Cancel { task, try_no, kill } => {
+            cancel(alloc, pool, who, *task, *try_no, *kill, steps)
+        }
         Request::Result { task, try_no } => task_result(alloc, pool, *task, *try_no, steps),
         Request::Count { state } => Ok(task_count(pool, *state)),
         Request::Handshake {
@@ -44,6 +49,13 @@ pub fn tell<P: LookUps, L: Ledger>(
         } => poll(alloc, pool, bot, dims, quarantined, steps),
         Request::Claim { bot, claim: id } => claim(alloc, pool, bot, id, steps),
         Request::Event { bot, kind, message } => event(alloc, pool, bot, *kind, message),
+        Request::Update {
+            bot,
+            task,
+            try_no,
+            chunk,
+            last,
+        } => update(alloc, pool, bot, *task, *try_no, *chunk, last, steps),
         Request::Terminate { bot } => Ok(terminate(pool, bot)),
     }
 }

@@ -4,22 +4,20 @@ use Rattle.std.specs.List.{sum_by}
 use Rattle.std.proofs.lemmas.List.Sums.{sum_by-append}
 use Rattle.swarm_model.specs.declared.pool_settings.PoolSettings.{PoolSettings}
 use Rattle.std.specs.Option.{option_map}
-use Rattle.swarm_model.specs.Kept.{Kept, IsRight}
-use Rattle.swarm_model.specs.Claims.{IsRightClaim}
-use Rattle.swarm_model.specs.declared.pool_state.PoolState.{PoolState}
-use Rattle.swarm_laws.proofs.ClaimLaw.{claims_right}
+use Rattle.swarm_model.specs.Kept.{Kept, IsRight, KeepsFinals}
+use Rattle.swarm_laws.proofs.Keeping.{is_right, keeps_finals}
 use Rattle.swarm_plain.specs.declared.list_pool.Ready.{Ready}
 use Rattle.swarm_model.specs.declared.entry.Entry.{Entry}
 use Rattle.swarm_model.specs.Effects.{opening, after}
 use Rattle.swarm_model.specs.Entries.{weight}
-use Rattle.swarm_laws.specs.Served.{is_served}
+use Rattle.swarm_laws.specs.Served.{is_served, ends_run}
 use Rattle.swarm_model.specs.History.{replay}
-use Rattle.swarm_laws.proofs.Finds.{served_kind}
+use Rattle.swarm_laws.proofs.Finds.{served_kind, report_ends}
 use Rattle.swarm_plain.specs.Inside.{state_of}
-use Rattle.swarm_plain.specs.Invariant.{IsReady}
+use Rattle.swarm_plain.specs.Invariant.{IsReady, kept_of}
 use Rattle.swarm_plain.proofs.Legality.{rooms, legal_more}
 use Rattle.swarm_plain.proofs.Committing.{ready_is, of_ready, replayed_more}
-use Rattle.swarm_plain.proofs.Holding.{kept_sound, in_order}
+use Rattle.swarm_plain.proofs.Holding.{kept_sound, kept_history, in_order}
 use Rattle.swarm_plain.proofs.list_pool.ListPoolMachine.commit.Goals as goal
 
 pub apply-requires-clause-served : goal.apply-requires-clause-served
@@ -27,6 +25,12 @@ apply-requires-clause-served c =
     let is = sym c.take.ensures.value ∙ c.in-Some.is in
     let same = ready_is c.self.inside.ready c.in-Some.ready c.args.entry is (ap (λ k. k.ready) c.self.view_is ∙ c.requires.ready) in
     subst (λ (e : Entry). IsTrue (is_served e.kind)) (sym same) (served_kind (state_of c.self.inside.rows) c.args.entry (rw (← c.self.view_is) at c.requires.follows))
+
+pub apply-requires-clause-ends : goal.apply-requires-clause-ends
+apply-requires-clause-ends c =
+    let is = sym c.take.ensures.value ∙ c.in-Some.is in
+    let same = ready_is c.self.inside.ready c.in-Some.ready c.args.entry is (ap (λ k. k.ready) c.self.view_is ∙ c.requires.ready) in
+    subst (λ (e : Entry). IsTrue (ends_run e.kind)) (sym same) (report_ends (state_of c.self.inside.rows) c.args.entry (rw (← c.self.view_is) at c.requires.follows))
 
 pub apply-requires-clause-order : goal.apply-requires-clause-order
 apply-requires-clause-order c = in_order c.self.inside.rows (kept_sound c.self.inside c.self.invariant)
@@ -60,11 +64,12 @@ returns c =
     let same = ready_is c.self.inside.ready c.in-Some.ready c.args.entry is (ap (λ k. k.ready) c.self.view_is ∙ c.requires.ready) in
     let pool_is = c.apply.ensures.state ∙ ap (λ (e : Entry). after (state_of c.self.inside.rows) e) same in
     let none = ap (option_map (λ (r : Ready). r.entry)) c.take.ensures.after in
-    let follows = rw c.self.invariant.replayed at (rw (← c.self.view_is) at c.requires.follows) in
+    let follows = rw (← c.self.view_is) at c.requires.follows in
+    let history = kept_history c.self.inside c.self.invariant in
+    let new : Kept = record { pool = state_of c.apply.new.self; log = c.push.new.rows.items; ready = None; held = [] } in
     record {
-      right = subst (λ (k : Kept). IsRight k c.args.entry) c.self.view_is (λ b t claim claims.
-          subst (λ (s : PoolState). IsRightClaim s c.self.inside.log.items c.args.entry.moment b t) (sym c.self.invariant.replayed)
-          (claims_right c.self.inside.rows.settings c.self.inside.log.items c.args.entry b t claim c.self.invariant.legal.caused follows claims));
+      right = subst (λ (k : Kept). IsRight k c.args.entry) c.self.view_is (is_right (kept_of c.self.inside) history c.args.entry follows);
+      finals = subst (λ (k : Kept). KeepsFinals k new) c.self.view_is (keeps_finals (kept_of c.self.inside) history c.args.entry follows new pool_is);
       added = (λ i. let x : Kept = record { pool = pool_is i; log = c.push.ensures i; ready = none i; held = [] } in x)
           ∙ ap (λ (k : Kept). let x : Kept = record k { pool = after k.pool c.args.entry; log = k.log ++ c.args.entry ∷ []; ready = None } in x) c.self.view_is;
     }

@@ -1,0 +1,115 @@
+-- What an entry of each kind finds in the pool.
+use Rattle.std.proofs.Common.{◌≡◌, ℕ, ◌+◌, ◌<◌, Bool, true, false, List, ◌⊎◌, length, refl, Option, Some, None}
+use Rattle.std.specs.Prelude.{⊤}
+use Rattle.std.specs.Option.{option_map_or}
+use Rattle.dimensions.specs.Alike.{same}
+use Rattle.task_props.specs.declared.new_task.NewTask.{NewTask}
+use Rattle.task_props.specs.Checked.{is_checked}
+use Rattle.swarm_model.specs.declared.task_state.TaskState.{TaskState}
+use Rattle.swarm_model.specs.declared.task_state.TaskState.TheVariants.{Pending, Running, NoResource}
+use Rattle.swarm_model.specs.declared.attempt.Attempt.{Attempt}
+use Rattle.swarm_model.specs.declared.attempt.Chunk.{Chunk}
+use Rattle.swarm_model.specs.declared.attempt.Last.{Last}
+use Rattle.swarm_model.specs.declared.task_row.TaskRow.{TaskRow}
+use Rattle.swarm_model.specs.declared.bot_row.BotRow.{BotRow}
+use Rattle.swarm_model.specs.declared.pool_state.PoolState.{PoolState}
+use Rattle.swarm_model.specs.declared.entry.EntryKind.{EntryKind}
+use Rattle.swarm_model.specs.declared.entry.EntryKind.TheVariants as kind
+use Rattle.swarm_model.specs.declared.entry.Outcome.{Outcome}
+use Rattle.swarm_model.specs.declared.entry.Outcome.TheVariants as outcome
+use Rattle.swarm_model.specs.Finding.{has_state, is_state, is_final, task_of, bot_named}
+use Rattle.swarm_model.specs.Slices.{first}
+use Rattle.swarm_model.specs.Answers.{run_on, claimed, unfit_of}
+use Rattle.swarm_model.specs.Deadlines.{next_of}
+use Rattle.swarm_laws.specs.Served.{is_served, ends_run}
+use Rattle.swarm_laws.proofs.Lists.{Among}
+
+-- a task of that number of which the test holds
+pub record HasTask (s : PoolState) (number : ℕ) (test : TaskRow → Bool) : Type 0 where
+  pub task : TaskRow
+  pub among : Among task s.tasks
+  pub named : task.no ≡ number
+  pub passes : test task ≡ true
+
+abbrev pub waits : TaskRow → Bool
+waits task = has_state Pending task
+
+abbrev pub runs : TaskRow → Bool
+runs task = has_state Running task
+
+pub record FindsSlice (s : PoolState) (t : ℕ) (to : Outcome) : Type 0 where
+  pub waiting : HasTask s t waits
+  pub goes : to ≡ option_map_or (next_of s) (task_of s t) (outcome.Ended NoResource)
+
+pub record FindsNew (s : PoolState) (t : ℕ) (request : NewTask) (state : TaskState) (slice : ℕ) : Type 0 where
+  pub next : t ≡ length s.tasks + 1
+  pub idle : is_state state Running ≡ false
+  pub checked : is_checked request ≡ true
+  pub has_slice : slice < length request.task_slices
+
+pub record IsOld (s : PoolState) (b : ℕ) (id : List ℕ) : Type 0 where
+  pub bot : BotRow
+  pub among : Among bot s.bots
+  pub named : bot.no ≡ b
+  pub called : same bot.name id ≡ true
+
+pub record IsNewcomer (s : PoolState) (b : ℕ) (id : List ℕ) : Type 0 where
+  pub unknown : bot_named s id ≡ None
+  pub next : b ≡ length s.bots + 1
+
+pub record FindsClaim (s : PoolState) (b t : ℕ) (id : List ℕ) : Type 0 where
+  pub bot : BotRow
+  pub among : Among bot s.bots
+  pub named : bot.no ≡ b
+  pub fresh : claimed s bot.no id ≡ None
+  pub fit : unfit_of bot ≡ None
+  pub idle : run_on s bot ≡ None
+  pub task : TaskRow
+  pub gets : first s bot.dims ≡ Some task
+  pub task_named : task.no ≡ t
+
+-- the end of a run, which its own bot reports, without output
+pub record FindsUpdate (s : PoolState) (b t : ℕ) (chunk : Option Chunk) (last : Option Last) : Type 0 where
+  pub bot : BotRow
+  pub known : Among bot s.bots
+  pub called : bot.no ≡ b
+  pub task : TaskRow
+  pub among : Among task s.tasks
+  pub named : task.no ≡ t
+  pub goes_on : is_final task.state ≡ false
+  pub attempt : Attempt
+  pub attempted : task.attempt ≡ Some attempt
+  pub by_bot : attempt.bot ≡ b
+  pub end : Last
+  pub ends : last ≡ Some end
+  pub no_output : chunk ≡ None
+
+-- nothing at all, where no request and no deadline adds the kind
+abbrev pub Finds : PoolState → EntryKind → Type 0
+Finds s (kind.Slice t to) = FindsSlice s t to
+Finds s (kind.Silence t) = HasTask s t runs
+Finds s (kind.Dead b) = ⊤
+Finds s (kind.New t who request state slice from) = FindsNew s t request state slice
+Finds s (kind.Cancel t) = HasTask s t waits
+Finds s (kind.Kill t) = HasTask s t runs
+Finds s (kind.Handshake b id session dims q) = IsNewcomer s b id ⊎ IsOld s b id
+Finds s (kind.Poll b dims q hint) = ⊤
+Finds s (kind.Claim b t id) = FindsClaim s b t id
+Finds s (kind.Contact b) = ⊤
+Finds s (kind.Event b e text) = ⊤
+Finds s (kind.Update b t try_no chunk last) = FindsUpdate s b t chunk last
+Finds s (kind.Terminate b) = ⊤
+Finds s entry = ⊥
+
+-- the kind is served
+pub served_of : (s : PoolState) (k : EntryKind) → Finds s k → is_served k ≡ true
+served_of s (kind.Blob n kept) f = absurd f
+served_of s (kind.Put digest size) f = absurd f
+served_of s entry f = refl
+
+-- and a report ends its run
+pub ends_of : (s : PoolState) (k : EntryKind) → Finds s k → ends_run k ≡ true
+ends_of s (kind.Update b t try_no chunk last) f = rw (f.no_output, f.ends) refl
+ends_of s (kind.Blob n kept) f = absurd f
+ends_of s (kind.Put digest size) f = absurd f
+ends_of s entry f = refl

@@ -1,0 +1,68 @@
+-- What the laws say of a pool that keeps its log.
+use Rattle.std.proofs.Common.{◌≡◌, ℕ, List, Some, refl, subst, sym, ap, ◌∙◌, sum_by, count_by}
+use Rattle.swarm_model.specs.declared.task_row.TaskRow.{TaskRow}
+use Rattle.swarm_model.specs.declared.pool_state.PoolState.{PoolState}
+use Rattle.swarm_model.specs.declared.entry.Entry.{Entry}
+use Rattle.swarm_model.specs.declared.request.Request.{Request}
+use Rattle.swarm_model.specs.Finding.{task_of}
+use Rattle.swarm_model.specs.Answers.{answer, named_task}
+use Rattle.swarm_model.specs.Claims.{IsRightClaim}
+use Rattle.swarm_model.specs.Effects.{opening, after}
+use Rattle.swarm_model.specs.History.{replay, MayFollow, tally}
+use Rattle.swarm_model.specs.Kept.{Kept, IsHistory, IsRight, KeepsFinals, ShowsVerdict}
+use Rattle.swarm_model.specs.Soundness.{IsSound}
+use Rattle.swarm_model.specs.Verdicts.{is_new, verdict, verdict_tally}
+use Rattle.swarm_laws.proofs.Finds.{IsNamed, named_is}
+use Rattle.swarm_laws.proofs.Rows.{find_task}
+use Rattle.swarm_laws.proofs.Sound.{sound_always}
+use Rattle.swarm_laws.proofs.ClaimLaw.{claims_right}
+use Rattle.swarm_laws.proofs.VerdictLaw.{verdict_is_state}
+use Rattle.swarm_laws.proofs.Finals.{final_through}
+use Rattle.swarm_laws.proofs.TallyLaw.{tally_counts_verdicts, tally_adds_up}
+use Rattle.swarm_laws.proofs.Shown.{tell_shows}
+
+module _ (kept : Kept) (h : IsHistory kept) where
+  -- the rows are those of the log
+  abbrev rows : PoolState
+  rows = replay (opening kept.pool.settings) kept.log
+
+  -- the rows are sound
+  pub is_sound : IsSound kept.pool
+  is_sound = subst IsSound (sym h.replayed) (sound_always kept.pool.settings kept.log h.legal.caused)
+
+  -- the log tells the state of each task
+  pub tells_state : (t : ℕ) (task : TaskRow) → task_of kept.pool t ≡ Some task → verdict kept.log t ≡ task.state
+  tells_state t task e = verdict_is_state kept.pool.settings kept.log t task h.legal.caused (ap (λ (s : PoolState). task_of s t) (sym h.replayed) ∙ e)
+
+  -- so a result shows it
+  pub shows_verdict : (who : List ℕ) (moment pass : ℕ) (request : Request) → ShowsVerdict kept (answer kept.pool who moment pass request).reply
+  shows_verdict who moment pass request = tell_shows kept told who moment request
+    where
+      told : (number try_no : ℕ) (task : TaskRow) → named_task kept.pool number try_no ≡ Some task → verdict kept.log task.no ≡ task.state
+      told number try_no task e =
+          (let f : IsNamed kept.pool number try_no task = named_is kept.pool number try_no task e in
+          tells_state task.no task (find_task kept.pool is_sound task task.no f.among refl))
+
+  -- the tally counts what the log tells
+  pub tally_told : tally kept.pool ≡ verdict_tally kept.log
+  tally_told = ap tally h.replayed ∙ tally_counts_verdicts kept.pool.settings kept.log h.legal.caused
+
+  -- and adds up
+  pub tally_total : sum_by (λ (count : ℕ). count) (tally kept.pool) ≡ count_by is_new kept.log
+  tally_total = ap (λ (s : PoolState). sum_by (λ (count : ℕ). count) (tally s)) h.replayed ∙ tally_adds_up kept.pool.settings kept.log h.legal.caused
+
+  module _ (e : Entry) (follows : MayFollow kept.pool e) where
+    -- the entry may follow the log
+    may_follow : MayFollow rows e
+    may_follow = subst (λ (s : PoolState). MayFollow s e) h.replayed follows
+
+    -- a claim that is added is right
+    pub is_right : IsRight kept e
+    is_right b t claim is =
+        subst (λ (s : PoolState). IsRightClaim s kept.log e.moment b t) (sym h.replayed) (claims_right kept.pool.settings kept.log e b t claim h.legal.caused may_follow is)
+
+    -- and what has ended stays
+    pub keeps_finals : (new : Kept) → new.pool ≡ after kept.pool e → KeepsFinals kept new
+    keeps_finals new is t task there final =
+        ap (λ (s : PoolState). task_of s t) (is ∙ ap (λ (s : PoolState). after s e) h.replayed)
+        ∙ final_through kept.pool.settings kept.log e t task h.legal.caused may_follow (ap (λ (s : PoolState). task_of s t) (sym h.replayed) ∙ there) final

@@ -1,0 +1,106 @@
+-- A result shows the state that the log tells of its task.
+use Rattle.std.proofs.Common.{◌≡◌, ℕ, ◌==◌, ◌&&◌, not, List, length, Bool, true, false, Option, Some, None, is_some, is_none}
+use Rattle.std.specs.Prelude.{nat_le}
+use Rattle.std.specs.Option.{option_map_or}
+use Rattle.std.proofs.lemmas.Bool.{cond_both}
+use Rattle.dimensions.specs.declared.bot_dims.BotDims.{BotDims}
+use Rattle.dimensions.specs.Alike.{same}
+use Rattle.dimensions.specs.Rules.{is_empty}
+use Rattle.task_props.specs.declared.new_task.NewTask.{NewTask}
+use Rattle.task_props.specs.declared.slice.Slice.{Slice}
+use Rattle.swarm_model.specs.declared.attempt.Attempt.{Attempt}
+use Rattle.swarm_model.specs.declared.attempt.Chunk.{Chunk}
+use Rattle.swarm_model.specs.declared.attempt.Last.{Last}
+use Rattle.swarm_model.specs.declared.pool_settings.Permission.TheVariants as permission
+use Rattle.swarm_model.specs.declared.task_row.TaskRow.{TaskRow}
+use Rattle.swarm_model.specs.declared.bot_row.BotRow.{BotRow}
+use Rattle.swarm_model.specs.declared.pool_state.PoolState.{PoolState}
+use Rattle.swarm_model.specs.declared.entry.EntryKind.TheVariants as kind
+use Rattle.swarm_model.specs.declared.entry.EventKind.{EventKind}
+use Rattle.swarm_model.specs.declared.request.Request.{Request}
+use Rattle.swarm_model.specs.declared.request.Request.TheVariants as ask
+use Rattle.swarm_model.specs.declared.rule.Rule.TheVariants as rule
+use Rattle.swarm_model.specs.declared.rule.Unfit.TheVariants as unfit
+use Rattle.swarm_model.specs.declared.reply.Reply.TheVariants as reply
+use Rattle.swarm_model.specs.declared.answer.Told.{Told}
+use Rattle.swarm_model.specs.Finding.{is_final, bot_named}
+use Rattle.swarm_model.specs.Slices.{admit, current_slice, first}
+use Rattle.swarm_model.specs.Answers.{tell, answers, accepted, accepted_at, tasks_full, named_task, result_of, may, denied, cancel, cancel_row, stop, greet, handshake, poll, busy, run_on, run_from, claim, claim_again, claimed, claims, unfit_of, unfit_told, event, is_kept, updates, report, report_again, report_on, not_claimant, update, update_row, terminate}
+use Rattle.swarm_model.specs.Kept.{Kept, ShowsVerdict}
+use Rattle.swarm_model.specs.Verdicts.{verdict}
+use Rattle.swarm_laws.proofs.Answering.{by_when, by_map, by_with}
+use Rattle.swarm_laws.proofs.Findings.{waits, runs}
+
+-- where the log tells the state of each task
+module _ (kept : Kept) (tells : (number try_no : ℕ) (task : TaskRow) → named_task kept.pool number try_no ≡ Some task → verdict kept.log task.no ≡ task.state) where
+  abbrev s : PoolState
+  s = kept.pool
+
+  abbrev Shows : Told → Type 0
+  Shows told = ShowsVerdict kept told.reply
+
+  -- each other reply shows none
+
+  accepted_shows : (who : List ℕ) (request : NewTask) (o : Option ℕ) → Shows (accepted_at s who request o)
+  accepted_shows who request (Some place) = tt
+  accepted_shows who request None = tt
+
+  stop_shows : (kill : Bool) (task : TaskRow) → Shows (stop kill task)
+  stop_shows true task = tt
+  stop_shows false task = tt
+
+  cancel_shows : (who : List ℕ) (kill : Bool) (task : TaskRow) → Shows (cancel s who kill task)
+  cancel_shows who kill task =
+      by_when Shows (not (may s who permission.CancelTask task)) (denied s permission.CancelTask) (cancel_row kill task) (λ t. tt) (λ t.
+      by_when Shows (waits task) _ _ (λ w. tt) (λ w.
+      by_when Shows (runs task) (stop kill task) _ (λ r. stop_shows kill task) (λ r. tt)))
+
+  handshake_shows : (name session : List ℕ) (dims : BotDims) (q : List ℕ) → Shows (handshake s name session dims q)
+  handshake_shows name session dims q =
+      by_map Shows (greet name session dims q) (bot_named s name) _ (λ bot e. cond_both (same bot.session session) _ _ Shows (λ t. tt) (λ t. tt)) (λ e.
+      by_when Shows (nat_le s.settings.most_bots (length s.bots)) _ _ (λ t. tt) (λ t. tt))
+
+  poll_shows : (dims : BotDims) (q : List ℕ) (bot : BotRow) → Shows (poll s dims q bot)
+  poll_shows dims q bot =
+      by_when Shows bot.dead _ _ (λ t. tt) (λ t.
+      by_map Shows busy (run_on s bot) _ (λ x e. tt) (λ e.
+      by_when Shows bot.terminating _ _ (λ t. tt) (λ t.
+      by_when Shows (not (is_empty q)) _ _ (λ t. tt) (λ t.
+      by_when Shows (is_some (first s dims)) _ _ (λ t. tt) (λ t. tt)))))
+
+  run_shows : (task : TaskRow) (o : Option Slice) → ShowsVerdict kept (option_map_or (run_from task) o reply.Skip)
+  run_shows task None = tt
+  run_shows task (Some slice) = tt
+
+  claim_shows : (id : List ℕ) (bot : BotRow) → Shows (claim s id bot)
+  claim_shows id bot =
+      by_map Shows (claim_again bot) (claimed s bot.no id) _ (λ task e. cond_both (is_final task.state) _ _ Shows (λ t. tt) (λ t. run_shows task (current_slice task))) (λ e.
+      by_map Shows unfit_told (unfit_of bot) _ (λ why e. tt) (λ e.
+      by_map Shows busy (run_on s bot) _ (λ task e. tt) (λ e.
+      by_map Shows (claims bot id) (first s bot.dims) _ (λ task e. run_shows task (current_slice task)) (λ e. tt))))
+
+  event_shows : (which : EventKind) (text : List ℕ) (bot : BotRow) → Shows (event which text bot)
+  event_shows which text bot = by_when Shows (bot.dead && is_none bot.task) (unfit_told unfit.Dead) (answers reply.Noted (kind.Event bot.no which text)) (λ t. tt) (λ t. tt)
+
+  report_shows : (bot : BotRow) (task : TaskRow) (chunk : Option Chunk) (last : Option Last) (attempt : Attempt) → Shows (report_on s bot task chunk last attempt)
+  report_shows bot task chunk last attempt =
+      by_when Shows (not (attempt.bot == bot.no)) (not_claimant s attempt) (report bot task chunk last attempt) (λ t. tt) (λ t.
+      by_when Shows (is_final task.state) (report_again bot task chunk last attempt) _ (λ f. cond_both (is_kept attempt chunk last) _ _ Shows (λ k. tt) (λ k. tt)) (λ f.
+      by_when Shows (is_some last) (updates attempt (kind.Update bot.no task.no attempt.try_no chunk last)) (updates attempt (kind.Contact bot.no)) (λ l. tt) (λ l. tt)))
+
+  -- so each answer shows what the log tells
+  pub tell_shows : (who : List ℕ) (m : ℕ) (request : Request) → Shows (tell s who m request)
+  tell_shows who m (ask.New request) =
+      by_when Shows (nat_le s.settings.most_tasks (length s.tasks)) (tasks_full s) (accepted s who request) (λ t. tt) (λ t. accepted_shows who request (admit s request.task_slices 0))
+  tell_shows who m (ask.Cancel number try_no kill) = by_with Shows (named_task s number try_no) rule.NoTask (cancel s who kill) tt (λ task e. cancel_shows who kill task)
+  tell_shows who m (ask.Result number try_no) = by_with Shows (named_task s number try_no) rule.NoTask (result_of s) tt (λ task e. tells number try_no task e)
+  tell_shows who m (ask.Count state) = tt
+  tell_shows who m (ask.Handshake name session dims q) = handshake_shows name session dims q
+  tell_shows who m (ask.Poll name dims q) = by_with Shows (bot_named s name) rule.NoBot (poll s dims q) tt (λ bot e. poll_shows dims q bot)
+  tell_shows who m (ask.Claim name id) = by_with Shows (bot_named s name) rule.NoBot (claim s id) tt (λ bot e. claim_shows id bot)
+  tell_shows who m (ask.Event name which text) = by_with Shows (bot_named s name) rule.NoBot (event which text) tt (λ bot e. event_shows which text bot)
+  tell_shows who m (ask.Update name number try_no chunk last) =
+      by_with Shows (bot_named s name) rule.NoBot (update s number try_no chunk last) tt (λ bot e.
+      by_with Shows (named_task s number try_no) rule.NoTask (update_row s bot chunk last) tt (λ task f.
+      by_with Shows task.attempt rule.NoTask (report_on s bot task chunk last) tt (λ attempt g. report_shows bot task chunk last attempt)))
+  tell_shows who m (ask.Terminate name) = by_with Shows (bot_named s name) rule.NoBot terminate tt (λ bot e. cond_both bot.terminating _ _ Shows (λ t. tt) (λ t. tt))

@@ -1,0 +1,107 @@
+ghost use Rattle.std.specs.Prelude.{◌≡◌, IfOk};
+ghost use Rattle.swarm_model.specs.declared.rule.Rule.TheVariants as rule;
+ghost use Rattle.swarm_model.specs.Answers.{may, denied, cancels, is_killed, stop, cancel_row, with, named_task, cancel};
+
+use crate::LookUps;
+use crate::reading::named_task;
+use crate::replies::refuses;
+use crate::rows::has_state;
+use dimensions::{Text, TryCopy};
+use std::alloc::{AllocError, Global};
+use std::sync::ledger::Ledger;
+use swarm_model::{Attempt, EntryKind, Permission, Reply, Rule, Steps, TaskRow, TaskState, Told};
+use swarm_policy::allowed;
+
+/// Whether the caller sent the task, or may do this with every task of the pool.
+fn may<P: LookUps>(pool: &P, who: &Text, permission: Permission, task: &TaskRow) -> bool
+    ensures { result ≡ may (P.state pool.now) who.now permission task.now }
+{
+    task.creator == *who || allowed(pool.settings(), who, permission)
+}
+
+fn denied<P: LookUps>(alloc: Global, pool: &P, permission: Permission) -> Result<Told, AllocError>
+    ensures { IfOk result (λ told. told ≡ denied (P.state pool.now) permission) }
+{
+    let pool = pool.settings().name.try_copy(alloc)?;
+    Ok(refuses(Rule::Denied { permission, pool }))
+}
+
+fn cancels(canceled: bool, was_running: bool, adds: Option<EntryKind>) -> Told
+    ensures { result ≡ cancels canceled was_running adds }
+{
+    Told {
+        reply: Reply::Canceled {
+            canceled,
+            was_running,
+        },
+        adds,
+    }
+}
+
+fn is_killed(attempt: &Option<Attempt>) -> bool
+    ensures { result ≡ is_killed attempt.now }
+{
+    match attempt {
+        None => false,
+        Some(attempt) => attempt.kill,
+    }
+}
+
+/// A run goes on, unless it is to stop, too; it is asked to stop once.
+fn stop(kill: bool, task: &TaskRow) -> Told
+    ensures { result ≡ stop kill task.now }
+{
+    if !kill {
+        cancels(false, true, None)
+    } else if is_killed(&task.attempt) {
+        cancels(true, true, None)
+    } else {
+        cancels(true, true, Some(EntryKind::Kill { t: task.no }))
+    }
+}
+
+/// A task that waits ends; one that has ended stays as it is.
+fn cancel_row(kill: bool, task: &TaskRow) -> Told
+    ensures { result ≡ cancel_row kill task.now }
+{
+    if has_state(TaskState::Pending, task) {
+        cancels(true, false, Some(EntryKind::Cancel { t: task.no }))
+    } else if has_state(TaskState::Running, task) {
+        stop(kill, task)
+    } else {
+        cancels(false, false, None)
+    }
+}
+
+fn cancel_by<P: LookUps>(
+    alloc: Global,
+    pool: &P,
+    who: &Text,
+    kill: bool,
+    task: &TaskRow,
+) -> Result<Told, AllocError>
+    ensures { IfOk result (λ told. told ≡ cancel (P.state pool.now) who.now kill task.now) }
+{
+    if !may(pool, who, Permission::CancelTask, task) {
+        return denied(alloc, pool, Permission::CancelTask);
+    }
+    Ok(cancel_row(kill, task))
+}
+
+/// What a caller is told who wants a task no more.
+pub(crate) fn cancel<P: LookUps, L: Ledger>(
+    alloc: Global,
+    pool: &P,
+    who: &Text,
+    number: u32,
+    try_no: u32,
+    kill: bool,
+    steps: &mut Steps<L>,
+) -> Result<Told, AllocError>
+    ensures { IfOk result (λ told. told ≡ with (named_task (P.state pool.now) number try_no) rule.NoTask (cancel (P.state pool.now) who.now kill)) }
+{
+    match named_task(pool, number, try_no, steps) {
+        None => Ok(refuses(Rule::NoTask)),
+        Some(task) => cancel_by(alloc, pool, who, kill, task),
+    }
+}

@@ -1,0 +1,159 @@
+ghost use Rattle.std.specs.Prelude.{◌≡◌, IfOk};
+ghost use Rattle.swarm_model.specs.declared.rule.Rule.TheVariants as rule;
+ghost use Rattle.swarm_model.specs.Finding.{bot_named};
+ghost use Rattle.swarm_model.specs.Answers.{is_kept, updates, report_again, report, not_claimant, report_on, update_row, update, with};
+
+use crate::LookUps;
+use crate::reading::named_task;
+use crate::replies::{answers, refuses};
+use crate::rows::is_final;
+use dimensions::{Text, TryCopy};
+use std::alloc::{AllocError, Global};
+use std::sync::ledger::Ledger;
+use swarm_model::{Attempt, BotRow, Chunk, EntryKind, Last, Reply, Rule, Steps, TaskRow, Told};
+
+/// Whether the report is the one that ended the run.
+fn is_kept(attempt: &Attempt, chunk: Option<Chunk>, last: &Option<Last>) -> bool
+    ensures { result ≡ is_kept attempt.now chunk last.now }
+{
+    attempt.last.is_some() && attempt.last == *last && attempt.last_chunk == chunk
+}
+
+/// The bot's report is taken, and it is told whether its run is to stop.
+fn updates(attempt: &Attempt, entry: EntryKind) -> Told
+    ensures { result ≡ updates attempt.now entry }
+{
+    answers(
+        Reply::Updated {
+            must_stop: attempt.kill,
+        },
+        entry,
+    )
+}
+
+/// A run that has ended takes only the report that ended it, once more.
+fn report_again(
+    bot: &BotRow,
+    task: &TaskRow,
+    chunk: Option<Chunk>,
+    last: &Option<Last>,
+    attempt: &Attempt,
+) -> Told
+    ensures { result ≡ report_again bot.now task.now chunk last.now attempt.now }
+{
+    if is_kept(attempt, chunk, last) {
+        updates(attempt, EntryKind::Contact { b: bot.no })
+    } else {
+        refuses(Rule::AttemptOver { state: task.state })
+    }
+}
+
+fn report(
+    alloc: Global,
+    bot: &BotRow,
+    task: &TaskRow,
+    chunk: Option<Chunk>,
+    last: &Option<Last>,
+    attempt: &Attempt,
+) -> Result<Told, AllocError>
+    ensures { IfOk result (λ told. told ≡ report bot.now task.now chunk last.now attempt.now) }
+{
+    if is_final(task.state) {
+        return Ok(report_again(bot, task, chunk, last, attempt));
+    }
+    if last.is_none() {
+        return Ok(updates(attempt, EntryKind::Contact { b: bot.no }));
+    }
+    let last = last.try_copy(alloc)?;
+    Ok(updates(
+        attempt,
+        EntryKind::Update {
+            b: bot.no,
+            t: task.no,
+            try_no: attempt.try_no,
+            chunk,
+            last,
+        },
+    ))
+}
+
+/// The run is another bot's.
+fn not_claimant<P: LookUps>(alloc: Global, pool: &P, attempt: &Attempt) -> Result<Told, AllocError>
+    ensures { IfOk result (λ told. told ≡ not_claimant (P.state pool.now) attempt.now) }
+{
+    let bot = match pool.bot_of(attempt.bot) {
+        None => Text::new(alloc),
+        Some(bot) => bot.name.try_copy(alloc)?,
+    };
+    Ok(refuses(Rule::NotClaimant { bot }))
+}
+
+fn report_on<P: LookUps>(
+    alloc: Global,
+    pool: &P,
+    bot: &BotRow,
+    task: &TaskRow,
+    chunk: Option<Chunk>,
+    last: &Option<Last>,
+    attempt: &Attempt,
+) -> Result<Told, AllocError>
+    ensures { IfOk result (λ told. told ≡ report_on (P.state pool.now) bot.now task.now chunk last.now attempt.now) }
+{
+    if attempt.bot != bot.no {
+        return not_claimant(alloc, pool, attempt);
+    }
+    report(alloc, bot, task, chunk, last, attempt)
+}
+
+fn update_row<P: LookUps>(
+    alloc: Global,
+    pool: &P,
+    bot: &BotRow,
+    chunk: Option<Chunk>,
+    last: &Option<Last>,
+    task: &TaskRow,
+) -> Result<Told, AllocError>
+    ensures { IfOk result (λ told. told ≡ update_row (P.state pool.now) bot.now chunk last.now task.now) }
+{
+    match &task.attempt {
+        None => Ok(refuses(Rule::NoTask)),
+        Some(attempt) => report_on(alloc, pool, bot, task, chunk, last, attempt),
+    }
+}
+
+fn update_by<P: LookUps, L: Ledger>(
+    alloc: Global,
+    pool: &P,
+    number: u32,
+    try_no: u32,
+    chunk: Option<Chunk>,
+    last: &Option<Last>,
+    bot: &BotRow,
+    steps: &mut Steps<L>,
+) -> Result<Told, AllocError>
+    ensures { IfOk result (λ told. told ≡ update (P.state pool.now) number try_no chunk last.now bot.now) }
+{
+    match named_task(pool, number, try_no, steps) {
+        None => Ok(refuses(Rule::NoTask)),
+        Some(task) => update_row(alloc, pool, bot, chunk, last, task),
+    }
+}
+
+/// What a bot is told that reports on a run.
+pub(crate) fn update<P: LookUps, L: Ledger>(
+    alloc: Global,
+    pool: &P,
+    name: &Text,
+    number: u32,
+    try_no: u32,
+    chunk: Option<Chunk>,
+    last: &Option<Last>,
+    steps: &mut Steps<L>,
+) -> Result<Told, AllocError>
+    ensures { IfOk result (λ told. told ≡ with (bot_named (P.state pool.now) name.now) rule.NoBot (update (P.state pool.now) number try_no chunk last.now)) }
+{
+    match pool.bot_named(name) {
+        None => Ok(refuses(Rule::NoBot)),
+        Some(bot) => update_by(alloc, pool, number, try_no, chunk, last, bot, steps),
+    }
+}
