@@ -59,6 +59,10 @@ pub task_not_built : refusal None (rule.NotBuilt unbuilt.Task) ≡ codes "HTTP/1
 unfolding refusal shown reply_text head_with body_of digits escape_byte
 task_not_built = refl
 
+pub update_not_built : refusal None (rule.NotBuilt unbuilt.Update) ≡ codes "HTTP/1.1 501 Not Implemented\r\nContent-Length: 36\r\nContent-Type: application/json\r\n\r\n{\"code\":\"not_built\",\"what\":\"update\"}"
+unfolding refusal shown reply_text head_with body_of digits escape_byte
+update_not_built = refl
+
 pub log_full : refusal None rule.LogFull ≡ codes "HTTP/1.1 503 Service Unavailable\r\nContent-Length: 19\r\nContent-Type: application/json\r\n\r\n{\"code\":\"log_full\"}"
 unfolding refusal shown reply_text head_with body_of digits escape_byte
 log_full = refl

@@ -10,7 +10,6 @@ use Rattle.task_props.specs.declared.prop_rule.PropRule.TheVariants.{Grammar}
 use Rattle.swarm_model.specs.declared.pool_settings.Settings.{Settings}
 use Rattle.swarm_model.specs.declared.rule.Rule.{Rule}
 use Rattle.swarm_model.specs.declared.rule.Rule.TheVariants as rule
-use Rattle.swarm_model.specs.declared.rule.Unbuilt.TheVariants as unbuilt
 use Rattle.swarm_wire.specs.declared.route.Route.{Route}
 use Rattle.swarm_wire.specs.declared.asked.Asked.{Asked}
 use Rattle.swarm_wire.specs.declared.asked.WireFault.{WireFault}
@@ -60,7 +59,7 @@ with_front after (Err fault.BadJson) = Err rule.BadJson
 with_front after (Err (fault.BadField field broken)) = Err (rule.BadField field broken)
 with_front after (Err fault.NoPool) = unless_broken after (Err rule.NoPool)
 with_front after (Err fault.NoTask) = unless_broken after (Err rule.NoTask)
-with_front after (Err fault.NotBuilt) = unless_broken after (Err (rule.NotBuilt unbuilt.Task))
+with_front after (Err (fault.NotBuilt what)) = unless_broken after (Err (rule.NotBuilt what))
 
 -- the front that the caller has seen
 abbrev pub front_of : After → Option ℕ

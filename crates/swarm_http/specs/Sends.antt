@@ -6,7 +6,7 @@ use Rattle.swarm_model.specs.declared.rule.Rule.{Rule}
 use Rattle.swarm_model.specs.declared.rule.Rule.TheVariants as rule
 use Rattle.swarm_model.specs.declared.rule.Unbuilt.TheVariants as unbuilt
 use Rattle.swarm_http.specs.declared.reply.Refusal.{Refusal}
-use Rattle.swarm_http.specs.declared.reply.Refusal.TheVariants.{BadHead, LengthRequired, BodyTooLarge, BlobTooLarge, NoRoute, BadMethod, BadJson, FrontBroken, NoCaller, NoPool, NoTask, TaskNotBuilt, LogFull, WantOfMemory}
+use Rattle.swarm_http.specs.declared.reply.Refusal.TheVariants.{BadHead, LengthRequired, BodyTooLarge, BlobTooLarge, NoRoute, BadMethod, BadJson, FrontBroken, NoCaller, NoPool, NoTask, TaskNotBuilt, UpdateNotBuilt, LogFull, WantOfMemory}
 use Rattle.swarm_http.specs.declared.reply.Shown.{Shown}
 use Rattle.swarm_http.specs.declared.reply.Shown.TheVariants as shown
 use Rattle.swarm_http.specs.Meanings.{broken_front}
@@ -38,6 +38,7 @@ rule_of NoCaller = rule.NoCaller
 rule_of NoPool = rule.NoPool
 rule_of NoTask = rule.NoTask
 rule_of TaskNotBuilt = rule.NotBuilt unbuilt.Task
+rule_of UpdateNotBuilt = rule.NotBuilt unbuilt.Update
 rule_of LogFull = rule.LogFull
 rule_of WantOfMemory = rule.WantOfMemory
 

@@ -2,6 +2,7 @@
 ghost use Rattle.std.specs.Prelude.{◌≡◌, ◌≢◌, ◌<◌, ◌^◌, ℕ, List, Result, Ok, Err, IsTrue, IsSomeAnd, IfOk, IfErr, length, slice_get};
 ghost use Rattle.httparse.specs.Grammar.{RequestHead};
 ghost use Rattle.request_head.specs.Says.{after_of};
+ghost use Rattle.swarm_model.specs.declared.rule.Rule.TheVariants as Rule;
 ghost use Rattle.swarm_model.specs.Fits.{fits};
 ghost use Rattle.swarm_model.specs.Settings.{AreOpen};
 ghost use Rattle.swarm_wire.specs.declared.asked.Asked.{Asked};
@@ -21,7 +22,7 @@ use request_head::{After, Method};
 use std::alloc::Global;
 use sw_base::Clock;
 use swarm_history::{CallFault, Door};
-use swarm_model::Settings;
+use swarm_model::{Settings, Unbuilt};
 use swarm_wire::{Asked, Route, WireFault, read_request};
 
 fn stop_refusal(why: CallFault) -> Refusal
@@ -100,6 +101,15 @@ fn unless_broken(after: After, why: Refusal) -> Refusal
     }
 }
 
+fn not_built(what: Unbuilt) -> Refusal
+    ensures { rule_of result ≡ Rule.NotBuilt what }
+{
+    match what {
+        Unbuilt::Task => Refusal::TaskNotBuilt,
+        Unbuilt::Update => Refusal::UpdateNotBuilt,
+    }
+}
+
 fn shown_fault(alloc: Global, after: After, fault: WireFault) -> Shown
     ensures { (asked : Result Asked WireFault) → (fault ≢ WireFault.Memory → asked ≡ Err fault) → IsEarly result (with_front after asked) }
 {
@@ -112,7 +122,7 @@ fn shown_fault(alloc: Global, after: After, fault: WireFault) -> Shown
         },
         WireFault::NoPool => Shown::Refused(unless_broken(after, Refusal::NoPool)),
         WireFault::NoTask => Shown::Refused(unless_broken(after, Refusal::NoTask)),
-        WireFault::NotBuilt => Shown::Refused(unless_broken(after, Refusal::TaskNotBuilt)),
+        WireFault::NotBuilt { what } => Shown::Refused(unless_broken(after, not_built(what))),
     }
 }
 

@@ -29,6 +29,7 @@ pub enum Refusal {
     NoPool,
     NoTask,
     TaskNotBuilt,
+    UpdateNotBuilt,
     LogFull,
     WantOfMemory,
 }
@@ -50,6 +51,11 @@ fn refusal_status(why: &Rule) -> u16
     match why {
         Rule::BadHead | Rule::BadJson | Rule::BadField { field: _, rule: _ } => 400,
         Rule::NoCaller => 401,
+        Rule::Denied {
+            permission: _,
+            pool: _,
+        }
+        | Rule::NotClaimant { bot: _ } => 403,
         Rule::NoRoute | Rule::NoPool | Rule::NoTask | Rule::NoBot => 404,
         Rule::BadMethod => 405,
         Rule::FrontAhead { length: _ }
@@ -59,7 +65,8 @@ fn refusal_status(why: &Rule) -> u16
             task: _,
             try_no: _,
             state: _,
-        } => 409,
+        }
+        | Rule::AttemptOver { state: _ } => 409,
         Rule::LengthRequired => 411,
         Rule::TooLarge { limit: _ } => 413,
         Rule::NotBuilt { what: _ } => 501,
@@ -76,6 +83,10 @@ fn status_of(reply: &Reply) -> u16
 {
     match reply {
         Reply::New { task: _, state: _ }
+        | Reply::Canceled {
+            canceled: _,
+            was_running: _,
+        }
         | Reply::Result(_)
         | Reply::Count { count: _ }
         | Reply::Shaken { bot: _ }
@@ -91,6 +102,7 @@ fn status_of(reply: &Reply) -> u16
         }
         | Reply::Skip
         | Reply::Noted
+        | Reply::Updated { must_stop: _ }
         | Reply::Terminating => 200,
         Reply::No(why) => refusal_status(why),
     }

@@ -59,6 +59,8 @@ fn refusal_bytes(why: Refusal) -> &'static [u8]
             b"HTTP/1.1 404 Not Found\r\nContent-Length: 18\r\nContent-Type: application/json\r\n\r\n{\"code\":\"no_task\"}",
         Refusal::TaskNotBuilt =>
             b"HTTP/1.1 501 Not Implemented\r\nContent-Length: 34\r\nContent-Type: application/json\r\n\r\n{\"code\":\"not_built\",\"what\":\"task\"}",
+        Refusal::UpdateNotBuilt =>
+            b"HTTP/1.1 501 Not Implemented\r\nContent-Length: 36\r\nContent-Type: application/json\r\n\r\n{\"code\":\"not_built\",\"what\":\"update\"}",
         Refusal::LogFull =>
             b"HTTP/1.1 503 Service Unavailable\r\nContent-Length: 19\r\nContent-Type: application/json\r\n\r\n{\"code\":\"log_full\"}",
         Refusal::WantOfMemory =>

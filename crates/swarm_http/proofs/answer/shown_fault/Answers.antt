@@ -1,6 +1,6 @@
-use Rattle.std.proofs.Common.{refl, ap, ◌∙◌, Err}
+use Rattle.std.proofs.Common.{refl, ap, sym, ◌∙◌, Err}
 use Rattle.swarm_model.specs.declared.rule.Rule.TheVariants as rule
-use Rattle.swarm_http.specs.Meanings.{with_front}
+use Rattle.swarm_http.specs.Meanings.{unless_broken, with_front}
 use Rattle.swarm_http.specs.Sends.{rule_of}
 use Rattle.swarm_http.specs.Steps.{told}
 use Rattle.swarm_http.proofs.answer.shown_fault.Goals as goal
@@ -27,4 +27,5 @@ returns-in-NoTask c = λ asked is.
 pub returns-in-NotBuilt : goal.returns-in-NotBuilt
 returns-in-NotBuilt c = λ asked is.
     told (rule_of c.unless_broken-in-NotBuilt.result)
-    (ap (with_front c.args.after) (is (λ e. cc)) ∙ ap (λ f. with_front c.args.after (Err f)) c.in-NotBuilt.is ∙ c.unless_broken-in-NotBuilt.ensures) refl
+    (ap (with_front c.args.after) (is (λ e. cc)) ∙ ap (λ f. with_front c.args.after (Err f)) c.in-NotBuilt.is
+    ∙ ap (λ r. unless_broken c.args.after (Err r)) (sym c.not_built.ensures) ∙ c.unless_broken-in-NotBuilt.ensures) refl
