@@ -1,5 +1,5 @@
-//! Cancels and reports, and what they are answered. The replies were worked out by hand from the
-//! rules that `docs/protocol.md` states.
+//! Cancels, reports and the ends of runs, and what they are answered. The replies were worked out
+//! by hand from the rules that `docs/protocol.md` states.
 
 use crate::tests::moments::Moments;
 use std::alloc::{AllocError, Global};
@@ -9,14 +9,11 @@ use swarm_cli::run;
 use swarm_http::{Clock, MemoryLink};
 
 mod afternoon;
-mod cancel_bodies;
 mod cancels;
 mod day;
 mod ends;
 mod moments;
 mod repeats;
-mod report_bodies;
-mod report_files;
 mod reporters;
 
 const NEW_TASK: &str = "/prpc/swarming.v2.Tasks/NewTask";
@@ -40,8 +37,6 @@ const EVENT: &str = "/bot/event";
 const TERMINATE: &str = "/prpc/swarming.v2.Bots/TerminateBot";
 
 const DONE: &str = "200 OK";
-
-const BAD_REQUEST: &str = "400 Bad Request";
 
 const FORBIDDEN: &str = "403 Forbidden";
 
@@ -145,8 +140,6 @@ const COUNT_0: &str = r#"{"count":0}"#;
 const COUNT_1: &str = r#"{"count":1}"#;
 
 const COUNT_2: &str = r#"{"count":2}"#;
-
-const BAD_JSON: &str = r#"{"code":"bad_json"}"#;
 
 const NO_TASK: &str = r#"{"code":"no_task"}"#;
 
@@ -369,13 +362,4 @@ fn short_run(alloc: Global) -> Result<Course, AllocError> {
 /// A run from 1000 that tolerates 1200 seconds of silence. Its bot is dead from 1600 on.
 fn long_run(alloc: Global) -> Result<Course, AllocError> {
     begun_with(alloc, TASK, 1200)
-}
-
-/// A text so many times.
-fn repeated(alloc: Global, text: &str, times: usize) -> Result<String, AllocError> {
-    let mut long = String::new(alloc);
-    for _ in 0..times {
-        long.push_str(text)?;
-    }
-    Ok(long)
 }

@@ -10,7 +10,7 @@ use Rattle.swarm_model.specs.declared.entry.Entry.{Entry}
 use Rattle.swarm_model.specs.declared.entry.EntryKind.{EntryKind}
 use Rattle.swarm_model.specs.declared.entry.EntryKind.TheVariants as kind
 use Rattle.swarm_model.specs.Finding.{is_task}
-use Rattle.swarm_model.specs.Effects.{after, fresh_chunk, run_of_bot}
+use Rattle.swarm_model.specs.Effects.{after, run_of_bot}
 
 -- the row of a number
 abbrev pub row_of : List TaskRow → ℕ → Option TaskRow
@@ -74,13 +74,13 @@ abbrev pub chunk_in : EntryKind → Option Chunk
 chunk_in (kind.Update b t try_no chunk last) = chunk
 chunk_in entry = None
 
--- where the chunk goes on from the output of the run, the two together are shorter than 2^32 bytes
-abbrev pub IsShortWith : Chunk → Attempt → Type 0
-IsShortWith chunk attempt = chunk.start ≡ attempt.length → attempt.length + chunk.size < 2 ^ 32
+-- the output with the chunk is shorter than 2^32 bytes
+abbrev pub FitsBehind : Chunk → Attempt → Type 0
+FitsBehind chunk attempt = attempt.length + chunk.size < 2 ^ 32
 
--- the output stays short
+-- where the chunk goes on from the output of the run, it fits behind it
 abbrev pub StaysShort : Option Attempt → Option Chunk → Type 0
-StaysShort run chunk = IfSome chunk (λ c. IfSome run (IsShortWith c))
+StaysShort run chunk = IfSome chunk (λ c. IfSome run (λ attempt. c.start ≡ attempt.length → FitsBehind c attempt))
 
 abbrev pub HasFewSlices : TaskRow → Type 0
 HasFewSlices task = length task.request.task_slices ≤ 8

@@ -1,5 +1,5 @@
 -- What the rows keep, and what holds of it.
-use Rattle.std.specs.Prelude.{◌≡◌, ℕ, ◌+◌, ◌<◌, ◌^◌, List, length, Option, IfSome, ⊤, vec_capacity}
+use Rattle.std.specs.Prelude.{◌≡◌, ℕ, ◌+◌, ◌<◌, List, length, Option, IfSome, ⊤, vec_capacity}
 use Rattle.dimensions.specs.Room.{Takes}
 use Rattle.swarm_model.specs.declared.task_row.TaskRow.{TaskRow}
 use Rattle.swarm_model.specs.declared.attempt.Attempt.{Attempt}
@@ -22,10 +22,6 @@ TakesChunk spare run = IfSome run (λ attempt. Takes (length attempt.chunks) spa
 -- where the chunk goes on from the output of the run, it takes it
 abbrev pub TakesFresh : ℕ → Option Attempt → Option Chunk → Type 0
 TakesFresh spare run chunk = IfSome (fresh_chunk run chunk) (λ c. TakesChunk spare run)
-
--- the output with the chunk is shorter than 2^32 bytes
-abbrev pub IsShorter : Chunk → Attempt → Type 0
-IsShorter chunk attempt = attempt.length + chunk.size < 2 ^ 32
 
 -- there is room for what the entry adds
 abbrev pub HasRoom : List TaskRow → ℕ → ℕ → EntryKind → Type 0

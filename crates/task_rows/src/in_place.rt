@@ -4,8 +4,8 @@ ghost use Rattle.std.specs.List.{All};
 ghost use Rattle.std.specs.Option.{option_copied};
 ghost use Rattle.swarm_model.specs.Numbers.{AreNumbered};
 ghost use Rattle.swarm_model.specs.Effects.{no_of_task, task_at, moved, fresh_chunk, chunk_at, finished_at, if_some};
-ghost use Rattle.task_rows.specs.Acting.{row_of, run_of, StaysShort, HasFewSlices};
-ghost use Rattle.task_rows.specs.Inside.{IsShorter, KeepsNumber, StandsAt, TakesChunk, TakesFresh};
+ghost use Rattle.task_rows.specs.Acting.{row_of, run_of, FitsBehind, StaysShort, HasFewSlices};
+ghost use Rattle.task_rows.specs.Inside.{KeepsNumber, StandsAt, TakesChunk, TakesFresh};
 
 use crate::output;
 use dimensions::Spare;
@@ -73,7 +73,7 @@ pub(crate) fn shift(rows: &mut Vec<TaskRow>, no: u32, by: Shift)
 fn lengthen(rows: &mut Vec<TaskRow>, no: u32, chunk: Chunk, spare: &mut Spare<Chunk>)
     requires numbered { AreNumbered no_of_task 1 rows.old.items }
     requires room { TakesChunk spare.old (run_of rows.old.items no) }
-    requires short { IfSome (run_of rows.old.items no) (IsShorter chunk) }
+    requires short { IfSome (run_of rows.old.items no) (FitsBehind chunk) }
     ensures rows { rows.new.items ≡ map (chunk_at no chunk) rows.old.items }
     ensures numbered { AreNumbered no_of_task 1 rows.new.items }
 {

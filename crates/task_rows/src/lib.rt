@@ -16,3 +16,6 @@ mod output;
 mod rows;
 
 pub use rows::TaskRows;
+
+#[cfg(test)]
+mod tests;

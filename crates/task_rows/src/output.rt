@@ -2,7 +2,8 @@
 ghost use Rattle.std.specs.Prelude.{◌≡◌, length, IfSome, OnOk};
 ghost use Rattle.dimensions.specs.Room.{Takes};
 ghost use Rattle.swarm_model.specs.Effects.{fresh_chunk, longer, lengthened};
-ghost use Rattle.task_rows.specs.Inside.{IsShorter, TakesChunk};
+ghost use Rattle.task_rows.specs.Acting.{FitsBehind};
+ghost use Rattle.task_rows.specs.Inside.{TakesChunk};
 
 use dimensions::Spare;
 use std::alloc::AllocError;
@@ -30,7 +31,7 @@ pub(crate) fn fresh_chunk(attempt: &Option<Attempt>, chunk: Option<Chunk>) -> Op
 
 fn lengthen_run(attempt: &mut Attempt, chunk: Chunk, spare: &mut Spare<Chunk>)
     requires room { Takes (length attempt.old.chunks) spare.old }
-    requires short { IsShorter chunk attempt.old }
+    requires short { FitsBehind chunk attempt.old }
     ensures { attempt.new ≡ longer chunk attempt.old }
 {
     attempt.length += chunk.size;
@@ -40,7 +41,7 @@ fn lengthen_run(attempt: &mut Attempt, chunk: Chunk, spare: &mut Spare<Chunk>)
 /// The output of the run goes on by a chunk, in room that was made.
 pub(crate) fn lengthen(task: &mut TaskRow, chunk: Chunk, spare: &mut Spare<Chunk>)
     requires room { TakesChunk spare.old task.old.attempt }
-    requires short { IfSome task.old.attempt (IsShorter chunk) }
+    requires short { IfSome task.old.attempt (FitsBehind chunk) }
     ensures { task.new ≡ lengthened chunk task.old }
 {
     if let Some(attempt) = &mut task.attempt {
