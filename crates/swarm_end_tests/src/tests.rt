@@ -38,6 +38,8 @@ const TERMINATE: &str = "/prpc/swarming.v2.Bots/TerminateBot";
 
 const DONE: &str = "200 OK";
 
+const BAD_REQUEST: &str = "400 Bad Request";
+
 const FORBIDDEN: &str = "403 Forbidden";
 
 const NOT_FOUND: &str = "404 Not Found";
