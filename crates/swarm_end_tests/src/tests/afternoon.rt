@@ -66,6 +66,10 @@ fn slices_before_bots(course: &mut Course, alloc: Global) -> Result<(), AllocErr
         ),
         (1060, GET_RESULT, FIRST, DONE, 6, second.as_str()),
         (1119, CANCEL, FIRST, DONE, 7, CANCELED),
+    ] {
+        course.call(alloc, moment, path, body, status, front, told)?;
+    }
+    for (moment, path, body, status, front, told) in [
         (1120, CANCEL, FIRST, DONE, 7, LATE),
         (1120, GET_RESULT, FIRST, DONE, 7, canceled.as_str()),
         (2000, HANDSHAKE, B1_COMES_ANEW, DONE, 8, B1),
@@ -153,6 +157,10 @@ fn bots_that_die(course: &mut Course, alloc: Global) -> Result<(), AllocError> {
             STOPPED,
         ),
         (3030, CANCEL, r#"{"task_id":"51"}"#, DONE, 19, SPARED),
+    ] {
+        course.call(alloc, moment, path, body, status, front, told)?;
+    }
+    for (moment, path, body, status, front, told) in [
         (3059, UPDATE, progress_by_b2, DONE, 20, GOES_ON),
         (3118, UPDATE, end_by_b2, DONE, 21, GOES_ON),
         // Entry 22 is the death of b1. Its report brings it back.
@@ -170,6 +178,10 @@ fn bots_that_die(course: &mut Course, alloc: Global) -> Result<(), AllocError> {
         // Entry 24 is the death of b2. It has no run, so its report doesn't bring it back.
         (3718, UPDATE, end_by_b2, DONE, 25, GOES_ON),
         (3718, POLL, B2_POLLS, CONFLICT, 25, DEAD),
+    ] {
+        course.call(alloc, moment, path, body, status, front, told)?;
+    }
+    for (moment, path, body, status, front, told) in [
         (3719, HANDSHAKE, B2_COMES_ANEW, DONE, 26, B2),
         (
             3720,
@@ -194,6 +206,10 @@ fn bots_that_die(course: &mut Course, alloc: Global) -> Result<(), AllocError> {
         (4319, COUNT_TASKS, RUNNING, DONE, 31, COUNT_1),
         // Entry 32 is the death of b2, whose run goes on to 4920.
         (4320, COUNT_TASKS, RUNNING, DONE, 32, COUNT_1),
+    ] {
+        course.call(alloc, moment, path, body, status, front, told)?;
+    }
+    for (moment, path, body, status, front, told) in [
         (
             4799,
             GET_RESULT,

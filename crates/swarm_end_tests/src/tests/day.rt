@@ -153,6 +153,10 @@ fn morning(course: &mut Course, alloc: Global) -> Result<(), AllocError> {
             8,
             r#"{"state":"NO_RESOURCE","task_id":"40"}"#,
         ),
+    ] {
+        course.call(alloc, moment, path, body, status, front, told)?;
+    }
+    for (moment, path, body, status, front, told) in [
         // Task 2 comes first, but it wants a Mac. Of tasks 1 and 3 the first has the lower priority.
         (1160, POLL, B1_POLLS, DONE, 9, CLAIM_ONE),
         (1180, CLAIM, B1_CLAIMS, DONE, 10, build.as_str()),
@@ -165,6 +169,10 @@ fn morning(course: &mut Course, alloc: Global) -> Result<(), AllocError> {
         (1280, CANCEL, FIRST, DONE, 13, SPARED),
         // Entry 14 is the silence of run 21.
         (1300, UPDATE, end, DONE, 15, GOES_ON),
+    ] {
+        course.call(alloc, moment, path, body, status, front, told)?;
+    }
+    for (moment, path, body, status, front, told) in [
         // Entry 16 is the end of task 3.
         (1320, UPDATE, end_by_b2, CONFLICT, 16, OVER_BY_SILENCE),
         (1340, POLL, B2_POLLS, CONFLICT, 16, DEAD),
@@ -245,6 +253,10 @@ fn noon(course: &mut Course, alloc: Global) -> Result<(), AllocError> {
             24,
             r#"{"code":"bot_busy","run":"51"}"#,
         ),
+    ] {
+        course.call(alloc, moment, path, body, status, front, told)?;
+    }
+    for (moment, path, body, status, front, told) in [
         (1600, CLAIM, B1_SECOND, DONE, 25, sixth.as_str()),
         (1620, CANCEL, stop_fifth, DONE, 26, STOPPED),
         (1640, CANCEL, stop_fifth, DONE, 26, STOPPED),
@@ -260,6 +272,10 @@ fn noon(course: &mut Course, alloc: Global) -> Result<(), AllocError> {
             is_late.as_str(),
         ),
         (1740, COUNT_TASKS, ALL, DONE, 29, r#"{"count":7}"#),
+    ] {
+        course.call(alloc, moment, path, body, status, front, told)?;
+    }
+    for (moment, path, body, status, front, told) in [
         (
             1760,
             COUNT_TASKS,
@@ -353,6 +369,10 @@ fn evening(course: &mut Course, alloc: Global) -> Result<(), AllocError> {
             failed.as_str(),
         ),
         (2060, HANDSHAKE, B1_COMES_SECOND, DONE, 39, B1),
+    ] {
+        course.call(alloc, moment, path, body, status, front, told)?;
+    }
+    for (moment, path, body, status, front, told) in [
         (2080, POLL, B1_POLLS, DONE, 40, SLEEP_1),
         // Task 11 comes before task 10, whoever is first.
         (
@@ -406,6 +426,10 @@ fn evening(course: &mut Course, alloc: Global) -> Result<(), AllocError> {
             45,
             NO_TASK,
         ),
+    ] {
+        course.call(alloc, moment, path, body, status, front, told)?;
+    }
+    for (moment, path, body, status, front, told) in [
         (2260, GET_RESULT, tenth_task, DONE, 45, runs.as_str()),
         // Entry 46 is the silence of run a1. Task 5 was the first that was killed.
         (
