@@ -16,8 +16,6 @@ mod commands;
 mod ids;
 mod reply;
 mod states;
-#[cfg(test)]
-mod tests;
 mod views;
 
 pub use ids::id_tells_its_parts;
