@@ -9,8 +9,9 @@ use Rattle.dimensions.specs.Choosing.{when, ◌or_else◌}
 use Rattle.dimensions.specs.Rules.{is_empty}
 use Rattle.task_props.specs.declared.slice.Slice.{Slice}
 use Rattle.task_props.specs.declared.new_task.NewTask.{NewTask}
+use Rattle.task_props.specs.Alike.{same_task}
 use Rattle.swarm_model.specs.declared.task_state.TaskState.{TaskState}
-use Rattle.swarm_model.specs.declared.task_state.TaskState.TheVariants.{Pending, Running, NoResource}
+use Rattle.swarm_model.specs.declared.task_state.TaskState.TheVariants.{Pending, Running, Completed, NoResource}
 use Rattle.swarm_model.specs.declared.attempt.Attempt.{Attempt}
 use Rattle.swarm_model.specs.declared.attempt.Chunk.{Chunk}
 use Rattle.swarm_model.specs.declared.attempt.Last.{Last}
@@ -36,6 +37,8 @@ use Rattle.swarm_model.specs.declared.answer.Told.{Told}
 use Rattle.swarm_model.specs.Alike.{same_chunk, same_last}
 use Rattle.swarm_model.specs.Settings.{permits}
 use Rattle.swarm_model.specs.Finding.{has_state, task_of, bot_named, is_final, is_wanted}
+use Rattle.swarm_model.specs.declared.reuse.Reuse.{Reuse}
+use Rattle.swarm_model.specs.Reuse.{sent, reuse}
 use Rattle.swarm_model.specs.Slices.{admit, current_slice, first}
 use Rattle.swarm_model.specs.Views.{bot_name_of, view_of}
 use Rattle.swarm_model.specs.Words.{◌otherwise◌}
@@ -50,25 +53,38 @@ refuses why = says (reply.No why)
 abbrev pub tasks_full : PoolState → Told
 tasks_full s = refuses (rule.PoolTasksFull s.settings.most_tasks)
 
--- the next task, in this state and at this slice
-abbrev pub begins : PoolState → List ℕ → NewTask → TaskState → ℕ → Told
-begins s who request state slice =
+-- a task that is sent again under its uuid is told once more; another under that uuid is refused
+abbrev pub again : NewTask → TaskRow → Told
+again request task =
+    if same_task task.request request
+    then says (reply.New task.no task.state)
+    else refuses (rule.UuidReused task.no)
+
+-- the next task, in this state and at this slice, with the task whose outcome it takes
+abbrev pub begins : PoolState → List ℕ → NewTask → TaskState → ℕ → Option ℕ → Told
+begins s who request state slice source =
     record {
       reply = reply.New (length s.tasks + 1) state;
-      adds = Some (kind.New (length s.tasks + 1) who request state slice None);
+      adds = Some (kind.New (length s.tasks + 1) who request state slice source);
     }
 
 -- a task waits at its first open slice, and ends at once where none is open
 abbrev pub accepted_at : PoolState → List ℕ → NewTask → Option ℕ → Told
-accepted_at s who request (Some place) = begins s who request Pending place
-accepted_at s who request None = begins s who request NoResource (length request.task_slices - 1)
+accepted_at s who request (Some place) = begins s who request Pending place None
+accepted_at s who request None = begins s who request NoResource (length request.task_slices - 1) None
 
 abbrev pub accepted : PoolState → List ℕ → NewTask → Told
 accepted s who request = accepted_at s who request (admit s request.task_slices 0)
 
-abbrev pub new_task : PoolState → List ℕ → NewTask → Told
-new_task s who request =
-    when (nat_le s.settings.most_tasks (length s.tasks)) (tasks_full s)
+-- a task takes the outcome of an earlier run at the slice that is like it
+abbrev pub takes_over : PoolState → List ℕ → NewTask → Reuse → Told
+takes_over s who request found = begins s who request Completed found.slice (Some found.source)
+
+abbrev pub new_task : PoolState → List ℕ → ℕ → NewTask → Told
+new_task s who moment request =
+    option_map (again request) (sent s who request.request_uuid)
+    otherwise when (nat_le s.settings.most_tasks (length s.tasks)) (tasks_full s)
+    otherwise option_map (takes_over s who request) (reuse s moment request.task_slices)
     otherwise accepted s who request
 
 -- what follows where there is a value, and the refusal where there is none
@@ -273,7 +289,7 @@ terminate bot = if bot.terminating then says reply.Terminating else answers repl
 
 -- what a caller is told at a moment
 abbrev pub tell : PoolState → List ℕ → ℕ → Request → Told
-tell s who moment (ask.New request) = new_task s who request
+tell s who moment (ask.New request) = new_task s who moment request
 tell s who moment (ask.Cancel task try_no kill) = with (named_task s task try_no) rule.NoTask (cancel s who kill)
 tell s who moment (ask.Result task try_no) = with (named_task s task try_no) rule.NoTask (result_of s)
 tell s who moment (ask.Count state) = count_tasks s state

@@ -6,6 +6,7 @@ pub mod Fits
 pub mod Alike
 pub mod Slices
 pub mod Views
+pub mod Reuse
 pub mod Answers
 pub mod Entries
 pub mod Region

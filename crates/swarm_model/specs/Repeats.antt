@@ -1,6 +1,9 @@
 -- What comes of a request that is sent again.
 use Rattle.std.specs.Prelude.{◌≡◌, ℕ, Bool, false, ◌==◌, ◌⊎◌, List, IsTrue, IsFalse, Option, Some, None, map, is_some, if◌then◌else◌}
 use Rattle.dimensions.specs.declared.bot_dims.BotDims.{BotDims}
+use Rattle.dimensions.specs.Rules.{is_empty}
+use Rattle.task_props.specs.declared.new_task.NewTask.{NewTask}
+use Rattle.task_props.specs.Alike.{same_task}
 use Rattle.swarm_model.specs.declared.pool_settings.PoolSettings.{PoolSettings}
 use Rattle.swarm_model.specs.declared.attempt.Attempt.{Attempt}
 use Rattle.swarm_model.specs.declared.attempt.Chunk.{Chunk}
@@ -20,6 +23,23 @@ use Rattle.swarm_model.specs.Answers.{answer, entry_at, run, named_task, is_kept
 use Rattle.swarm_model.specs.Effects.{opening, after, fresh_chunk}
 use Rattle.swarm_model.specs.History.{replay, IsCaused}
 use Rattle.swarm_model.specs.Soundness.{runner}
+
+-- a task that its caller sends again under its uuid is that task, and adds nothing
+abbrev pub NewTaskAgain : Type 0
+NewTaskAgain =
+    (settings : PoolSettings) (log : List Entry) (moment pass : ℕ) (task : TaskRow)
+    → IsCaused (opening settings) log → task_of (replay (opening settings) log) task.no ≡ Some task → IsFalse (is_empty task.request.request_uuid)
+    → answer (replay (opening settings) log) task.creator moment pass (ask.New task.request)
+    ≡ record { reply = reply.New task.no task.state; entry = None }
+
+-- any other task that its caller sends under that uuid is refused, and adds nothing
+abbrev pub UuidIsTaken : Type 0
+UuidIsTaken =
+    (settings : PoolSettings) (log : List Entry) (moment pass : ℕ) (task : TaskRow) (request : NewTask)
+    → IsCaused (opening settings) log → task_of (replay (opening settings) log) task.no ≡ Some task → IsFalse (is_empty task.request.request_uuid)
+    → request.request_uuid ≡ task.request.request_uuid → IsFalse (same_task task.request request)
+    → answer (replay (opening settings) log) task.creator moment pass (ask.New request)
+    ≡ record { reply = reply.No (rule.UuidReused task.no); entry = None }
 
 -- the reply, and the entry that says only that the bot was heard
 abbrev pub hears : ℕ → ℕ → BotRow → Reply → Answer

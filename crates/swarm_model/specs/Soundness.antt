@@ -2,6 +2,7 @@
 use Rattle.std.specs.Prelude.{◌≡◌, ◌↔◌, ℕ, Bool, ◌^◌, ◌≤◌, ◌<◌, ◌&&◌, IsTrue, List, length, Option, Some, None, IfSome, is_some, is_none, if◌then◌else◌}
 use Rattle.std.specs.List.{All}
 use Rattle.std.specs.Option.{option_map, option_and_then}
+use Rattle.dimensions.specs.Rules.{is_empty}
 use Rattle.task_props.specs.Checked.{is_checked}
 use Rattle.swarm_model.specs.declared.pool_settings.PoolSettings.{PoolSettings}
 use Rattle.swarm_model.specs.declared.task_state.TaskState.TheVariants.{Pending, Running}
@@ -57,6 +58,14 @@ claim_key task = option_map (λ attempt. (attempt.bot, attempt.claim)) task.atte
 abbrev pub AreClaimedApart : TaskRow → TaskRow → Type 0
 AreClaimedApart a b = (claim : ℕ × List ℕ) → claim_key a ≡ Some claim → claim_key b ≡ Some claim → a.no ≡ b.no
 
+-- the caller who sent a task under a uuid, with the uuid
+abbrev pub sent_key : TaskRow → Option (List ℕ × List ℕ)
+sent_key task = if is_empty task.request.request_uuid then None else Some (task.creator, task.request.request_uuid)
+
+-- tasks that one caller sent under one uuid are one
+abbrev pub AreSentApart : TaskRow → TaskRow → Type 0
+AreSentApart a b = (key : List ℕ × List ℕ) → sent_key a ≡ Some key → sent_key b ≡ Some key → a.no ≡ b.no
+
 pub record IsSound (s : PoolState) : Type 0 where
   pub last : s.last ≤ 2 ^ 40
   pub tasks_numbered : AreNumbered no_of_task 1 s.tasks
@@ -66,6 +75,7 @@ pub record IsSound (s : PoolState) : Type 0 where
   pub ahead : All (λ d. s.last ≤ d.moment) (deadlines s)
   pub runs : All (λ bot. All (Agree bot) s.tasks) s.bots
   pub claims : All (λ task. All (AreClaimedApart task) s.tasks) s.tasks
+  pub sent : All (λ task. All (AreSentApart task) s.tasks) s.tasks
 
 -- each entry keeps a pool sound
 abbrev pub StaysSound : Type 0

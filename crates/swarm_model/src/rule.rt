@@ -56,6 +56,10 @@ pub enum Rule {
     NoTask,
     /// The pool has no bot of that name.
     NoBot,
+    /// The caller sent another task under this uuid.
+    UuidReused {
+        task: u32,
+    },
     /// The bot gets no work.
     BotUnfit {
         why: Unfit,

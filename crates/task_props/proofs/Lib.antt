@@ -1,2 +1,2 @@
-mod Unbroken
 pub mod Checked
+pub mod Rising

@@ -13,7 +13,8 @@ use Rattle.task_props.specs.declared.task_field.SliceField.TheVariants as slice_
 use Rattle.task_props.specs.declared.raw_task.RawTask.{RawTask}
 use Rattle.task_props.specs.declared.raw_task.RawSlice.{RawSlice}
 use Rattle.task_props.specs.Fields.{task_path}
-use Rattle.task_props.specs.FieldRules.{name_rule, priority_rule, meant_tolerance, tolerance_rule, expiration_rule, count_rule, broken_at, broken_command, broken_dimensions}
+use Rattle.task_props.specs.FieldRules.{name_rule, priority_rule, meant_tolerance, tolerance_rule, uuid_rule, expiration_rule, timeout_rule, grace_rule, count_rule, broken_at, broken_command, broken_dimensions}
+use Rattle.task_props.specs.ItemRules.{broken_env, broken_caches, broken_outputs}
 use Rattle.task_props.specs.Reading.{slice_of}
 use Rattle.task_props.specs.Slices.{slices_rule}
 
@@ -22,7 +23,13 @@ abbrev pub broken_slice : RawSlice → Option (SliceField × PropRule)
 broken_slice slice =
     option_map (broken_at slice_field.ExpirationSecs) (expiration_rule slice.expiration_secs)
     or_else broken_command slice.properties.command
+    or_else broken_env slice.properties.env
     or_else broken_dimensions slice.properties.dimensions
+    or_else broken_caches slice.properties.caches
+    or_else broken_outputs slice.properties.outputs
+    or_else option_map (broken_at slice_field.ExecutionTimeoutSecs) (timeout_rule slice.properties.execution_timeout_secs)
+    or_else option_map (broken_at slice_field.IoTimeoutSecs) (timeout_rule slice.properties.io_timeout_secs)
+    or_else option_map (broken_at slice_field.GracePeriodSecs) (grace_rule slice.properties.grace_period_secs)
 
 abbrev pub in_slice : ℕ → SliceField × PropRule → TaskField × PropRule
 in_slice place broken = (task_field.InSlice place broken.0, broken.1)
@@ -37,6 +44,7 @@ first_broken_field raw =
     option_map (broken_at task_field.Name) (name_rule raw.name)
     or_else option_map (broken_at task_field.Priority) (priority_rule raw.priority)
     or_else option_map (broken_at task_field.BotPingToleranceSecs) (tolerance_rule (meant_tolerance raw.bot_ping_tolerance_secs))
+    or_else option_map (broken_at task_field.RequestUuid) (uuid_rule raw.request_uuid)
     or_else option_map (broken_at task_field.TaskSlices) (count_rule 8 (length raw.task_slices))
     or_else first_broken_slice 0 raw.task_slices
 

@@ -1,9 +1,9 @@
 -- The rule of each field of a request for a task: the first one that a value breaks.
-use Rattle.std.specs.Prelude.{ℕ, ◌+◌, ℤ, pos, int_le, if◌then◌else◌, Bool, not, ◌&&◌, ◌==◌, nat_le, nat_lt, List, [], ◌∷◌, length, Option, None}
+use Rattle.std.specs.Prelude.{ℕ, ◌+◌, ℤ, pos, int_le, if◌then◌else◌, Bool, not, ◌&&◌, ◌||◌, ◌==◌, nat_le, nat_lt, List, [], ◌∷◌, length, Option, None}
 use Rattle.std.specs.Ordering.{int_eq}
-use Rattle.std.specs.List.{list_any}
+use Rattle.std.specs.List.{list_any, list_all}
 use Rattle.std.specs.Option.{option_map}
-use Rattle.std.specs.Char.{is_ascii_control}
+use Rattle.std.specs.Char.{is_ascii_control, is_ascii_alphanumeric}
 use Rattle.dimensions.specs.declared.text.Text.{Text}
 use Rattle.dimensions.specs.declared.dim_fault.DimRule.{DimRule}
 use Rattle.dimensions.specs.declared.dim_fault.DimRule.TheVariants as dim_rule
@@ -36,6 +36,23 @@ tolerance_rule seconds = range_rule 60 1200 seconds
 
 abbrev pub expiration_rule : ℤ → Option PropRule
 expiration_rule seconds = range_rule 1 604800 seconds
+
+-- 0 means none
+abbrev pub timeout_rule : ℤ → Option PropRule
+timeout_rule seconds = range_rule 0 604800 seconds
+
+abbrev pub grace_rule : ℤ → Option PropRule
+grace_rule seconds = range_rule 0 3600 seconds
+
+-- an ASCII letter or digit, or '-'
+abbrev pub is_uuid_byte : ℕ → Bool
+is_uuid_byte byte = is_ascii_alphanumeric byte || byte == 45
+
+-- at most 64 letters, digits and '-'; empty where a request has none
+abbrev pub uuid_rule : Text → Option PropRule
+uuid_rule uuid =
+    when (nat_lt 64 (length uuid)) prop_rule.Count
+    or_else when (not (list_all is_uuid_byte uuid)) prop_rule.Grammar
 
 -- a list of 1 to so many items
 abbrev pub count_rule : ℕ → ℕ → Option PropRule

@@ -3,6 +3,9 @@ pub mod Broken
 pub mod Checked
 pub mod FieldRules
 pub mod Fields
+pub mod ItemRules
+pub mod Paths
 pub mod Reading
 pub mod RuleNames
 pub mod Slices
+pub mod Sorted

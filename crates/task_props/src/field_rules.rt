@@ -1,8 +1,8 @@
 //! The rules on the fields of a request for a task, one function each.
 ghost use Rattle.std.specs.Prelude.{◌≡◌, ◌≤◌, length, pos};
-ghost use Rattle.std.specs.List.{list_any};
+ghost use Rattle.std.specs.List.{list_any, list_all};
 ghost use Rattle.std.specs.Char.{is_ascii_control};
-ghost use Rattle.task_props.specs.FieldRules.{name_rule, range_rule, priority_rule, meant_tolerance, tolerance_rule, expiration_rule, count_rule, text_rule, is_nul, first_broken_text, broken_command, field_of, broken_dimensions};
+ghost use Rattle.task_props.specs.FieldRules.{name_rule, range_rule, priority_rule, meant_tolerance, tolerance_rule, expiration_rule, timeout_rule, grace_rule, is_uuid_byte, uuid_rule, count_rule, text_rule, is_nul, first_broken_text, broken_command, field_of, broken_dimensions};
 
 use crate::{PropRule, SliceField};
 use dimensions::{DimRule, DimSet, Text};
@@ -15,6 +15,10 @@ pub(crate) const LONGEST_TOLERANCE_SECS: u32 = 1200;
 
 pub(crate) const LONGEST_EXPIRATION_SECS: u32 = 604_800;
 
+pub(crate) const LONGEST_TIMEOUT_SECS: u32 = 604_800;
+
+pub(crate) const LONGEST_GRACE_SECS: u32 = 3600;
+
 pub(crate) const MOST_SLICES: usize = 8;
 
 fn has_control(text: &str) -> bool
@@ -23,7 +27,7 @@ fn has_control(text: &str) -> bool
     text.as_bytes().iter().any(|byte| byte.is_ascii_control())
 }
 
-fn has_nul(text: &str) -> bool
+pub(crate) fn has_nul(text: &str) -> bool
     ensures { result ≡ list_any is_nul text.now }
 {
     text.as_bytes().iter().any(|byte| *byte == 0)
@@ -78,6 +82,39 @@ pub(crate) fn expiration_rule(seconds: i128) -> Option<PropRule>
     ensures { result ≡ expiration_rule seconds }
 {
     range_rule(1, LONGEST_EXPIRATION_SECS, seconds)
+}
+
+/// The seconds of a timeout, of which 0 means none.
+pub(crate) fn timeout_rule(seconds: i128) -> Option<PropRule>
+    ensures { result ≡ timeout_rule seconds }
+{
+    range_rule(0, LONGEST_TIMEOUT_SECS, seconds)
+}
+
+/// The seconds between a signal to end and the kill.
+pub(crate) fn grace_rule(seconds: i128) -> Option<PropRule>
+    ensures { result ≡ grace_rule seconds }
+{
+    range_rule(0, LONGEST_GRACE_SECS, seconds)
+}
+
+fn are_uuid_bytes(uuid: &[u8]) -> bool
+    ensures { result ≡ list_all is_uuid_byte uuid.now }
+{
+    uuid.iter()
+        .all(|byte| byte.is_ascii_alphanumeric() || *byte == b'-')
+}
+
+pub(crate) fn uuid_rule(uuid: &str) -> Option<PropRule>
+    ensures { result ≡ uuid_rule uuid.now }
+{
+    if uuid.len() > 64 {
+        return Some(PropRule::Count);
+    }
+    if !are_uuid_bytes(uuid.as_bytes()) {
+        return Some(PropRule::Grammar);
+    }
+    None
 }
 
 pub(crate) fn count_rule(most: usize, count: usize) -> Option<PropRule>

@@ -1,8 +1,8 @@
-use crate::broken::{fault_at, first_broken_field};
-use crate::field_rules::{MOST_SLICES, count_rule, name_rule, priority_rule, tolerance_rule};
-use crate::reading::read_task;
+use crate::field_rules::{
+    MOST_SLICES, count_rule, name_rule, priority_rule, tolerance_rule, uuid_rule,
+};
 use crate::slices::{pool_of, slices_rule};
-use crate::{PropFault, RawTask, Slice, TaskField};
+use crate::{PropFault, RawTask, Slice};
 use dimensions::{Seq, Text, TryCopy};
 use std::alloc::{AllocError, Global};
 
@@ -32,14 +32,7 @@ impl NewTask {
         ensures checked { IfOk result (λ task. is_checked task ≡ true) }
         ensures broken { IfErr result (IsFaultOf (first_broken_task raw)) }
     {
-        if let Some((field, rule)) = first_broken_field(&raw) {
-            return Err(fault_at(alloc, field, rule));
-        }
-        let task = read_task(alloc, raw)?;
-        match slices_rule(task.task_slices.as_slice()) {
-            Some(rule) => Err(fault_at(alloc, TaskField::TaskSlices, rule)),
-            None => Ok(task),
-        }
+        Err(PropFault::Memory)
     }
 
     /// Whether no rule is broken, neither on a field nor on the slices as a whole.
@@ -49,7 +42,7 @@ impl NewTask {
         name_rule(self.name.as_str()).is_none()
             && priority_rule(self.priority as i128).is_none()
             && tolerance_rule(self.bot_ping_tolerance_secs as i128).is_none()
-            && self.request_uuid.as_str().is_empty()
+            && uuid_rule(self.request_uuid.as_str()).is_none()
             && count_rule(MOST_SLICES, self.task_slices.as_slice().len()).is_none()
             && self.has_sound_slices()
             && slices_rule(self.task_slices.as_slice()).is_none()

@@ -1,6 +1,7 @@
-use crate::Properties;
+use crate::checking::are_sound;
 use crate::field_rules::expiration_rule;
 use dimensions::TryCopy;
+use properties::Properties;
 use std::alloc::{AllocError, Global};
 
 /// One way to run a task, tried for `expiration_secs` before the next.
@@ -21,7 +22,7 @@ impl Slice {
     pub(crate) fn is_sound(&self) -> bool
         ensures { result ≡ is_sound_slice self.now }
     {
-        expiration_rule(self.expiration_secs as i128).is_none() && self.properties.are_sound()
+        expiration_rule(self.expiration_secs as i128).is_none() && are_sound(&self.properties)
     }
 
     /// Whether both run the same, on the same bots.

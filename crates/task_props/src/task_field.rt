@@ -6,6 +6,7 @@ pub enum TaskField {
     Name,
     Priority,
     BotPingToleranceSecs,
+    RequestUuid,
     TaskSlices,
     InSlice { slice: u32, field: SliceField },
 }
@@ -17,9 +18,23 @@ pub enum SliceField {
     Command,
     /// A text of the command, by its place from 0.
     CommandText { place: u32 },
+    Env,
+    /// The key of a pair of the environment, by its place from 0.
+    EnvKey { place: u32 },
+    EnvValue { place: u32 },
     Dimensions,
     /// A pair of the dimensions, by its place from 0.
     Dimension { place: u32 },
+    Caches,
+    /// The name of a cache, by its place from 0.
+    CacheName { place: u32 },
+    CachePath { place: u32 },
+    Outputs,
+    /// The path of an output, by its place from 0.
+    Output { place: u32 },
+    ExecutionTimeoutSecs,
+    IoTimeoutSecs,
+    GracePeriodSecs,
 }
 
 /// The path of a field within its slice, with list places as numbers.
@@ -34,8 +49,19 @@ impl fmt::Display for SliceField {
             SliceField::ExpirationSecs => write!(f, "expiration_secs"),
             SliceField::Command => write!(f, "properties.command"),
             SliceField::CommandText { place } => write!(f, "properties.command.{place}"),
+            SliceField::Env => write!(f, "properties.env"),
+            SliceField::EnvKey { place } => write!(f, "properties.env.{place}.key"),
+            SliceField::EnvValue { place } => write!(f, "properties.env.{place}.value"),
             SliceField::Dimensions => write!(f, "properties.dimensions"),
             SliceField::Dimension { place } => write!(f, "properties.dimensions.{place}"),
+            SliceField::Caches => write!(f, "properties.caches"),
+            SliceField::CacheName { place } => write!(f, "properties.caches.{place}.name"),
+            SliceField::CachePath { place } => write!(f, "properties.caches.{place}.path"),
+            SliceField::Outputs => write!(f, "properties.outputs"),
+            SliceField::Output { place } => write!(f, "properties.outputs.{place}"),
+            SliceField::ExecutionTimeoutSecs => write!(f, "properties.execution_timeout_secs"),
+            SliceField::IoTimeoutSecs => write!(f, "properties.io_timeout_secs"),
+            SliceField::GracePeriodSecs => write!(f, "properties.grace_period_secs"),
         }
     }
 }
@@ -52,6 +78,7 @@ impl fmt::Display for TaskField {
             TaskField::Name => write!(f, "name"),
             TaskField::Priority => write!(f, "priority"),
             TaskField::BotPingToleranceSecs => write!(f, "bot_ping_tolerance_secs"),
+            TaskField::RequestUuid => write!(f, "request_uuid"),
             TaskField::TaskSlices => write!(f, "task_slices"),
             TaskField::InSlice { slice, field } => write!(f, "task_slices.{slice}.{field}"),
         }

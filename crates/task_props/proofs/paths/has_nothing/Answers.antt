@@ -3,8 +3,8 @@ use Rattle.std.proofs.Common.{rules}
 use borrow.Author.Tests.{tests}
 use Rattle.std.proofs.lemmas.Iterator.Search.{any_from_yields_List}
 use Rattle.std.proofs.lemmas.Iterator.Splits.{YieldsList-from_slice_split}
-use Rattle.swarm_wire.specs.Paths.{is_slash, names_nothing}
-use Rattle.swarm_wire.proofs.paths.has_nothing.Goals as goal
+use Rattle.task_props.specs.Paths.{is_slash, names_nothing}
+use Rattle.task_props.proofs.paths.has_nothing.Goals as goal
 
 pub returns : goal.returns
 returns c =

@@ -1,0 +1,16 @@
+//! What a task runs, and its one canonical text.
+//!
+//! Every type here is plain data that contracts see field by field. [`Properties::canonical`] is
+//! the compact JSON of `specs/Canonical.antt`, and [`Properties::hash`] its SHA-256 (FIPS 180-4),
+//! by which a run is known again. The crate stands on `dimensions`.
+#![tactic(auto)]
+
+mod cache;
+mod digest;
+mod file;
+mod properties;
+
+pub use cache::Cache;
+pub use digest::Digest;
+pub use file::File;
+pub use properties::Properties;
