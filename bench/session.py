@@ -26,6 +26,9 @@ NEW_TASK = (
     b'{"task_slices":[{"expiration_secs":600,"wait_for_capacity":true,"properties":'
     b'{"command":["true"],"dimensions":[{"key":"pool","value":"default"}]}}]}'
 )
+# A pair of the environment but for its place and its value.
+PAIR = b'{"key":"KEY_%02d","value":"%s"}'
+MOST_BODY = 65536
 COUNT = b'{"pool":"default"}'
 COUNT_EXPIRED = b'{"pool":"default","state":"EXPIRED"}'
 # Longer than the requests of a run take, so that no NewTask settles anything.
@@ -37,6 +40,15 @@ def request(call, body):
         b"POST /prpc/swarming.v2.Tasks/%s HTTP/1.1\r\nX-Swarming-Caller: ana\r\n"
         b"Content-Length: %d\r\n\r\n%s" % (call, len(body), body)
     )
+
+
+def long_task(pairs, size, idempotent):
+    """A NewTask with so many pairs in its environment, all of one length, and at most so many bytes."""
+    keys = b'"idempotent":%s,"env":[' % (b"true" if idempotent else b"false")
+    around = len(NEW_TASK) + len(keys) + len(b"],") + len(b",") * (pairs - 1)
+    value = b"x" * ((size - around) // pairs - len(PAIR % (0, b"")))
+    env = b",".join(PAIR % (place, value) for place in range(pairs))
+    return NEW_TASK.replace(b'"command"', keys + env + b'],"command"')
 
 
 def count_good(told):
@@ -128,7 +140,7 @@ def measure_settling(program, rows):
 def show(name, count, seconds, memory):
     per_second = count / seconds
     print(
-        "%-32s %8d %8.3f s %10.0f /s %8.2f us %8.1f MiB"
+        "%-42s %8d %8.3f s %10.0f /s %8.2f us %8.1f MiB"
         % (name, count, seconds, per_second, 1e6 / per_second, memory),
         flush=True,
     )
@@ -144,6 +156,12 @@ def main():
         measure(program, "CountTasks over 500 tasks", 500, request(b"CountTasks", COUNT), count)
     for count in (1000, 8125, 16250, 32500, 65000):
         measure(program, "NewTask", 0, request(b"NewTask", NEW_TASK), count)
+    for pairs in (8, 16, 32, 64):
+        size = MOST_BODY * pairs // 64 - 1
+        for idempotent in (False, True):
+            task = long_task(pairs, size, idempotent)
+            name = "NewTask, %d pairs, %d bytes%s" % (pairs, len(task), ", hashed" if idempotent else "")
+            measure(program, name, 0, request(b"NewTask", task), 500)
     measure(program, "GetResult of the first of 500", 500, request(b"GetResult", b'{"task_id":"10"}'), 65000)
     measure(program, "GetResult of the last of 500", 500, request(b"GetResult", b'{"task_id":"1f40"}'), 65000)
     for rows in (1000, 5000, 10000):
