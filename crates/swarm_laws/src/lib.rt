@@ -15,6 +15,6 @@
 mod laws;
 
 pub use laws::{
-    a_claim_happens, a_run_ends, claims_are_right, finals_stay, repeats_act_once, stays_sound,
-    tally_counts_verdicts, verdicts_are_states,
+    a_claim_happens, a_run_ends, claims_are_right, finals_stay, outcomes_are_taken_over,
+    repeats_act_once, stays_sound, tally_counts_verdicts, verdicts_are_states,
 };
