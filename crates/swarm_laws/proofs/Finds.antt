@@ -53,7 +53,7 @@ use Rattle.swarm_laws.proofs.Findings.{Finds, HasTask, waits, runs, served_of, e
 use Rattle.swarm_laws.proofs.Lists.{Among, Found, find_is, all_filter_map}
 use Rattle.swarm_laws.proofs.Earliest.{due_at, due_has}
 use Rattle.swarm_laws.proofs.Answering.{by_when, by_map, by_with}
-use Rattle.swarm_laws.proofs.Reusing.{IsReuse, reuse_is}
+use Rattle.swarm_laws.proofs.Reusing.{reuse_is}
 
 -- a place that is found lies within the list
 position_within : (test : Slice → Bool) (start : ℕ) (xs : List Slice) (place : ℕ) → position_from test start xs ≡ Some place → place < start + length xs

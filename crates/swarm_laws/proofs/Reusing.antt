@@ -1,5 +1,5 @@
 -- The task whose outcome a slice takes.
-use Rattle.std.proofs.Common.{◌≡◌, ℕ, suc, ◌+◌, ◌&&◌, Bool, true, false, cond, List, [], ◌∷◌, ◌⊎◌, inl, inr, refl, subst, arith, Option, Some, None}
+use Rattle.std.proofs.Common.{◌≡◌, ℕ, suc, ◌+◌, Bool, true, false, cond, List, [], ◌∷◌, ◌⊎◌, inl, inr, refl, subst, arith, Option, Some, None}
 use Rattle.std.specs.Prelude.{slice_get}
 use Rattle.std.specs.List.{fold}
 use Rattle.std.specs.Option.{option_map}
@@ -11,7 +11,7 @@ use Rattle.swarm_model.specs.declared.task_row.TaskRow.{TaskRow}
 use Rattle.swarm_model.specs.declared.pool_state.PoolState.{PoolState}
 use Rattle.swarm_model.specs.declared.reuse.Reuse.{Reuse}
 use Rattle.swarm_model.specs.Reuse.{newer, newest_source, source_for, is_source, at_slice, reuse_from}
-use Rattle.swarm_laws.proofs.Lists.{Among, here, later, Found}
+use Rattle.swarm_laws.proofs.Lists.{here, later, Found}
 
 -- the newest of some tasks is one of them, and passes
 newest_is : (test : TaskRow → Bool) (best : Option TaskRow) (xs : List TaskRow) (r : TaskRow) → fold (newer test) best xs ≡ Some r → (best ≡ Some r) ⊎ Found test xs r

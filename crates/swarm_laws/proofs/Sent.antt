@@ -17,12 +17,12 @@ use Rattle.swarm_model.specs.Effects.{task_after, added_tasks, moved, new_row, a
 use Rattle.swarm_model.specs.History.{MayFollow}
 use Rattle.swarm_model.specs.Reuse.{sent, is_sent}
 use Rattle.swarm_model.specs.Soundness.{IsSound, sent_key, AreSentApart}
-use Rattle.swarm_laws.proofs.Lists.{Among, Found, each, all, each_one, find_is, find_none}
+use Rattle.swarm_laws.proofs.Lists.{Among, Found, each, each_one, find_is, find_none}
 use Rattle.swarm_laws.proofs.Findings.{Finds}
 use Rattle.swarm_laws.proofs.Finds.{finds}
 use Rattle.swarm_laws.proofs.Rows.{task_by, all_tasks, one_task}
 use Rattle.swarm_laws.proofs.Numbers.{task_no}
-use Rattle.swarm_laws.proofs.Alike.{same_is, is_same, same_self}
+use Rattle.swarm_laws.proofs.Alike.{same_is, is_same}
 
 -- a key, as the test for a task that was sent sees it
 

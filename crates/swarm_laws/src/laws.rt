@@ -1,6 +1,6 @@
 ghost use Rattle.std.specs.Prelude.{◌≡◌};
-ghost use Rattle.swarm_laws.specs.Worked.{ItHappens, RunsEnd, ended_log};
-ghost use Rattle.swarm_model.specs.declared.task_state.TaskState.TheVariants.{Canceled, Killed};
+ghost use Rattle.swarm_laws.specs.Worked.{ItHappens, OutcomeIsTaken, RunsEnd, ended_log, taken_log};
+ghost use Rattle.swarm_model.specs.declared.task_state.TaskState.TheVariants.{Canceled, Completed, Killed};
 ghost use Rattle.swarm_model.specs.Claims.{ClaimsAreRight};
 ghost use Rattle.swarm_model.specs.Repeats.{ClaimAgain, ClaimIsOver, ContactChanges, HandshakeAgain, NewTaskAgain, UpdateAgain, UpdateIsOver, UuidIsTaken};
 ghost use Rattle.swarm_model.specs.ReuseLaw.{OutcomesAreTaken};
@@ -69,4 +69,10 @@ pub fn a_run_ends()
     ensures happens { RunsEnd }
     ensures killed { verdict ended_log 1 ≡ Killed }
     ensures canceled { verdict ended_log 2 ≡ Canceled }
+{}
+
+/// So is one in which a task takes the outcome of another, which ran and reported 0.
+pub fn an_outcome_is_taken()
+    ensures happens { OutcomeIsTaken }
+    ensures completed { verdict taken_log 2 ≡ Completed }
 {}
