@@ -1,12 +1,14 @@
 -- What an entry of each kind finds in the pool.
-use Rattle.std.proofs.Common.{◌≡◌, ℕ, ◌+◌, ◌<◌, Bool, true, false, List, ◌⊎◌, length, refl, Option, Some, None}
-use Rattle.std.specs.Prelude.{⊤}
+use Rattle.std.proofs.Common.{◌≡◌, ℕ, ◌+◌, ◌<◌, Bool, true, false, List, ◌⊎◌, length, refl, Option, Some, None, IfSome}
+use Rattle.std.specs.Prelude.{⊤, slice_get}
 use Rattle.std.specs.Option.{option_map_or}
 use Rattle.dimensions.specs.Alike.{same}
+use Rattle.properties.specs.Canonical.{hash}
 use Rattle.task_props.specs.declared.new_task.NewTask.{NewTask}
+use Rattle.task_props.specs.declared.slice.Slice.{Slice}
 use Rattle.task_props.specs.Checked.{is_checked}
 use Rattle.swarm_model.specs.declared.task_state.TaskState.{TaskState}
-use Rattle.swarm_model.specs.declared.task_state.TaskState.TheVariants.{Pending, Running, NoResource}
+use Rattle.swarm_model.specs.declared.task_state.TaskState.TheVariants.{Pending, Running, Completed, NoResource}
 use Rattle.swarm_model.specs.declared.attempt.Attempt.{Attempt}
 use Rattle.swarm_model.specs.declared.attempt.Chunk.{Chunk}
 use Rattle.swarm_model.specs.declared.attempt.Last.{Last}
@@ -19,6 +21,7 @@ use Rattle.swarm_model.specs.declared.entry.Outcome.{Outcome}
 use Rattle.swarm_model.specs.declared.entry.Outcome.TheVariants as outcome
 use Rattle.swarm_model.specs.Finding.{has_state, is_state, is_final, task_of, bot_named}
 use Rattle.swarm_model.specs.Slices.{first}
+use Rattle.swarm_model.specs.Reuse.{sent, ended_well, ran_hash}
 use Rattle.swarm_model.specs.Answers.{run_on, claimed, unfit_of}
 use Rattle.swarm_model.specs.Deadlines.{next_of}
 use Rattle.swarm_laws.specs.Served.{is_served, ends_run}
@@ -41,11 +44,25 @@ pub record FindsSlice (s : PoolState) (t : ℕ) (to : Outcome) : Type 0 where
   pub waiting : HasTask s t waits
   pub goes : to ≡ option_map_or (next_of s) (task_of s t) (outcome.Ended NoResource)
 
-pub record FindsNew (s : PoolState) (t : ℕ) (request : NewTask) (state : TaskState) (slice : ℕ) : Type 0 where
+-- the task whose outcome a new one takes at its slice
+pub record FindsSource (s : PoolState) (request : NewTask) (state : TaskState) (slice number : ℕ) : Type 0 where
+  pub completed : state ≡ Completed
+  pub own : Slice
+  pub reached : slice_get request.task_slices slice ≡ Some own
+  pub idempotent : own.properties.idempotent ≡ true
+  pub source : TaskRow
+  pub among : Among source s.tasks
+  pub named : source.no ≡ number
+  pub ended : ended_well source ≡ true
+  pub alike : ran_hash (hash own.properties) source ≡ true
+
+pub record FindsNew (s : PoolState) (t : ℕ) (who : List ℕ) (request : NewTask) (state : TaskState) (slice : ℕ) (from : Option ℕ) : Type 0 where
   pub next : t ≡ length s.tasks + 1
   pub idle : is_state state Running ≡ false
   pub checked : is_checked request ≡ true
   pub has_slice : slice < length request.task_slices
+  pub unsent : sent s who request.request_uuid ≡ None
+  pub takes : IfSome from (FindsSource s request state slice)
 
 pub record IsOld (s : PoolState) (b : ℕ) (id : List ℕ) : Type 0 where
   pub bot : BotRow
@@ -89,7 +106,7 @@ abbrev pub Finds : PoolState → EntryKind → Type 0
 Finds s (kind.Slice t to) = FindsSlice s t to
 Finds s (kind.Silence t) = HasTask s t runs
 Finds s (kind.Dead b) = ⊤
-Finds s (kind.New t who request state slice from) = FindsNew s t request state slice
+Finds s (kind.New t who request state slice from) = FindsNew s t who request state slice from
 Finds s (kind.Cancel t) = HasTask s t waits
 Finds s (kind.Kill t) = HasTask s t runs
 Finds s (kind.Handshake b id session dims q) = IsNewcomer s b id ⊎ IsOld s b id

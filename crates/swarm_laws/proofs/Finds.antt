@@ -1,18 +1,20 @@
 -- What an entry that may follow finds in the pool.
 use Rattle.std.proofs.Common.{◌≡◌, ℕ, ◌+◌, ◌<◌, ◌≤◌, ◌==◌, ◌&&◌, ◌||◌, not, Bool, true, false, cond, List, [], ◌∷◌, inl, inr, length, drop, length-drop, refl, subst, arith, Option, Some, None, IfSome, IsTrue, IsSomeAnd, is_some, is_none, filter_map, eqb-true}
-use Rattle.std.specs.Prelude.{⊤, nat_le}
+use Rattle.std.specs.Prelude.{⊤, nat_le, slice_get}
 use Rattle.std.specs.Bool.{MatchBool}
 use Rattle.std.specs.List.{All, position_from}
 use Rattle.std.specs.Option.{option_map, option_and_then}
 use Rattle.std.proofs.lemmas.Bool.{and_parts, cond_both}
-use Rattle.std.proofs.lemmas.Option.{same_Some}
+use Rattle.std.proofs.lemmas.Option.{same_Some, slice_get_within}
 use Rattle.std.proofs.lemmas.List.Elements.{All-append}
 use Rattle.dimensions.specs.declared.bot_dims.BotDims.{BotDims}
 use Rattle.dimensions.specs.Alike.{same}
 use Rattle.dimensions.specs.Choosing.{when}
 use Rattle.dimensions.specs.Rules.{is_empty}
+use Rattle.properties.specs.Canonical.{hash}
 use Rattle.task_props.specs.declared.new_task.NewTask.{NewTask}
 use Rattle.task_props.specs.declared.slice.Slice.{Slice}
+use Rattle.task_props.specs.Alike.{same_task}
 use Rattle.task_props.specs.Checked.{is_checked, pool_of_task}
 use Rattle.task_props.proofs.Checked.{slices_counted}
 use Rattle.swarm_model.specs.declared.attempt.Attempt.{Attempt}
@@ -27,6 +29,7 @@ use Rattle.swarm_model.specs.declared.deadline.Deadline.{Deadline}
 use Rattle.swarm_model.specs.declared.deadline.Cause.{Cause}
 use Rattle.swarm_model.specs.declared.deadline.Cause.TheVariants as cause
 use Rattle.swarm_model.specs.declared.answer.Told.{Told}
+use Rattle.swarm_model.specs.declared.reuse.Reuse.{Reuse}
 use Rattle.swarm_model.specs.declared.rule.Rule.TheVariants as rule
 use Rattle.swarm_model.specs.declared.rule.Unfit.TheVariants as unfit
 use Rattle.swarm_model.specs.declared.reply.Reply.TheVariants as reply
@@ -40,7 +43,8 @@ use Rattle.swarm_model.specs.Words.{◌otherwise◌, is_between}
 use Rattle.swarm_model.specs.Finding.{is_final, is_task, task_of, bot_named, is_called}
 use Rattle.swarm_model.specs.Fits.{fits, is_name}
 use Rattle.swarm_model.specs.Slices.{is_open, admit, current_slice, first}
-use Rattle.swarm_model.specs.Answers.{tell, entry_at, accepted, accepted_at, tasks_full, named_task, result_of, greet, handshake, poll, busy, run_on, claim, claim_again, claimed, claims, unfit_of, unfit_told, event, terminate, answers, with, has_try, if_named, may, denied, cancel, cancel_row, stop, is_killed, is_kept, updates, report, report_again, report_on, not_claimant, update, update_row}
+use Rattle.swarm_model.specs.Reuse.{sent, reuse, ended_well, is_young, ran_hash}
+use Rattle.swarm_model.specs.Answers.{tell, entry_at, again, takes_over, accepted, accepted_at, tasks_full, named_task, result_of, greet, handshake, poll, busy, run_on, claim, claim_again, claimed, claims, unfit_of, unfit_told, event, terminate, answers, with, has_try, if_named, may, denied, cancel, cancel_row, stop, is_killed, is_kept, updates, report, report_again, report_on, not_claimant, update, update_row}
 use Rattle.swarm_model.specs.Deadlines.{settled, slice_end, slice_limit, silence_end, silence_limit, runner_of, bot_end, deadlines, due_entry}
 use Rattle.swarm_model.specs.Entries.{asks, is_deadline, Asked}
 use Rattle.swarm_model.specs.History.{MayFollow, IsDue, IsAnswered}
@@ -49,6 +53,7 @@ use Rattle.swarm_laws.proofs.Findings.{Finds, HasTask, waits, runs, served_of, e
 use Rattle.swarm_laws.proofs.Lists.{Among, Found, find_is, all_filter_map}
 use Rattle.swarm_laws.proofs.Earliest.{due_at, due_has}
 use Rattle.swarm_laws.proofs.Answering.{by_when, by_map, by_with}
+use Rattle.swarm_laws.proofs.Reusing.{reuse_is}
 
 -- a place that is found lies within the list
 position_within : (test : Slice → Bool) (start : ℕ) (xs : List Slice) (place : ℕ) → position_from test start xs ≡ Some place → place < start + length xs
@@ -77,11 +82,40 @@ abbrev Adds : PoolState → Told → Type 0
 Adds s told = IfSome told.adds (Finds s)
 
 -- a new task that is accepted comes to one of its slices
-accepted_finds : (s : PoolState) (who : List ℕ) (request : NewTask) (o : Option ℕ) → is_checked request ≡ true → admit s request.task_slices 0 ≡ o → Adds s (accepted_at s who request o)
-accepted_finds s who request (Some place) checked h =
-    record { next = refl; idle = refl; checked = checked; has_slice = admit_within s request.task_slices 0 place (omega arith) h }
-accepted_finds s who request None checked h =
-    let many = (slices_counted request checked).0 in record { next = refl; idle = refl; checked = checked; has_slice = omega (arith, many) }
+accepted_finds : (s : PoolState) (who : List ℕ) (request : NewTask) (o : Option ℕ) → is_checked request ≡ true → sent s who request.request_uuid ≡ None → admit s request.task_slices 0 ≡ o → Adds s (accepted_at s who request o)
+accepted_finds s who request (Some place) checked unsent h =
+    record { next = refl; idle = refl; checked = checked; has_slice = admit_within s request.task_slices 0 place (omega arith) h; unsent = unsent; takes = tt }
+accepted_finds s who request None checked unsent h =
+    let many = (slices_counted request checked).0 in record { next = refl; idle = refl; checked = checked; has_slice = omega (arith, many); unsent = unsent; takes = tt }
+
+-- and so does one that takes the outcome of another
+taken_finds : (s : PoolState) (who : List ℕ) (m : ℕ) (request : NewTask) (r : Reuse) → is_checked request ≡ true → sent s who request.request_uuid ≡ None → reuse s m request.task_slices ≡ Some r →
+    Adds s (takes_over s who request r)
+taken_finds s who m request r checked unsent h =
+    let f = reuse_is s m 0 request.task_slices r h in
+    let found = f.fits.found in
+    let placed = f.placed in
+    let at : f.index ≡ r.slice = omega (arith, placed) in
+    let reached : slice_get request.task_slices r.slice ≡ Some f.own = subst (λ (i : ℕ). slice_get request.task_slices i ≡ Some f.own) at f.reached in
+    let parts = and_parts (ended_well f.source) (is_young s.settings.reuse_age_secs m f.source && ran_hash (hash f.own.properties) f.source) found.passes in
+    record {
+      next = refl;
+      idle = refl;
+      checked = checked;
+      has_slice = slice_get_within request.task_slices r.slice f.own reached;
+      unsent = unsent;
+      takes = record {
+        completed = refl;
+        own = f.own;
+        reached = reached;
+        idempotent = f.fits.idempotent;
+        source = f.source;
+        among = found.among;
+        named = f.named;
+        ended = parts.0;
+        alike = (and_parts (is_young s.settings.reuse_age_secs m f.source) (ran_hash (hash f.own.properties) f.source) parts.1).1;
+      };
+    }
 
 -- a bot that is named is one of the pool, of that name
 bot_is : (s : PoolState) (name : List ℕ) (bot : BotRow) → bot_named s name ≡ Some bot → Found (is_called name) s.bots bot
@@ -173,7 +207,10 @@ event_finds s which text bot = by_when (Adds s) (bot.dead && is_none bot.task) (
 tell_finds : (s : PoolState) (who : List ℕ) (m : ℕ) (request : Request) → IsTrue (fits s.settings request) → Adds s (tell s who m request)
 tell_finds s who m (ask.New request) may =
     let checked = (and_parts (is_checked request) (same (pool_of_task request) s.settings.name) may).0 in
-    by_when (Adds s) (nat_le s.settings.most_tasks (length s.tasks)) (tasks_full s) (accepted s who request) (λ t. tt) (λ t. accepted_finds s who request (admit s request.task_slices 0) checked refl)
+    by_map (Adds s) (again request) (sent s who request.request_uuid) _ (λ row e. cond_both (same_task row.request request) _ _ (Adds s) (λ t. tt) (λ t. tt)) (λ unsent.
+    by_when (Adds s) (nat_le s.settings.most_tasks (length s.tasks)) (tasks_full s) _ (λ t. tt) (λ t.
+    by_map (Adds s) (takes_over s who request) (reuse s m request.task_slices) (accepted s who request) (λ found e. taken_finds s who m request found checked unsent e) (λ e.
+    accepted_finds s who request (admit s request.task_slices 0) checked unsent refl)))
 tell_finds s who m (ask.Cancel task try_no kill) may =
     by_with (Adds s) (named_task s task try_no) rule.NoTask (cancel s who kill) tt (λ row e. cancel_finds s who kill row (named_is s task try_no row e).among)
 tell_finds s who m (ask.Result task try_no) may = by_with (Adds s) (named_task s task try_no) rule.NoTask (result_of s) tt (λ row e. tt)

@@ -2,6 +2,7 @@ pub mod Lists
 pub mod Earliest
 pub mod Answering
 pub mod Findings
+mod Reusing
 pub mod Finds
 pub mod Rows
 pub mod Tasks
@@ -9,6 +10,7 @@ pub mod Bots
 pub mod Runs
 pub mod Numbers
 pub mod Claimed
+pub mod Sent
 pub mod Moments
 pub mod Sound
 pub mod Alike
@@ -26,4 +28,5 @@ pub mod ClaimLaw
 pub mod Shown
 pub mod Keeping
 mod RepeatLaws
+mod OutcomeLaw
 mod Worked

@@ -19,13 +19,31 @@ use Rattle.swarm_model.specs.Answers.{claimed, entry_at, with, answers, updates,
 use Rattle.swarm_model.specs.Effects.{opening, heard, fresh_chunk}
 use Rattle.swarm_model.specs.History.{replay}
 use Rattle.swarm_model.specs.Soundness.{IsSound, runner, claim_key}
-use Rattle.swarm_model.specs.Repeats.{HasClaimed, ClaimAgain, ClaimIsOver, HandshakeAgain, UpdateAgain, UpdateIsOver, ContactChanges, only_heard}
+use Rattle.swarm_model.specs.Reuse.{sent}
+use Rattle.swarm_model.specs.Repeats.{NewTaskAgain, UuidIsTaken, HasClaimed, ClaimAgain, ClaimIsOver, HandshakeAgain, UpdateAgain, UpdateIsOver, ContactChanges, only_heard}
 use Rattle.swarm_laws.proofs.Answering.{by_when}
 use Rattle.swarm_laws.proofs.Lists.{Found, find_is}
 use Rattle.swarm_laws.proofs.Tasks.{runner_final}
 use Rattle.swarm_laws.proofs.Claimed.{Key, key_in, claim_found}
-use Rattle.swarm_laws.proofs.Alike.{is_same}
+use Rattle.swarm_laws.proofs.Sent.{sent_found}
+use Rattle.swarm_laws.proofs.Alike.{is_same, task_self}
 use Rattle.swarm_laws.proofs.Sound.{sound_replay, opening_sound}
+
+-- a task that was sent under a uuid
+pub new_task_law : NewTaskAgain
+new_task_law settings log moment pass task c there not_empty =
+    let s : PoolState = replay (opening settings) log in
+    let o : IsSound s = sound_replay (opening settings) log (opening_sound settings) c in
+    let f : Found (is_task task.no) s.tasks task = find_is (is_task task.no) s.tasks task there in
+    rw (sent_found s o task f.among not_empty, task_self task.request) refl
+
+-- another one under that uuid
+pub uuid_taken_law : UuidIsTaken
+uuid_taken_law settings log moment pass task request c there not_empty same_uuid other =
+    let s : PoolState = replay (opening settings) log in
+    let o : IsSound s = sound_replay (opening settings) log (opening_sound settings) c in
+    let f : Found (is_task task.no) s.tasks task = find_is (is_task task.no) s.tasks task there in
+    rw (ap (sent s task.creator) same_uuid ∙ sent_found s o task f.among not_empty, other) refl
 
 -- a task that runs is not over
 not_over : (task : TaskRow) (n : ℕ) → runner task ≡ Some n → is_final task.state ≡ false

@@ -8,6 +8,7 @@ use Rattle.dimensions.specs.Alike.{same}
 use Rattle.dimensions.specs.Rules.{is_empty}
 use Rattle.task_props.specs.declared.new_task.NewTask.{NewTask}
 use Rattle.task_props.specs.declared.slice.Slice.{Slice}
+use Rattle.task_props.specs.Alike.{same_task}
 use Rattle.swarm_model.specs.declared.attempt.Attempt.{Attempt}
 use Rattle.swarm_model.specs.declared.attempt.Chunk.{Chunk}
 use Rattle.swarm_model.specs.declared.attempt.Last.{Last}
@@ -25,7 +26,8 @@ use Rattle.swarm_model.specs.declared.reply.Reply.TheVariants as reply
 use Rattle.swarm_model.specs.declared.answer.Told.{Told}
 use Rattle.swarm_model.specs.Finding.{is_final, bot_named}
 use Rattle.swarm_model.specs.Slices.{admit, current_slice, first}
-use Rattle.swarm_model.specs.Answers.{tell, answers, accepted, accepted_at, tasks_full, named_task, result_of, may, denied, cancel, cancel_row, stop, greet, handshake, poll, busy, run_on, run_from, claim, claim_again, claimed, claims, unfit_of, unfit_told, event, is_kept, updates, report, report_again, report_on, not_claimant, update, update_row, terminate}
+use Rattle.swarm_model.specs.Reuse.{sent, reuse}
+use Rattle.swarm_model.specs.Answers.{tell, answers, again, takes_over, accepted, accepted_at, tasks_full, named_task, result_of, may, denied, cancel, cancel_row, stop, greet, handshake, poll, busy, run_on, run_from, claim, claim_again, claimed, claims, unfit_of, unfit_told, event, is_kept, updates, report, report_again, report_on, not_claimant, update, update_row, terminate}
 use Rattle.swarm_model.specs.Kept.{Kept, ShowsVerdict}
 use Rattle.swarm_model.specs.Verdicts.{verdict}
 use Rattle.swarm_laws.proofs.Answering.{by_when, by_map, by_with}
@@ -91,7 +93,9 @@ module _ (kept : Kept) (tells : (number try_no : ℕ) (task : TaskRow) → named
   -- so each answer shows what the log tells
   pub tell_shows : (who : List ℕ) (m : ℕ) (request : Request) → Shows (tell s who m request)
   tell_shows who m (ask.New request) =
-      by_when Shows (nat_le s.settings.most_tasks (length s.tasks)) (tasks_full s) (accepted s who request) (λ t. tt) (λ t. accepted_shows who request (admit s request.task_slices 0))
+      by_map Shows (again request) (sent s who request.request_uuid) _ (λ row e. cond_both (same_task row.request request) _ _ Shows (λ t. tt) (λ t. tt)) (λ unsent.
+      by_when Shows (nat_le s.settings.most_tasks (length s.tasks)) (tasks_full s) _ (λ t. tt) (λ t.
+      by_map Shows (takes_over s who request) (reuse s m request.task_slices) (accepted s who request) (λ found e. tt) (λ e. accepted_shows who request (admit s request.task_slices 0))))
   tell_shows who m (ask.Cancel number try_no kill) = by_with Shows (named_task s number try_no) rule.NoTask (cancel s who kill) tt (λ task e. cancel_shows who kill task)
   tell_shows who m (ask.Result number try_no) = by_with Shows (named_task s number try_no) rule.NoTask (result_of s) tt (λ task e. tells number try_no task e)
   tell_shows who m (ask.Count state) = tt

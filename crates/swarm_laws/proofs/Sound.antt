@@ -10,7 +10,7 @@ use Rattle.swarm_model.specs.declared.deadline.Deadline.{Deadline}
 use Rattle.swarm_model.specs.declared.entry.Entry.{Entry}
 use Rattle.swarm_model.specs.Effects.{opening, after}
 use Rattle.swarm_model.specs.History.{replay, IsCaused, MayFollow}
-use Rattle.swarm_model.specs.Soundness.{IsSound, IsSoundTask, IsSoundBot, Agree, AreClaimedApart, StaysSound}
+use Rattle.swarm_model.specs.Soundness.{IsSound, IsSoundTask, IsSoundBot, Agree, AreClaimedApart, AreSentApart, StaysSound}
 use Rattle.swarm_laws.proofs.Finds.{finds}
 use Rattle.swarm_laws.proofs.Tasks.{tasks_sound}
 use Rattle.swarm_laws.proofs.Bots.{bots_sound}
@@ -18,6 +18,7 @@ use Rattle.swarm_laws.proofs.Runs.{runs_agree}
 use Rattle.swarm_laws.proofs.Moments.{ahead_after}
 use Rattle.swarm_laws.proofs.Numbers.{tasks_numbered, bots_numbered}
 use Rattle.swarm_laws.proofs.Claimed.{claims_apart}
+use Rattle.swarm_laws.proofs.Sent.{all_sent_apart}
 
 -- the parts together
 pub sound_after : (s : PoolState) (e : Entry) → IsSound s → MayFollow s e → IsSound (after s e)
@@ -32,6 +33,7 @@ sound_after s e o follows =
       ahead = ahead_after s e o follows;
       runs = runs_agree s e o follows;
       claims = claims_apart s e o follows;
+      sent = all_sent_apart s e o follows;
     }
 
 -- so does every log
@@ -51,6 +53,7 @@ opening_sound settings =
       ahead = All-nil (λ (d : Deadline). 0 ≤ d.moment);
       runs = All-nil (λ (bot : BotRow). All (Agree bot) []);
       claims = All-nil (λ (task : TaskRow). All (AreClaimedApart task) []);
+      sent = All-nil (λ (task : TaskRow). All (AreSentApart task) []);
     }
 
 -- so every pool is

@@ -7,6 +7,7 @@ use Rattle.dimensions.specs.declared.bot_dims.BotDims.{BotDims}
 use Rattle.dimensions.specs.Alike.{same}
 use Rattle.dimensions.specs.Rules.{is_empty}
 use Rattle.task_props.specs.declared.new_task.NewTask.{NewTask}
+use Rattle.task_props.specs.Alike.{same_task}
 use Rattle.swarm_model.specs.declared.attempt.Attempt.{Attempt}
 use Rattle.swarm_model.specs.declared.attempt.Chunk.{Chunk}
 use Rattle.swarm_model.specs.declared.attempt.Last.{Last}
@@ -28,7 +29,8 @@ use Rattle.swarm_model.specs.Finding.{is_final, task_of, bot_of, bot_named, is_c
 use Rattle.swarm_model.specs.Words.{is_between}
 use Rattle.swarm_model.specs.Fits.{fits, fits_task}
 use Rattle.swarm_model.specs.Slices.{admit, first}
-use Rattle.swarm_model.specs.Answers.{tell, accepted, accepted_at, tasks_full, named_task, result_of, greet, handshake, poll, polls, busy, run_on, claim, claim_again, claimed, claims, nap, run, unfit_of, unfit_told, event, terminate, answers, dims_unless, text_unless, with, has_try, if_named, may, denied, cancel, cancel_row, stop, is_killed, is_kept, updates, report, report_again, report_on, not_claimant, update, update_row}
+use Rattle.swarm_model.specs.Reuse.{sent, reuse}
+use Rattle.swarm_model.specs.Answers.{tell, again, takes_over, accepted, accepted_at, tasks_full, named_task, result_of, greet, handshake, poll, polls, busy, run_on, claim, claim_again, claimed, claims, nap, run, unfit_of, unfit_told, event, terminate, answers, dims_unless, text_unless, with, has_try, if_named, may, denied, cancel, cancel_row, stop, is_killed, is_kept, updates, report, report_again, report_on, not_claimant, update, update_row}
 use Rattle.swarm_model.specs.Entries.{asks, is_deadline, by_nobody, cancel_of, update_of, poll_of, claim_of, event_of, terminate_of, handshake_of, Asked}
 use Rattle.swarm_model.specs.Soundness.{IsSound}
 use Rattle.swarm_laws.proofs.Lists.{Found, find_is}
@@ -213,7 +215,14 @@ module _ (s : PoolState) (o : IsSound s) (who : List ℕ) (m number try_no : ℕ
 -- what an answer adds stands for the request, or for another one that adds it
 pub tell_stands : (s : PoolState) (who : List ℕ) (m : ℕ) (request : Request) → IsSound s → IsTrue (fits s.settings request) → Stands s who m request (tell s who m request)
 tell_stands s who m (ask.New task) o may =
-    by_when (Stands s who m (ask.New task)) (nat_le s.settings.most_tasks (length s.tasks)) (tasks_full s) (accepted s who task) (λ t. tt) (λ t. new_stands s who m task (admit s task.task_slices 0))
+    by_map P (again task) (sent s who task.request_uuid) _ (λ row e. cond_both (same_task row.request task) _ _ P (λ t. tt) (λ t. tt)) (λ unsent.
+    by_when P (nat_le s.settings.most_tasks (length s.tasks)) (tasks_full s) _ (λ t. tt) (λ t.
+    by_map P (takes_over s who task) (reuse s m task.task_slices) (accepted s who task)
+    (λ found e. inl (record { asked = record { who = who; request = ask.New task }; is = refl; same_request = refl; alike = refl; no_deadline = refl })) (λ e.
+    new_stands s who m task (admit s task.task_slices 0))))
+  where
+    P : Told → Type 0
+    P = Stands s who m (ask.New task)
 tell_stands s who m (ask.Cancel number try_no kill) o may =
     by_with (Stands s who m (ask.Cancel number try_no kill)) (named_task s number try_no) rule.NoTask (cancel s who kill) tt
     (λ row e. cancel_stands s o who m number try_no kill may row (named_is s number try_no row e))

@@ -1,6 +1,8 @@
 -- The worked logs, entry by entry.
 use Rattle.std.proofs.Common.{refl, lit≤}
-use Rattle.swarm_laws.specs.Worked.{ItHappens, RunsEnd}
+use Rattle.properties.specs.Canonical.{hash}
+use Rattle.swarm_laws.specs.Worked.{ItHappens, RunsEnd, OutcomeIsTaken, repeatable}
+use Rattle.swarm_laws.proofs.Alike.{same_self}
 
 -- each entry may follow those before it
 pub it_happens : ItHappens
@@ -40,6 +42,22 @@ runs_end = (
             ),
           ),
         ),
+      ),
+    ),
+  ),
+)
+
+-- the last one takes the outcome, since its slice has the hash of the first one's
+pub outcome_is_taken : OutcomeIsTaken
+outcome_is_taken = (
+  record { not_before = lit≤ tt; not_late = lit≤ tt; has_cause = record { nothing_due = refl; may_ask = refl; gives = refl } },
+  (
+    record { not_before = lit≤ tt; not_late = lit≤ tt; has_cause = record { nothing_due = refl; may_ask = refl; gives = refl } },
+    (
+      record { not_before = lit≤ tt; not_late = lit≤ tt; has_cause = record { nothing_due = refl; may_ask = refl; gives = refl } },
+      (
+        record { not_before = lit≤ tt; not_late = lit≤ tt; has_cause = record { nothing_due = refl; may_ask = refl; gives = refl } },
+        (record { not_before = lit≤ tt; not_late = lit≤ tt; has_cause = record { nothing_due = refl; may_ask = refl; gives = rw (same_self (hash repeatable)) refl } }, tt),
       ),
     ),
   ),

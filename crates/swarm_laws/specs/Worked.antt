@@ -1,12 +1,14 @@
 -- Logs that a pool may have.
-use Rattle.std.specs.Prelude.{List, [], ◌∷◌, Some, None, pos, codes}
+use Rattle.std.specs.Prelude.{true, List, [], ◌∷◌, Some, None, pos, codes}
 use Rattle.dimensions.specs.declared.bot_dims.BotDims.{BotDims}
-use Rattle.swarm_model.specs.declared.task_state.TaskState.TheVariants.{Pending}
+use Rattle.properties.specs.declared.properties.Properties.{Properties}
+use Rattle.task_props.specs.declared.new_task.NewTask.{NewTask}
+use Rattle.swarm_model.specs.declared.task_state.TaskState.TheVariants.{Pending, Completed}
 use Rattle.swarm_model.specs.declared.entry.Entry.{Entry}
 use Rattle.swarm_model.specs.declared.entry.EntryKind.TheVariants as kind
 use Rattle.swarm_model.specs.Answers.{entry_at}
 use Rattle.swarm_model.specs.Effects.{opening}
-use Rattle.swarm_model.specs.Examples.{settings, small_task}
+use Rattle.swarm_model.specs.Examples.{settings, small_task, properties}
 use Rattle.swarm_model.specs.EndExamples.{exits}
 use Rattle.swarm_model.specs.History.{IsCaused}
 
@@ -44,3 +46,25 @@ ended_log =
 -- such a log, too
 abbrev pub RunsEnd : Type 0
 RunsEnd = IsCaused (opening settings) ended_log
+
+abbrev pub repeatable : Properties
+repeatable = record properties { idempotent = true }
+
+-- a small task whose run may stand for others
+abbrev pub repeatable_task : NewTask
+repeatable_task =
+    record (small_task 600) { task_slices = (record { expiration_secs = 600; wait_for_capacity = true; properties = repeatable }) ∷ [] }
+
+-- it runs and reports 0, and is sent once more by another caller
+abbrev pub taken_log : List Entry
+taken_log =
+    entry_at 1000 0 (kind.New 1 (codes "ana") repeatable_task Pending 0 None)
+    ∷ entry_at 1001 0 (kind.Handshake 1 (codes "bot-1") (codes "session-1") small_dims [])
+    ∷ entry_at 1002 0 (kind.Claim 1 1 (codes "claim-1"))
+    ∷ entry_at 1005 0 (kind.Update 1 1 1 None (Some (exits (pos 0))))
+    ∷ entry_at 1006 0 (kind.New 2 (codes "ben") repeatable_task Completed 0 (Some 1))
+    ∷ []
+
+-- and such a log
+abbrev pub OutcomeIsTaken : Type 0
+OutcomeIsTaken = IsCaused (opening settings) taken_log

@@ -1,8 +1,9 @@
 ghost use Rattle.std.specs.Prelude.{◌≡◌};
-ghost use Rattle.swarm_laws.specs.Worked.{ItHappens, RunsEnd, ended_log};
-ghost use Rattle.swarm_model.specs.declared.task_state.TaskState.TheVariants.{Canceled, Killed};
+ghost use Rattle.swarm_laws.specs.Worked.{ItHappens, OutcomeIsTaken, RunsEnd, ended_log, taken_log};
+ghost use Rattle.swarm_model.specs.declared.task_state.TaskState.TheVariants.{Canceled, Completed, Killed};
 ghost use Rattle.swarm_model.specs.Claims.{ClaimsAreRight};
-ghost use Rattle.swarm_model.specs.Repeats.{ClaimAgain, ClaimIsOver, ContactChanges, HandshakeAgain, UpdateAgain, UpdateIsOver};
+ghost use Rattle.swarm_model.specs.Repeats.{ClaimAgain, ClaimIsOver, ContactChanges, HandshakeAgain, NewTaskAgain, UpdateAgain, UpdateIsOver, UuidIsTaken};
+ghost use Rattle.swarm_model.specs.ReuseLaw.{OutcomesAreTaken};
 ghost use Rattle.swarm_model.specs.Soundness.{StaysSound};
 ghost use Rattle.swarm_model.specs.Verdicts.{FinalsStay, TallyAddsUp, TallyCountsVerdicts, VerdictsAreStates, verdict};
 
@@ -34,15 +35,26 @@ pub fn tally_counts_verdicts()
     ensures adds_up { TallyAddsUp }
 {}
 
-/// A claim, a handshake or a report that is sent again says only that the bot was heard; a claim
-/// whose attempt has ended is refused, and so is a report of it that is not the one that ended it.
+/// A task that is sent again under its uuid is told once more and adds nothing; another one under
+/// that uuid is refused. A claim, a handshake or a report that is sent again says only that the bot
+/// was heard; a claim whose attempt has ended is refused, and so is a report of it that is not the
+/// one that ended it.
 pub fn repeats_act_once()
+    ensures new_task { NewTaskAgain }
+    ensures uuid_taken { UuidIsTaken }
     ensures claim { ClaimAgain }
     ensures claim_over { ClaimIsOver }
     ensures handshake { HandshakeAgain }
     ensures update { UpdateAgain }
     ensures update_over { UpdateIsOver }
     ensures contact { ContactChanges }
+{}
+
+/// A task that took the outcome of another completed without a run, and that other is an earlier
+/// task of the pool, which ran, reported 0, and is at a slice that may stand for others and has the
+/// hash of the new task's slice.
+pub fn outcomes_are_taken_over()
+    ensures { OutcomesAreTaken }
 {}
 
 /// A log in which a bot comes, claims a task, is heard again, and is lost with its run: it is one
@@ -57,4 +69,10 @@ pub fn a_run_ends()
     ensures happens { RunsEnd }
     ensures killed { verdict ended_log 1 ≡ Killed }
     ensures canceled { verdict ended_log 2 ≡ Canceled }
+{}
+
+/// So is one in which a task takes the outcome of another, which ran and reported 0.
+pub fn an_outcome_is_taken()
+    ensures happens { OutcomeIsTaken }
+    ensures completed { verdict taken_log 2 ≡ Completed }
 {}

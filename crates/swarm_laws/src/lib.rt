@@ -6,15 +6,17 @@
 //! follow keeps it so. `Following`: where nothing is due, what an answer adds may follow the log,
 //! and so may what is due. `Finds`: what an entry that may follow finds in the pool, which kinds of
 //! entries come at all, and that a report that comes ends its run and brings no output. `Rows`: what
-//! such a report does to the rows. `Keeping`: for a pool that keeps its log, that results and the
-//! tally show what the log tells, that a claim is right, and that rows that have ended stay. So a
-//! machine that adds only what is due and what its answers say keeps a legal log, and may count on
-//! sound rows. The crate has no code that runs.
+//! such a report does to the rows. `Sent`: the task that a caller sent under a uuid is found by both.
+//! `Keeping`: for a pool that keeps its log, that results and the tally show what the log tells,
+//! that a claim is right, and that rows that have ended stay. So a machine that adds only what is
+//! due and what its answers say keeps a legal log, and may count on sound rows. The crate has no
+//! code that runs.
 #![tactic(auto)]
 
 mod laws;
 
 pub use laws::{
-    a_claim_happens, a_run_ends, claims_are_right, finals_stay, repeats_act_once, stays_sound,
-    tally_counts_verdicts, verdicts_are_states,
+    a_claim_happens, a_run_ends, an_outcome_is_taken, claims_are_right, finals_stay,
+    outcomes_are_taken_over, repeats_act_once, stays_sound, tally_counts_verdicts,
+    verdicts_are_states,
 };

@@ -16,6 +16,7 @@ pub mod History
 pub mod Soundness
 pub mod Claims
 pub mod Repeats
+pub mod ReuseLaw
 pub mod Verdicts
 pub mod Points
 pub mod Kept
