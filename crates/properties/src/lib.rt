@@ -6,6 +6,7 @@
 #![tactic(auto)]
 
 mod cache;
+mod canonical;
 mod digest;
 mod file;
 mod properties;
