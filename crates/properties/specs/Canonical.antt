@@ -1,5 +1,5 @@
 -- The canonical text of properties: compact JSON, the keys in order of bytes, and its hash.
-use Rattle.std.specs.Prelude.{◌≡◌, ℕ, ◌<◌, List, [], ◌∷◌, map, codes}
+use Rattle.std.specs.Prelude.{◌≡◌, ℕ, ◌<◌, ◌^◌, List, [], ◌∷◌, map, codes}
 use Rattle.std.specs.List.{All}
 use Rattle.hex.specs.Hex.{encode_lower}
 use Rattle.serde_json.specs.Data.{Data, number, unsigned, boolean, string, array, object, Members, member, no_members}
@@ -59,6 +59,16 @@ hash p = sha256 (canonical p)
 abbrev pub HasByteDigests : Properties → Type 0
 HasByteDigests p = All (λ file. All (λ byte. byte < 256) file.digest) p.inputs
 
--- a canonical text is that of one properties alone
+-- the numbers fit their 32 bits
+abbrev pub HasWords : Properties → Type 0
+HasWords p =
+    (p.execution_timeout_secs < 2 ^ 32)
+    × (p.io_timeout_secs < 2 ^ 32)
+    × (p.grace_period_secs < 2 ^ 32)
+    × All (λ file. file.size < 2 ^ 32) p.inputs
+
+-- a canonical text is that of one properties alone, among those that the code can hold
 abbrev pub CanonicalTells : Type 0
-CanonicalTells = (a b : Properties) → HasByteDigests a → HasByteDigests b → canonical a ≡ canonical b → a ≡ b
+CanonicalTells =
+    (a b : Properties) → HasByteDigests a → HasByteDigests b → HasWords a → HasWords b
+    → canonical a ≡ canonical b → a ≡ b

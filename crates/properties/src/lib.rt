@@ -6,11 +6,14 @@
 #![tactic(auto)]
 
 mod cache;
+mod canonical;
 mod digest;
 mod file;
+mod laws;
 mod properties;
 
 pub use cache::Cache;
 pub use digest::Digest;
 pub use file::File;
+pub use laws::a_canonical_text_is_of_one_properties;
 pub use properties::Properties;
