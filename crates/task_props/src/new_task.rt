@@ -1,8 +1,10 @@
+use crate::broken::{fault_at, first_broken_field};
 use crate::field_rules::{
     MOST_SLICES, count_rule, name_rule, priority_rule, tolerance_rule, uuid_rule,
 };
+use crate::reading::read_task;
 use crate::slices::{pool_of, slices_rule};
-use crate::{PropFault, RawTask, Slice};
+use crate::{PropFault, RawTask, Slice, TaskField};
 use dimensions::{Seq, Text, TryCopy};
 use std::alloc::{AllocError, Global};
 
@@ -32,7 +34,14 @@ impl NewTask {
         ensures checked { IfOk result (λ task. is_checked task ≡ true) }
         ensures broken { IfErr result (IsFaultOf (first_broken_task raw)) }
     {
-        Err(PropFault::Memory)
+        if let Some((field, rule)) = first_broken_field(&raw) {
+            return Err(fault_at(alloc, field, rule));
+        }
+        let task = read_task(alloc, raw)?;
+        match slices_rule(task.task_slices.as_slice()) {
+            Some(rule) => Err(fault_at(alloc, TaskField::TaskSlices, rule)),
+            None => Ok(task),
+        }
     }
 
     /// Whether no rule is broken, neither on a field nor on the slices as a whole.
