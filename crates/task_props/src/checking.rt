@@ -1,7 +1,7 @@
 //! Which lists of a slice have been checked.
 ghost use Rattle.std.specs.Prelude.{◌≡◌};
 ghost use Rattle.std.specs.List.{list_all, list_any};
-ghost use Rattle.dimensions.specs.Order.{is_rising_by, is_text_below};
+ghost use Rattle.dimensions.specs.Order.{is_rising_by};
 ghost use Rattle.task_props.specs.ItemRules.{has_path as spec_has_path};
 ghost use Rattle.task_props.specs.Checked.{is_env as spec_is_env, are_caches as spec_are_caches, are_outputs as spec_are_outputs, has_lists as spec_has_lists, has_times as spec_has_times, are_sound as spec_are_sound};
 ghost use Rattle.task_props.specs.Sorted.{is_pair as spec_is_pair, is_cache as spec_is_cache, is_path as spec_is_path, is_key_below, is_name_below, has_path_twice};
@@ -9,7 +9,7 @@ ghost use Rattle.task_props.specs.Sorted.{is_pair as spec_is_pair, is_cache as s
 use crate::field_rules::{broken_command, grace_rule, timeout_rule};
 use crate::item_rules::{cache_name_rule, env_key_rule, env_value_rule, most_rule};
 use crate::paths::path_rule;
-use dimensions::Text;
+use dimensions::{Text, is_rising};
 use properties::{Cache, Properties};
 
 fn is_pair(pair: &(Text, Text)) -> bool
@@ -78,7 +78,7 @@ fn has_rising_names(caches: &[Cache]) -> bool
     true
 }
 
-fn has_path(caches: &[Cache], path: &Text) -> bool
+pub(crate) fn has_path(caches: &[Cache], path: &Text) -> bool
     ensures { result ≡ list_any (spec_has_path path.now) caches.now }
 {
     caches.iter().any(|cache| cache.path == *path)
@@ -110,25 +110,10 @@ fn are_paths(paths: &[Text]) -> bool
     paths.iter().all(|path| is_path(path))
 }
 
-/// Whether each path is below the next.
-#[tactic(auto, using(crate::proofs::Rising::is_rising_short))]
-fn are_rising(paths: &[Text]) -> bool
-    ensures { result ≡ is_rising_by is_text_below paths.now }
-{
-    let mut left = paths;
-    while left.len() >= 2 {
-        if !left[0].cmp(&left[1]).is_lt() {
-            return false;
-        }
-        left = &left[1..];
-    }
-    true
-}
-
 fn are_outputs(paths: &[Text]) -> bool
     ensures { result ≡ spec_are_outputs paths.now }
 {
-    paths.len() <= 64 && are_paths(paths) && are_rising(paths)
+    paths.len() <= 64 && are_paths(paths) && is_rising(paths)
 }
 
 fn has_lists(properties: &Properties) -> bool

@@ -5,14 +5,18 @@
 //! The crate stands on `properties` and `dimensions`, and hands on the types of `properties`.
 #![tactic(auto)]
 
+mod broken;
+mod broken_items;
 mod checking;
 mod field_rules;
+mod item_rule;
 mod item_rules;
 mod new_task;
 mod paths;
 mod prop_fault;
 mod prop_rule;
 mod raw_task;
+mod reading;
 mod slice;
 mod slices;
 mod task_field;

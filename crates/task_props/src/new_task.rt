@@ -1,8 +1,10 @@
+use crate::broken::{fault_at, first_broken_field};
 use crate::field_rules::{
     MOST_SLICES, count_rule, name_rule, priority_rule, tolerance_rule, uuid_rule,
 };
+use crate::reading::read_task;
 use crate::slices::{pool_of, slices_rule};
-use crate::{PropFault, RawTask, Slice};
+use crate::{PropFault, RawTask, Slice, TaskField};
 use dimensions::{Seq, Text, TryCopy};
 use std::alloc::{AllocError, Global};
 
@@ -32,7 +34,14 @@ impl NewTask {
         ensures checked { IfOk result (λ task. is_checked task ≡ true) }
         ensures broken { IfErr result (IsFaultOf (first_broken_task raw)) }
     {
-        Err(PropFault::Memory)
+        if let Some((field, rule)) = first_broken_field(&raw) {
+            return Err(fault_at(alloc, field, rule));
+        }
+        let task = read_task(alloc, raw)?;
+        match slices_rule(task.task_slices.as_slice()) {
+            Some(rule) => Err(fault_at(alloc, TaskField::TaskSlices, rule)),
+            None => Ok(task),
+        }
     }
 
     /// Whether no rule is broken, neither on a field nor on the slices as a whole.
@@ -80,11 +89,63 @@ impl TryCopy for NewTask {
 #[cfg(test)]
 mod tests {
     use super::*;
-    use crate::{RawProperties, RawSlice};
+    use crate::{Cache, RawProperties, RawSlice};
     use std::test::Fail;
 
     fn pair(alloc: Global, key: &str, value: &str) -> Result<(Text, Text), AllocError> {
         Ok((Text::from_str(alloc, key)?, Text::from_str(alloc, value)?))
+    }
+
+    fn pairs(alloc: Global, list: &[(&str, &str)]) -> Result<Seq<(Text, Text)>, Fail> {
+        let mut all = Vec::new(alloc);
+        for (key, value) in list {
+            all.push(pair(alloc, *key, *value)?)?;
+        }
+        Ok(Seq::from_vec(all))
+    }
+
+    fn texts(alloc: Global, list: &[&str]) -> Result<Seq<Text>, Fail> {
+        let mut all = Vec::new(alloc);
+        for text in list {
+            all.push(Text::from_str(alloc, *text)?)?;
+        }
+        Ok(Seq::from_vec(all))
+    }
+
+    fn caches(alloc: Global, list: &[(&str, &str)]) -> Result<Seq<Cache>, Fail> {
+        let mut all = Vec::new(alloc);
+        for (name, path) in list {
+            all.push(Cache {
+                name: Text::from_str(alloc, *name)?,
+                path: Text::from_str(alloc, *path)?,
+            })?;
+        }
+        Ok(Seq::from_vec(all))
+    }
+
+    /// Properties that run `true` on this os of the pool, and break no rule.
+    fn properties(alloc: Global, pool: &str, os: &str) -> Result<RawProperties, Fail> {
+        Ok(RawProperties {
+            command: texts(alloc, &["true"])?,
+            env: pairs(alloc, &[("PATH", "/bin"), ("HOME", "")])?,
+            dimensions: pairs(alloc, &[("pool", pool), ("os", os)])?,
+            caches: caches(alloc, &[("go", "cache/go"), ("git", "cache/git")])?,
+            outputs: texts(alloc, &["out/b", "out/a"])?,
+            execution_timeout_secs: 604_800,
+            io_timeout_secs: 0,
+            grace_period_secs: 30,
+            idempotent: true,
+        })
+    }
+
+    fn task_with(alloc: Global, task_slices: Vec<RawSlice>) -> RawTask {
+        RawTask {
+            name: Text::new(alloc),
+            priority: 255,
+            bot_ping_tolerance_secs: 0,
+            request_uuid: Text::new(alloc),
+            task_slices: Seq::from_vec(task_slices),
+        }
     }
 
     /// A task with a slice for each of these pairs of pool and os. Only the first slice waits.
@@ -92,23 +153,14 @@ mod tests {
         let mut task_slices = Vec::new(alloc);
         let mut expiration_secs = 600;
         for (pool, os) in slices {
-            let pairs = vec![in alloc; pair(alloc, "pool", *pool)?, pair(alloc, "os", *os)?]?;
             task_slices.push(RawSlice {
                 expiration_secs,
                 wait_for_capacity: expiration_secs == 600,
-                properties: RawProperties {
-                    command: Seq::from_vec(vec![in alloc; Text::from_str(alloc, "true")?]?),
-                    dimensions: Seq::from_vec(pairs),
-                },
+                properties: properties(alloc, *pool, *os)?,
             })?;
             expiration_secs = 60;
         }
-        Ok(RawTask {
-            name: Text::new(alloc),
-            priority: 255,
-            bot_ping_tolerance_secs: 0,
-            task_slices: Seq::from_vec(task_slices),
-        })
+        Ok(task_with(alloc, task_slices))
     }
 
     #[test]
@@ -123,6 +175,18 @@ mod tests {
         assert_eq!(rt; task.bot_ping_tolerance_secs, 1200);
         assert_eq!(rt; task.pool(), "default");
         assert!(rt; task.try_copy(alloc)? == task);
+        Ok(())
+    }
+
+    #[test]
+    fn sorts_the_lists_of_a_slice(rt: HostRuntime) -> Result<(), Fail> {
+        let alloc = rt.alloc();
+        let task = NewTask::check(alloc, raw(alloc, &[("default", "Mac")])?)?;
+        let sorted = &task.task_slices.as_slice()[0].properties;
+        assert!(rt; sorted.env == pairs(alloc, &[("HOME", ""), ("PATH", "/bin")])?);
+        assert!(rt; sorted.caches == caches(alloc, &[("git", "cache/git"), ("go", "cache/go")])?);
+        assert!(rt; sorted.outputs == texts(alloc, &["out/a", "out/b"])?);
+        assert!(rt; task.is_checked());
         Ok(())
     }
 
@@ -161,6 +225,83 @@ mod tests {
         ] {
             let checked = NewTask::check(alloc, raw(alloc, &slices)?);
             assert_eq!(rt; told(alloc, checked)?.as_str(), wanted);
+        }
+        Ok(())
+    }
+
+    /// What is told of a task with one slice of these properties, and of this uuid.
+    fn told_of(alloc: Global, uuid: &str, properties: RawProperties) -> Result<String, Fail> {
+        let slices = vec![in alloc;
+            RawSlice {
+                expiration_secs: 60,
+                wait_for_capacity: false,
+                properties,
+            },
+        ]?;
+        let mut raw = task_with(alloc, slices);
+        raw.request_uuid = Text::from_str(alloc, uuid)?;
+        told(alloc, NewTask::check(alloc, raw))
+    }
+
+    #[test]
+    fn tells_broken_pairs_of_an_environment(rt: HostRuntime) -> Result<(), Fail> {
+        let alloc = rt.alloc();
+        for (key, value, wanted) in [
+            ("A", "", "checked"),
+            ("B", "", "env.1.key repeated"),
+            ("", "", "env.1.key count"),
+            ("1A", "", "env.1.key grammar"),
+            ("A-B", "", "env.1.key grammar"),
+            ("A", "a\0", "env.1.value grammar"),
+        ] {
+            let mut broken = properties(alloc, "default", "Mac")?;
+            broken.env = pairs(alloc, &[("B", "1"), (key, value)])?;
+            let path = told_of(alloc, "", broken)?;
+            assert!(rt; path.as_str().ends_with(wanted));
+        }
+        Ok(())
+    }
+
+    #[test]
+    fn tells_broken_caches_and_outputs(rt: HostRuntime) -> Result<(), Fail> {
+        let alloc = rt.alloc();
+        for (name, path, output, wanted) in [
+            ("a", "a/..b", "b", "checked"),
+            ("go", "b", "b", "caches.1.name repeated"),
+            ("Go", "b", "b", "caches.1.name grammar"),
+            ("a", "go", "b", "caches.1.path repeated"),
+            ("a", "a/../b", "b", "caches.1.path grammar"),
+            ("a", "/a", "b", "caches.1.path grammar"),
+            ("a", "a\\b", "b", "caches.1.path grammar"),
+            ("a", "b", "", "outputs.1 count"),
+            ("a", "b", "./a", "outputs.1 grammar"),
+            ("a", "b", "out", "outputs.1 repeated"),
+        ] {
+            let mut broken = properties(alloc, "default", "Mac")?;
+            broken.caches = caches(alloc, &[("go", "go"), (name, path)])?;
+            broken.outputs = texts(alloc, &["out", output])?;
+            let path = told_of(alloc, "", broken)?;
+            assert!(rt; path.as_str().ends_with(wanted));
+        }
+        Ok(())
+    }
+
+    #[test]
+    fn tells_broken_uuids_and_times(rt: HostRuntime) -> Result<(), Fail> {
+        let alloc = rt.alloc();
+        for (uuid, execution, io, grace, wanted) in [
+            ("a-1", 0, 0, 0, "checked"),
+            ("a_1", -1, 0, 0, "request_uuid grammar"),
+            ("", -1, -1, 0, "execution_timeout_secs range"),
+            ("", 0, 604_801, -1, "io_timeout_secs range"),
+            ("", 0, 0, 3601, "grace_period_secs range"),
+        ] {
+            let mut broken = properties(alloc, "default", "Mac")?;
+            broken.execution_timeout_secs = execution;
+            broken.io_timeout_secs = io;
+            broken.grace_period_secs = grace;
+            let path = told_of(alloc, uuid, broken)?;
+            assert!(rt; path.as_str().ends_with(wanted));
         }
         Ok(())
     }

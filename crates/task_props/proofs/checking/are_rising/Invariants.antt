@@ -1,9 +1,0 @@
-use Rattle.std.proofs.Common.{◌≡◌, length}
-use Rattle.dimensions.specs.Order.{is_rising_by, is_text_below}
-use Rattle.task_props.proofs.checking.are_rising.Given as goal
-
-abbrev pub invariant-loop-left : goal.invariant-loop-left
-invariant-loop-left l = is_rising_by is_text_below l.left ≡ is_rising_by is_text_below l.paths
-
-abbrev pub decreases-loop-left : goal.decreases-loop-left
-decreases-loop-left l = length l.left
