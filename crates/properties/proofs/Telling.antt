@@ -1,7 +1,7 @@
 -- A canonical text tells its properties, field by field.
 use Rattle.std.proofs.Common.{◌≡◌, ℕ, ◌^◌, ◌<◌, ◌≤◌, List, [], ◌∷◌, Bool, false, decimal, refl, sym, ap, ap₂, ◌∙◌, arith}
 use Rattle.std.proofs.lemmas.Fmt.{decimal_injective}
-use Rattle.std.specs.Prelude.{Ok, zero, suc, slice_index, length, map, ⊤}
+use Rattle.std.specs.Prelude.{zero, suc, ⊤}
 use Rattle.std.specs.List.{All}
 use Rattle.json.specs.Json as json
 use Rattle.json.specs.Print.{IsNumber}
@@ -9,13 +9,12 @@ use Rattle.json.specs.Tree.{depth, HasNumbers}
 use Rattle.json.proofs.Printed.Decimals.{IsNumber-decimal}
 use Rattle.hex.specs.Hex.{IsBytes, decode_of, encode_lower}
 use Rattle.hex.proofs.HexLemmas.{decode_of-encode_lower}
-use Rattle.serde_json.specs.Data.{Data, string}
-use Rattle.serde_json.specs.View.{items_of}
-use Rattle.serde_json.specs.Written.{outline, items_outline}
+use Rattle.serde_json.specs.Data.{string}
+use Rattle.serde_json.specs.Written.{outline}
 use Rattle.properties.specs.declared.cache.Cache.{Cache}
 use Rattle.properties.specs.declared.file.File.{File}
 use Rattle.properties.specs.declared.properties.Properties.{Properties}
-use Rattle.properties.specs.Canonical.{whole, pair_data, cache_data, input_data, last_members, canonical_data, canonical, HasByteDigests, HasWords, CanonicalTells}
+use Rattle.properties.specs.Canonical.{pair_data, cache_data, input_data, last_members, canonical_data, canonical, HasByteDigests, HasWords, CanonicalTells}
 use Rattle.properties.proofs.Outlines.{text_tells, list_tells, list_has_numbers, list_depth}
 
 -- ---- what each item tells

@@ -1,2 +1,3 @@
 pub mod Alike
 pub mod Canonical
+pub mod Examples

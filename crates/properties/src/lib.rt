@@ -8,12 +8,16 @@
 mod cache;
 mod canonical;
 mod digest;
+mod examples;
 mod file;
 mod laws;
 mod properties;
+#[cfg(test)]
+mod tests;
 
 pub use cache::Cache;
 pub use digest::Digest;
+pub use examples::{hash_of_a_small_task, text_of_a_small_task};
 pub use file::File;
 pub use laws::a_canonical_text_is_of_one_properties;
 pub use properties::Properties;
