@@ -7,9 +7,14 @@ use std::test::Fail;
 use swarm_cli::run;
 use swarm_http::{MemoryLink, StepClock};
 
+mod caches;
+mod environments;
+mod numbers;
 mod orders;
+mod outputs;
 mod properties;
 mod slices;
+mod uuids;
 
 const PATH: &str = "/prpc/swarming.v2.Tasks/NewTask";
 
@@ -101,13 +106,17 @@ impl Asked {
         }
     }
 
-    fn ask(&mut self, alloc: Global, body: &[u8], answer: Answer) -> Result<(), AllocError> {
+    fn send(&mut self, alloc: Global, body: &[u8]) -> Result<(), AllocError> {
         let size = body.len();
         let head = format!(in alloc;
             "POST {PATH} HTTP/1.1\r\nX-Swarming-Caller: ana\r\nContent-Length: {size}\r\n\r\n"
         )?;
         self.input.extend_from_slice(head.as_bytes())?;
-        self.input.extend_from_slice(body)?;
+        Ok(self.input.extend_from_slice(body)?)
+    }
+
+    fn ask(&mut self, alloc: Global, body: &[u8], answer: Answer) -> Result<(), AllocError> {
+        self.send(alloc, body)?;
         let reply = match answer {
             Answer::Accepted => {
                 self.accepted = self.accepted.saturating_add(1);
@@ -127,6 +136,27 @@ impl Asked {
             )?,
         };
         Ok(self.replies.push(reply)?)
+    }
+
+    /// A small task with these further properties, which break a rule at a field of theirs.
+    fn refuse(
+        &mut self,
+        alloc: Global,
+        more: &str,
+        field: &str,
+        rule: &str,
+    ) -> Result<(), AllocError> {
+        let body = with_more(alloc, more)?;
+        self.send(alloc, body.as_bytes())?;
+        let path = format!(in alloc; "task_slices.0.properties.{field}")?;
+        let reply = broken(alloc, path.as_str(), rule)?;
+        Ok(self.replies.push(reply)?)
+    }
+
+    /// A small task with these further properties, which break no rule.
+    fn accept(&mut self, alloc: Global, more: &str) -> Result<(), AllocError> {
+        let body = with_more(alloc, more)?;
+        self.ask(alloc, body.as_bytes(), Answer::Accepted)
     }
 
     /// Sends the requests, and compares each reply.
@@ -183,6 +213,12 @@ fn with_properties(alloc: Global, properties: &str) -> Result<String, AllocError
     format!(in alloc;
         r#"{{"task_slices":[{{"expiration_secs":600,"wait_for_capacity":true,"properties":{{{properties}}}}}]}}"#
     )
+}
+
+/// A small task with these further properties. Of a key that it has already the last value counts.
+fn with_more(alloc: Global, more: &str) -> Result<String, AllocError> {
+    let properties = format!(in alloc; r#""command":["true"],"dimensions":[{POOL}],{more}"#)?;
+    with_properties(alloc, properties.as_str())
 }
 
 fn with_command(alloc: Global, command: &str) -> Result<String, AllocError> {
@@ -290,9 +326,11 @@ fn names_and_other_fields_of_a_task(rt: HostRuntime) -> Result<(), Fail> {
         ),
         (r#""priority":256,"priority":null"#, Answer::Accepted),
         (r#""task_slices":5"#, Answer::Accepted),
-        // Fields that aren't served.
-        (r#""request_uuid":5"#, Answer::NotBuilt),
-        (r#""request_uuid":"""#, Answer::NotBuilt),
+        (
+            r#""request_uuid":5"#,
+            Answer::Breaks("request_uuid", "type"),
+        ),
+        (r#""request_uuid":"""#, Answer::Accepted),
         (r#""request_uuid":null"#, Answer::Accepted),
         (r#""bot_ping_tolerance_secs":60"#, Answer::Accepted),
         (r#""bot_ping_tolerance_secs":0"#, Answer::Accepted),
@@ -304,88 +342,6 @@ fn names_and_other_fields_of_a_task(rt: HostRuntime) -> Result<(), Fail> {
     ] {
         let body = format!(in alloc; r#"{{{members},"task_slices":[{SLICE}]}}"#)?;
         asked.ask(alloc, body.as_bytes(), answer)?;
-    }
-    asked.compare(&rt, alloc)
-}
-
-#[test]
-fn priorities(rt: HostRuntime) -> Result<(), Fail> {
-    let alloc = rt.alloc();
-    let mut asked = Asked::new(alloc);
-    for (priority, answer) in [
-        ("0", Answer::Accepted),
-        ("255", Answer::Accepted),
-        ("256", Answer::Breaks("priority", "range")),
-        ("-1", Answer::Breaks("priority", "range")),
-        ("null", Answer::Accepted),
-        // The greatest that is no float, and the next.
-        ("18446744073709551615", Answer::Breaks("priority", "range")),
-        ("18446744073709551616", Answer::Breaks("priority", "type")),
-        // The least that is no float, and the next.
-        ("-9223372036854775808", Answer::Breaks("priority", "range")),
-        ("-9223372036854775809", Answer::Breaks("priority", "type")),
-        ("-0", Answer::Breaks("priority", "type")),
-        ("1.0", Answer::Breaks("priority", "type")),
-        ("1e2", Answer::Breaks("priority", "type")),
-        ("true", Answer::Breaks("priority", "type")),
-        ("[]", Answer::Breaks("priority", "type")),
-        (r#""0""#, Answer::Accepted),
-        (r#""255""#, Answer::Accepted),
-        (r#""256""#, Answer::Breaks("priority", "range")),
-        (r#""-1""#, Answer::Breaks("priority", "range")),
-        (r#""0255""#, Answer::Breaks("priority", "type")),
-        (r#""-0""#, Answer::Breaks("priority", "type")),
-        (r#""-01""#, Answer::Breaks("priority", "type")),
-        (r#""+1""#, Answer::Breaks("priority", "type")),
-        (r#"" 1""#, Answer::Breaks("priority", "type")),
-        (r#""1.0""#, Answer::Breaks("priority", "type")),
-    ] {
-        let body = format!(in alloc; r#"{{"priority":{priority},"task_slices":[{SLICE}]}}"#)?;
-        asked.ask(alloc, body.as_bytes(), answer)?;
-    }
-    asked.compare(&rt, alloc)
-}
-
-#[test]
-fn expirations(rt: HostRuntime) -> Result<(), Fail> {
-    let alloc = rt.alloc();
-    let mut asked = Asked::new(alloc);
-    for (secs, rule) in [
-        ("0", "range"),
-        ("604801", "range"),
-        ("null", "range"),
-        ("-600", "range"),
-        ("9223372036854775808", "range"),
-        ("18446744073709551616", "type"),
-        ("600.0", "type"),
-        ("false", "type"),
-        (r#""""#, "type"),
-        (r#""-""#, "type"),
-        (r#""0""#, "range"),
-        (r#""604801""#, "range"),
-        // Texts of 20 digits and of 21.
-        (r#""18446744073709551616""#, "range"),
-        (r#""99999999999999999999""#, "range"),
-        (r#""100000000000000000000""#, "type"),
-        (r#""-99999999999999999999""#, "range"),
-        (r#""-100000000000000000000""#, "type"),
-    ] {
-        let slices = format!(in alloc;
-            r#"[{{"expiration_secs":{secs},"wait_for_capacity":true,{PROPERTIES}}}]"#
-        )?;
-        let body = with_slices(alloc, slices.as_str())?;
-        asked.ask(
-            alloc,
-            body.as_bytes(),
-            Answer::Breaks("task_slices.0.expiration_secs", rule),
-        )?;
-    }
-    for secs in ["1", "604800", r#""60""#, r#""604800""#] {
-        let slices = format!(in alloc;
-            r#"[{{"expiration_secs":{secs},"wait_for_capacity":true,{PROPERTIES}}}]"#
-        )?;
-        let body = with_slices(alloc, slices.as_str())?;
-        asked.ask(alloc, body.as_bytes(), Answer::Accepted)?;
     }
     asked.compare(&rt, alloc)
 }

@@ -53,7 +53,7 @@ fn the_first_of_two_broken_rules(rt: HostRuntime) -> Result<(), Fail> {
         ),
         (
             r#""request_uuid":5,"task_slices":[5]"#,
-            "task_slices.0",
+            "request_uuid",
             "type",
         ),
         // So do unknown keys, after the known ones of their object.
@@ -101,6 +101,93 @@ fn the_first_of_two_broken_rules(rt: HostRuntime) -> Result<(), Fail> {
     ] {
         let body = format!(in alloc; "{{{members}}}")?;
         asked.ask(alloc, body.as_bytes(), Answer::Breaks(field, rule))?;
+    }
+    asked.compare(&rt, alloc)
+}
+
+#[test]
+fn the_first_of_two_broken_fields(rt: HostRuntime) -> Result<(), Fail> {
+    let alloc = rt.alloc();
+    let mut asked = Asked::new(alloc);
+    for (members, field, rule) in [
+        (
+            r#""request_uuid":"_","bot_ping_tolerance_secs":59"#,
+            "bot_ping_tolerance_secs",
+            "range",
+        ),
+        (
+            r#""request_uuid":5,"bot_ping_tolerance_secs":"""#,
+            "bot_ping_tolerance_secs",
+            "type",
+        ),
+        (
+            r#""request_uuid":"_","task_slices":[]"#,
+            "request_uuid",
+            "grammar",
+        ),
+        (
+            r#""request_uuid":5,"task_slices":5"#,
+            "request_uuid",
+            "type",
+        ),
+        (
+            r#""request_uuid":"_","task_slices":null"#,
+            "task_slices",
+            "missing",
+        ),
+    ] {
+        let body = format!(in alloc; r#"{{"task_slices":[{SLICE}],{members}}}"#)?;
+        asked.ask(alloc, body.as_bytes(), Answer::Breaks(field, rule))?;
+    }
+    asked.compare(&rt, alloc)
+}
+
+/// What is missing, of a wrong type or unknown comes first, and then the other rules, each in the
+/// order of the fields.
+#[test]
+fn the_first_of_two_broken_properties(rt: HostRuntime) -> Result<(), Fail> {
+    let alloc = rt.alloc();
+    let mut asked = Asked::new(alloc);
+    for (more, field, rule) in [
+        (r#""env":5,"command":null"#, "command", "missing"),
+        (r#""dimensions":5,"env":[5]"#, "env.0", "type"),
+        (r#""caches":5,"dimensions":[5]"#, "dimensions.0", "type"),
+        (r#""outputs":5,"caches":[5]"#, "caches.0", "type"),
+        (r#""io_timeout_secs":"","outputs":[5]"#, "outputs.0", "type"),
+        (
+            r#""grace_period_secs":"","io_timeout_secs":"""#,
+            "io_timeout_secs",
+            "type",
+        ),
+        (r#""idempotent":0,"command":[]"#, "idempotent", "type"),
+        (r#""foo":1,"idempotent":0"#, "idempotent", "type"),
+        (r#""foo":1,"caches":[{"x":1}]"#, "caches.0.x", "unknown"),
+        (r#""foo":1,"grace_period_secs":-1"#, "foo", "unknown"),
+    ] {
+        asked.refuse(alloc, more, field, rule)?;
+    }
+    for (more, field, rule) in [
+        (r#""env":[{}],"command":[]"#, "command", "count"),
+        (r#""dimensions":[],"env":[{}]"#, "env.0.key", "count"),
+        (r#""caches":[{}],"dimensions":[]"#, "dimensions", "pool"),
+        (r#""outputs":[""],"caches":[{}]"#, "caches.0.name", "count"),
+        (
+            r#""execution_timeout_secs":-1,"outputs":[""]"#,
+            "outputs.0",
+            "count",
+        ),
+        (
+            r#""io_timeout_secs":-1,"execution_timeout_secs":604801"#,
+            "execution_timeout_secs",
+            "range",
+        ),
+        (
+            r#""grace_period_secs":-1,"io_timeout_secs":-1"#,
+            "io_timeout_secs",
+            "range",
+        ),
+    ] {
+        asked.refuse(alloc, more, field, rule)?;
     }
     asked.compare(&rt, alloc)
 }

@@ -1,8 +1,6 @@
 //! Commands, dimensions and other properties of a slice.
 
-use crate::tests::{
-    Answer, Asked, POOL, with_command, with_dimensions, with_pair, with_properties,
-};
+use crate::tests::{Answer, Asked, POOL, with_command, with_dimensions, with_more, with_pair};
 use std::test::Fail;
 
 #[test]
@@ -258,81 +256,71 @@ fn lists_of_dimensions(rt: HostRuntime) -> Result<(), Fail> {
 }
 
 #[test]
-fn other_properties(rt: HostRuntime) -> Result<(), Fail> {
+fn unknown_properties(rt: HostRuntime) -> Result<(), Fail> {
+    let alloc = rt.alloc();
+    let mut asked = Asked::new(alloc);
+    for (more, field) in [
+        (r#""foo":1"#, "foo"),
+        (r#""foo":[]"#, "foo"),
+        (r#""bar":null,"foo":1"#, "foo"),
+        (r#""Command":["a"]"#, "Command"),
+        (r#""name":"a""#, "name"),
+        (r#""ENV":[]"#, "ENV"),
+        (r#""":0"#, ""),
+        (r#""a\"\\b":0"#, r#"a\"\\b"#),
+        // The first of two in the order of bytes.
+        (r#""bar":1,"Foo":1"#, "Foo"),
+        (r#""é":1,"zoo":1"#, "zoo"),
+    ] {
+        asked.refuse(alloc, more, field, "unknown")?;
+    }
+    // Null is as absent, and of a key that comes twice the last value counts.
+    for more in [
+        r#""foo":null"#,
+        r#""foo":1,"foo":null"#,
+        r#""command":[],"command":["b"]"#,
+        r#""env":5,"env":null"#,
+    ] {
+        asked.accept(alloc, more)?;
+    }
+    asked.compare(&rt, alloc)
+}
+
+/// The one property that is served only where it is empty.
+#[test]
+fn inputs(rt: HostRuntime) -> Result<(), Fail> {
     let alloc = rt.alloc();
     let mut asked = Asked::new(alloc);
     for (more, answer) in [
-        // Keys that aren't known; null is as absent.
-        (
-            r#""foo":1"#,
-            Answer::Breaks("task_slices.0.properties.foo", "unknown"),
-        ),
-        (
-            r#""foo":[]"#,
-            Answer::Breaks("task_slices.0.properties.foo", "unknown"),
-        ),
-        (r#""foo":null"#, Answer::Accepted),
-        (r#""foo":1,"foo":null"#, Answer::Accepted),
-        (
-            r#""bar":null,"foo":1"#,
-            Answer::Breaks("task_slices.0.properties.foo", "unknown"),
-        ),
-        (
-            r#""Command":["a"]"#,
-            Answer::Breaks("task_slices.0.properties.Command", "unknown"),
-        ),
-        (
-            r#""name":"a""#,
-            Answer::Breaks("task_slices.0.properties.name", "unknown"),
-        ),
-        (
-            r#""":0"#,
-            Answer::Breaks("task_slices.0.properties.", "unknown"),
-        ),
-        (
-            r#""a\"\\b":0"#,
-            Answer::Breaks(r#"task_slices.0.properties.a\"\\b"#, "unknown"),
-        ),
-        // The first of two in the order of bytes.
-        (
-            r#""bar":1,"Foo":1"#,
-            Answer::Breaks("task_slices.0.properties.Foo", "unknown"),
-        ),
-        (
-            r#""é":1,"zoo":1"#,
-            Answer::Breaks("task_slices.0.properties.zoo", "unknown"),
-        ),
-        // Keys that are known and aren't served.
-        (r#""env":[{"key":"A","value":"b"}]"#, Answer::NotBuilt),
-        (r#""env":null"#, Answer::Accepted),
-        (r#""caches":[]"#, Answer::NotBuilt),
         (r#""inputs":[{"path":"a"}]"#, Answer::NotBuilt),
         (r#""inputs":[null]"#, Answer::NotBuilt),
         (r#""inputs":{}"#, Answer::NotBuilt),
-        // No inputs at all are served.
+        (r#""inputs":5"#, Answer::NotBuilt),
+        (r#""inputs":"""#, Answer::NotBuilt),
+        (r#""inputs":false"#, Answer::NotBuilt),
         (r#""inputs":[]"#, Answer::Accepted),
         (r#""inputs":null"#, Answer::Accepted),
-        (r#""outputs":["a"]"#, Answer::NotBuilt),
-        (r#""outputs":[]"#, Answer::NotBuilt),
-        (r#""execution_timeout_secs":0"#, Answer::NotBuilt),
-        (r#""io_timeout_secs":60"#, Answer::NotBuilt),
-        (r#""grace_period_secs":30"#, Answer::NotBuilt),
-        (r#""idempotent":false"#, Answer::NotBuilt),
-        // Rules that are broken come first.
+        (r#""inputs":[5],"inputs":[]"#, Answer::Accepted),
+        // The pool is looked for before.
         (
-            r#""env":[],"foo":1"#,
-            Answer::Breaks("task_slices.0.properties.foo", "unknown"),
+            r#""inputs":[5],"dimensions":[{"key":"pool","value":"other"}]"#,
+            Answer::NoPool,
         ),
-        (
-            r#""env":[],"command":[]"#,
-            Answer::Breaks("task_slices.0.properties.command", "count"),
-        ),
-        (r#""env":[],"inputs":[]"#, Answer::NotBuilt),
-        (r#""command":[],"command":["b"]"#, Answer::Accepted),
     ] {
-        let properties = format!(in alloc; r#""command":["true"],"dimensions":[{POOL}],{more}"#)?;
-        let body = with_properties(alloc, properties.as_str())?;
+        let body = with_more(alloc, more)?;
         asked.ask(alloc, body.as_bytes(), answer)?;
+    }
+    // Rules that are broken come first.
+    for (more, field, rule) in [
+        (r#""inputs":5,"foo":1"#, "foo", "unknown"),
+        (r#""inputs":5,"idempotent":1"#, "idempotent", "type"),
+        (
+            r#""inputs":[5],"grace_period_secs":-1"#,
+            "grace_period_secs",
+            "range",
+        ),
+    ] {
+        asked.refuse(alloc, more, field, rule)?;
     }
     asked.compare(&rt, alloc)
 }

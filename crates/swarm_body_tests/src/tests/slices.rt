@@ -1,6 +1,7 @@
 //! The rules on the slices of a task as a whole.
 
 use crate::tests::{Answer, Asked, POOL, SLICE};
+use std::alloc::{AllocError, Global};
 use std::test::Fail;
 
 /// The small slice, but for its expiration and that it doesn't wait.
@@ -79,6 +80,13 @@ fn slices_of_one_task(rt: HostRuntime) -> Result<(), Fail> {
 }
 
 /// Two slices that differ in nothing but these properties, which stand behind those of a small one.
+fn with_two(alloc: Global, one: &str, other: &str) -> Result<String, AllocError> {
+    let small = format!(in alloc; r#""command":["true"],"dimensions":[{POOL}]"#)?;
+    format!(in alloc;
+        r#"{{"task_slices":[{{"expiration_secs":600,"wait_for_capacity":true,"properties":{{{small},{one}}}}},{{"expiration_secs":600,"wait_for_capacity":true,"properties":{{{small},{other}}}}}]}}"#
+    )
+}
+
 #[test]
 fn what_makes_slices_alike(rt: HostRuntime) -> Result<(), Fail> {
     let alloc = rt.alloc();
@@ -113,14 +121,10 @@ fn what_makes_slices_alike(rt: HostRuntime) -> Result<(), Fail> {
         ),
         (r#""foo":null"#, r#""bar":null"#, repeated),
         (r#""inputs":[]"#, r#""inputs":null"#, repeated),
-        // What isn't served isn't looked at.
+        // What inputs there are isn't looked at.
+        (r#""inputs":[5]"#, r#""inputs":{}"#, repeated),
         (
-            r#""env":[{"key":"A","value":"b"}]"#,
-            r#""idempotent":true"#,
-            repeated,
-        ),
-        (
-            r#""command":["a"],"env":[]"#,
+            r#""command":["a"],"inputs":{}"#,
             r#""command":["b"]"#,
             Answer::NotBuilt,
         ),
@@ -135,11 +139,128 @@ fn what_makes_slices_alike(rt: HostRuntime) -> Result<(), Fail> {
             Answer::Accepted,
         ),
     ] {
-        let small = format!(in alloc; r#""command":["true"],"dimensions":[{POOL}]"#)?;
-        let body = format!(in alloc;
-            r#"{{"task_slices":[{{"expiration_secs":600,"wait_for_capacity":true,"properties":{{{small},{one}}}}},{{"expiration_secs":600,"wait_for_capacity":true,"properties":{{{small},{other}}}}}]}}"#
-        )?;
+        let body = with_two(alloc, one, other)?;
         asked.ask(alloc, body.as_bytes(), answer)?;
+    }
+    asked.compare(&rt, alloc)
+}
+
+/// The order of an environment, of caches and of outputs doesn't count, and what is absent is as
+/// what it means.
+#[test]
+fn what_else_makes_slices_alike(rt: HostRuntime) -> Result<(), Fail> {
+    let alloc = rt.alloc();
+    let mut asked = Asked::new(alloc);
+    for (one, other) in [
+        (
+            r#""env":[{"key":"A","value":"1"},{"key":"B","value":"2"}]"#,
+            r#""env":[{"key":"B","value":"2"},{"key":"A","value":"1"}]"#,
+        ),
+        (
+            r#""caches":[{"name":"a","path":"2"},{"name":"b","path":"1"}]"#,
+            r#""caches":[{"name":"b","path":"1"},{"name":"a","path":"2"}]"#,
+        ),
+        (r#""outputs":["b","a","c"]"#, r#""outputs":["c","b","a"]"#),
+        (r#""grace_period_secs":30"#, r#""grace_period_secs":null"#),
+        (
+            r#""execution_timeout_secs":60"#,
+            r#""execution_timeout_secs":"60""#,
+        ),
+        (
+            r#""execution_timeout_secs":0,"io_timeout_secs":"0","idempotent":false"#,
+            r#""env":[],"caches":[],"outputs":null"#,
+        ),
+        (
+            r#""env":[{"key":"A"}]"#,
+            r#""env":[{"key":"A","value":""}]"#,
+        ),
+    ] {
+        let body = with_two(alloc, one, other)?;
+        let answer = Answer::Breaks("task_slices", "repeated");
+        asked.ask(alloc, body.as_bytes(), answer)?;
+    }
+    asked.compare(&rt, alloc)
+}
+
+#[test]
+fn what_else_makes_slices_differ(rt: HostRuntime) -> Result<(), Fail> {
+    let alloc = rt.alloc();
+    let mut asked = Asked::new(alloc);
+    for (one, other) in [
+        (r#""idempotent":true"#, r#""idempotent":false"#),
+        (r#""grace_period_secs":0"#, r#""grace_period_secs":null"#),
+        (r#""execution_timeout_secs":60"#, r#""io_timeout_secs":60"#),
+        (
+            r#""env":[{"key":"A","value":"1"}]"#,
+            r#""env":[{"key":"A","value":"2"}]"#,
+        ),
+        (
+            r#""env":[{"key":"A","value":"B"}]"#,
+            r#""env":[{"key":"B","value":"A"}]"#,
+        ),
+        (
+            r#""caches":[{"name":"a","path":"b"}]"#,
+            r#""caches":[{"name":"a","path":"c"}]"#,
+        ),
+        (
+            r#""caches":[{"name":"a","path":"1"},{"name":"b","path":"2"}]"#,
+            r#""caches":[{"name":"a","path":"2"},{"name":"b","path":"1"}]"#,
+        ),
+        (r#""outputs":["a"]"#, r#""outputs":["a","b"]"#),
+        (r#""outputs":["a/b"]"#, r#""outputs":["a","b"]"#),
+    ] {
+        let body = with_two(alloc, one, other)?;
+        asked.ask(alloc, body.as_bytes(), Answer::Accepted)?;
+    }
+    asked.compare(&rt, alloc)
+}
+
+/// The fields of both slices are looked at before the two are compared, those of the first before
+/// those of the second.
+#[test]
+fn broken_fields_of_two_slices(rt: HostRuntime) -> Result<(), Fail> {
+    let alloc = rt.alloc();
+    let mut asked = Asked::new(alloc);
+    for (one, other, field, rule) in [
+        (
+            r#""grace_period_secs":-1"#,
+            r#""grace_period_secs":-1"#,
+            "task_slices.0.properties.grace_period_secs",
+            "range",
+        ),
+        (
+            r#""env":[]"#,
+            r#""io_timeout_secs":-1"#,
+            "task_slices.1.properties.io_timeout_secs",
+            "range",
+        ),
+        (
+            r#""outputs":[""]"#,
+            r#""command":[]"#,
+            "task_slices.0.properties.outputs.0",
+            "count",
+        ),
+        (
+            r#""command":[]"#,
+            r#""idempotent":0"#,
+            "task_slices.1.properties.idempotent",
+            "type",
+        ),
+        (
+            r#""env":[{}]"#,
+            r#""caches":[{"x":1}]"#,
+            "task_slices.1.properties.caches.0.x",
+            "unknown",
+        ),
+        (
+            r#""inputs":[5]"#,
+            r#""env":[{}]"#,
+            "task_slices.1.properties.env.0.key",
+            "count",
+        ),
+    ] {
+        let body = with_two(alloc, one, other)?;
+        asked.ask(alloc, body.as_bytes(), Answer::Breaks(field, rule))?;
     }
     asked.compare(&rt, alloc)
 }
