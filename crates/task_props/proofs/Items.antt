@@ -1,5 +1,5 @@
 -- What it means that no item of a list breaks a rule.
-use Rattle.std.proofs.Common.{◌≡◌, ℕ, ◌≤◌, List, [], ◌∷◌, ◌++◌, Bool, true, false, Option, None, refl}
+use Rattle.std.proofs.Common.{◌≡◌, ◌≤◌, List, [], ◌∷◌, ◌++◌, Bool, true, false, Option, None, refl}
 use Rattle.std.specs.List.{count_by, list_any, list_all}
 use Rattle.std.proofs.lemmas.List.{append-nil, append_assoc}
 use Rattle.dimensions.proofs.Choosing.{none-first, none-other}

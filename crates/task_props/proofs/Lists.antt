@@ -1,11 +1,11 @@
 -- Where a slice's environment, caches and outputs break no rule, they are checked when they are sorted.
 use Rattle.std.proofs.Common.{◌≡◌, ℕ, ◌≤◌, List, [], ◌∷◌, length, Bool, true, false, not, Option, None, refl, sym, ◌∙◌, ap, arith}
-use Rattle.std.specs.Prelude.{◌&&◌, ◌||◌, nat_le, nat_lt, is_none, IsPermutation, IsSorted}
-use Rattle.std.specs.List.{count_by, list_any, list_all}
+use Rattle.std.specs.Prelude.{nat_le, nat_lt, is_none, IsPermutation, IsSorted}
+use Rattle.std.specs.List.{count_by, list_any}
 use Rattle.std.specs.Option.{option_map}
 use Rattle.std.specs.Cmp.{IsTotalOrder, IsStrictWeakOrder, on_total, then_total}
 use Rattle.std.specs.Cmp.Lexicographic.{nat_list_cmp_total, nat_list_eq_equiv, texts_ties, same_text}
-use Rattle.std.specs.Ordering.{is_lt, is_eq, ordering_then}
+use Rattle.std.specs.Ordering.{is_lt, ordering_then}
 use Rattle.std.specs.declared.cmp.Ordering.{Ordering}
 use Rattle.std.specs.declared.cmp.Ordering.TheVariants.{Less, Equal, Greater}
 use Rattle.std.proofs.lemmas.Bool.{le-leb, ltb-false}
@@ -14,23 +14,21 @@ use Rattle.std.proofs.lemmas.List.Sorted.{length_permutation}
 use Rattle.dimensions.specs.declared.text.Text.{Text}
 use Rattle.dimensions.specs.Alike.{same}
 use Rattle.dimensions.specs.Choosing.{when, ◌or_else◌}
-use Rattle.dimensions.specs.Order.{text_cmp, pair_cmp, is_text_below, is_below, is_rising_by, sorted_by, sorted_pairs, sorted_texts}
+use Rattle.dimensions.specs.Order.{text_cmp, is_text_below, is_below, is_rising_by, sorted_by, sorted_pairs, sorted_texts}
 use Rattle.dimensions.proofs.Choosing.{when-none, none-first, none-other, option_map-none}
 use Rattle.dimensions.proofs.Counting.{count-cons, count-pass, any-none, count-IsPermutation, list_all-IsPermutation}
 use Rattle.dimensions.proofs.Orders.{pair_total, text_order, texts-tied, then-first, then-other, sorted_by-IsSorted}
 use Rattle.dimensions.proofs.Rising.{below-by_cmp, rising-in_order}
 use Rattle.dimensions.proofs.Sorting.{in_order, in_order-sorted_by, IsPermutation-sorted_by}
-use Rattle.dimensions.proofs.Tests.{and-first, and-other, and-both, or-first, or-other, or-both, not-true}
+use Rattle.dimensions.proofs.Tests.{and-first, and-other, and-both, or-both, not-true}
 use Rattle.properties.specs.declared.cache.Cache.{Cache}
-use Rattle.task_props.specs.declared.prop_rule.PropRule.{PropRule}
 use Rattle.task_props.specs.declared.prop_rule.PropRule.TheVariants as prop_rule
-use Rattle.task_props.specs.declared.task_field.SliceField.{SliceField}
 use Rattle.task_props.specs.declared.task_field.SliceField.TheVariants as slice_field
 use Rattle.task_props.specs.Checked.{is_env, are_caches, are_outputs}
 use Rattle.task_props.specs.FieldRules.{broken_at}
 use Rattle.task_props.specs.ItemRules.{most_rule, first_broken_item, env_key_rule, env_value_rule, has_key, broken_pair, broken_env, cache_name_rule, has_name, has_path, broken_cache, broken_caches, broken_output, broken_outputs}
 use Rattle.task_props.specs.Paths.{path_rule}
-use Rattle.task_props.specs.Sorted.{is_pair, is_key_below, is_path, is_cache, has_path_twice, is_name_below, cache_cmp, is_cache_below}
+use Rattle.task_props.specs.Sorted.{is_pair, is_path, is_cache, has_path_twice, cache_cmp, is_cache_below}
 use Rattle.task_props.proofs.Items.{list_all-unbroken, count-unbroken}
 
 -- ---- each rule by itself

@@ -1,7 +1,6 @@
 -- Where a slice breaks no rule, each of its fields keeps its own.
-use Rattle.std.proofs.Common.{◌≡◌, ℕ, ℤ, pos, negsuc, Bool, true, Option, None, is_none, refl}
+use Rattle.std.proofs.Common.{◌≡◌, ℕ, ℤ, pos, negsuc, true, None, refl}
 use Rattle.std.specs.Option.{option_map}
-use Rattle.dimensions.specs.Choosing.{◌or_else◌}
 use Rattle.dimensions.specs.Order.{sorted_pairs}
 use Rattle.dimensions.specs.Rules.{are_checked}
 use Rattle.dimensions.proofs.Choosing.{none-first, none-other, option_map-none}
