@@ -10,5 +10,6 @@ mod effects;
 mod list_pool;
 mod rows;
 mod scans;
+mod sources;
 
 pub use list_pool::ListPool;

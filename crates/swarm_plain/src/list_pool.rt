@@ -5,7 +5,7 @@ ghost use Rattle.swarm_model.specs.Answers.{entry_at};
 use crate::deadlines::next_deadline;
 use crate::effects::push;
 use crate::rows::Rows;
-use crate::scans;
+use crate::{scans, sources};
 use content_store::Filled;
 use dimensions::{BotDims, DimSet, Text, TryCopy};
 use sha2::{Digest as Hash, Sha256};
@@ -93,6 +93,26 @@ impl LookUps for ListPool {
 
     fn bot_named<'a>(&'a self, name: &Text) -> Option<&'a BotRow> {
         scans::bot_named(self.rows.bots.as_slice(), name)
+    }
+
+    fn sent<'a, L: Ledger>(
+        &'a self,
+        who: &Text,
+        uuid: &Text,
+        _steps: &mut Steps<L>,
+    ) -> Option<&'a TaskRow> {
+        scans::sent(self.rows.tasks.as_slice(), who, uuid)
+    }
+
+    fn newest_source<'a, L: Ledger>(
+        &'a self,
+        alloc: Global,
+        moment: u64,
+        digest: &Digest,
+        _steps: &mut Steps<L>,
+    ) -> Result<Option<&'a TaskRow>, AllocError> {
+        let age = self.rows.settings.reuse_age_secs;
+        sources::newest_source(alloc, self.rows.tasks.as_slice(), age, moment, digest)
     }
 
     fn by_claim<'a, L: Ledger>(

@@ -1,10 +1,12 @@
-ghost use Rattle.std.specs.Prelude.{◌≡◌, map, None};
+ghost use Rattle.std.specs.Prelude.{◌≡◌, map, None, if◌then◌else◌};
 ghost use Rattle.swarm_model.specs.History.{states};
 ghost use Rattle.std.specs.List.{find, filter, fold, count_by, list_any};
 ghost use Rattle.std.specs.Option.{option_copied};
 ghost use Rattle.swarm_model.specs.Finding.{place_of, is_task, is_bot, is_called, has_state, is_wanted};
 ghost use Rattle.swarm_model.specs.Slices.{is_fit, could_run, current_slice, takes_slice, waits_for, goes_before, foremost};
 ghost use Rattle.swarm_model.specs.Answers.{is_claim, is_claimed};
+ghost use Rattle.swarm_model.specs.Reuse.{is_sent};
+ghost use Rattle.dimensions.specs.Rules.{is_empty};
 
 use dimensions::{BotDims, DimSet, Text};
 use swarm_model::{Attempt, BotRow, TaskRow, TaskState};
@@ -118,6 +120,22 @@ pub(crate) fn claimed<'a>(tasks: &'a [TaskRow], bot: u32, claim: &Text) -> Optio
     ensures { option_copied result ≡ find (is_claimed bot claim.now) tasks.now }
 {
     tasks.iter().find(|task| is_claimed(bot, claim, task))
+}
+
+fn is_sent(who: &Text, uuid: &Text, task: &TaskRow) -> bool
+    ensures { result ≡ is_sent who.now uuid.now task.now }
+{
+    task.creator == *who && task.request.request_uuid == *uuid
+}
+
+/// The task that the caller sent under this uuid.
+pub(crate) fn sent<'a>(tasks: &'a [TaskRow], who: &Text, uuid: &Text) -> Option<&'a TaskRow>
+    ensures { option_copied result ≡ (if is_empty uuid.now then None else find (is_sent who.now uuid.now) tasks.now) }
+{
+    if uuid.as_str().is_empty() {
+        return None;
+    }
+    tasks.iter().find(|task| is_sent(who, uuid, task))
 }
 
 /// The slice that a task has come to.

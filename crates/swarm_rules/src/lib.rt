@@ -16,6 +16,7 @@ mod new_tasks;
 mod polling;
 mod reading;
 mod replies;
+mod reusing;
 mod rows;
 mod runs;
 mod settling;

@@ -1,15 +1,18 @@
-ghost use Rattle.std.specs.Prelude.{◌≡◌, length};
+ghost use Rattle.std.specs.Prelude.{◌≡◌, length, IfOk};
 ghost use Rattle.std.specs.List.{count_by};
 ghost use Rattle.std.specs.Option.{option_copied};
 ghost use Rattle.swarm_model.specs.Finding.{task_of, bot_of, bot_named, is_wanted};
 ghost use Rattle.swarm_model.specs.Slices.{capable, first};
+ghost use Rattle.swarm_model.specs.Reuse.{sent, newest_source};
 ghost use Rattle.swarm_model.specs.Answers.{claimed};
 ghost use Rattle.swarm_model.specs.Deadlines.{next_deadline};
 ghost use Rattle.swarm_model.specs.Soundness.{IsSound};
 
 use dimensions::{BotDims, DimSet, Text};
+use std::alloc::{AllocError, Global};
 use std::sync::ledger::Ledger;
 use swarm_model::{BotRow, Deadline, PoolSettings, Steps, TaskRow, TaskState};
+use task_props::Digest;
 
 /// What the rules ask of a pool's rows.
 pub trait LookUps {
@@ -43,6 +46,26 @@ pub trait LookUps {
 
     fn bot_named<'a>(&'a self, name: &Text) -> Option<&'a BotRow>
         ensures { option_copied result ≡ bot_named (state self.now) name.now };
+
+    /// The task that the caller sent under this uuid.
+    fn sent<'a, L: Ledger>(
+        &'a self,
+        who: &Text,
+        uuid: &Text,
+        steps: &mut Steps<L>,
+    ) -> Option<&'a TaskRow>
+        ensures { option_copied result ≡ sent (state self.now) who.now uuid.now };
+
+    /// The newest task whose outcome a slice of properties with this hash may take at the moment.
+    /// A machine that keeps no hashes takes memory to make them.
+    fn newest_source<'a, L: Ledger>(
+        &'a self,
+        alloc: Global,
+        moment: u64,
+        digest: &Digest,
+        steps: &mut Steps<L>,
+    ) -> Result<Option<&'a TaskRow>, AllocError>
+        ensures { IfOk result (λ found. option_copied found ≡ newest_source (state self.now) moment digest.now) };
 
     /// The task that the bot claimed under this id.
     fn by_claim<'a, L: Ledger>(

@@ -1,14 +1,30 @@
 ghost use Rattle.std.specs.Prelude.{◌≡◌, ◌+◌, ◌<◌, ◌≤◌, ◌^◌, length, nat_le, IfOk};
 ghost use Rattle.dimensions.specs.Choosing.{when};
-ghost use Rattle.swarm_model.specs.Answers.{new_task, begins, accepted, tasks_full};
+ghost use Rattle.swarm_model.specs.Answers.{new_task, again, begins, accepted, takes_over, tasks_full};
 
 use crate::LookUps;
 use crate::admitting::admit;
-use crate::replies::{answers, refuses};
+use crate::replies::{answers, refuses, says};
+use crate::reusing::reuse;
 use dimensions::{Text, TryCopy};
 use std::alloc::{AllocError, Global};
-use swarm_model::{EntryKind, Reply, Rule, TaskState, Told};
+use std::sync::ledger::Ledger;
+use swarm_model::{EntryKind, Reply, Reuse, Rule, Steps, TaskRow, TaskState, Told};
 use task_props::NewTask;
+
+/// A task that is sent again is told once more, and another under its uuid is refused.
+fn again(request: &NewTask, task: &TaskRow) -> Told
+    ensures { result ≡ again request.now task.now }
+{
+    if task.request == *request {
+        says(Reply::New {
+            task: task.no,
+            state: task.state,
+        })
+    } else {
+        refuses(Rule::UuidReused { task: task.no })
+    }
+}
 
 /// The refusal of a pool that has as many tasks as it may have.
 fn full_told<P: LookUps>(pool: &P) -> Option<Told>
@@ -22,7 +38,7 @@ fn full_told<P: LookUps>(pool: &P) -> Option<Told>
     }
 }
 
-/// The next task, in this state and at this slice.
+/// The next task, in this state and at this slice, with the task whose outcome it takes.
 fn begins<P: LookUps>(
     alloc: Global,
     pool: &P,
@@ -30,9 +46,10 @@ fn begins<P: LookUps>(
     request: &NewTask,
     state: TaskState,
     slice: u32,
+    from: Option<u32>,
 ) -> Result<Told, AllocError>
     requires { length (P.state pool.now).tasks < (P.state pool.now).settings.most_tasks }
-    ensures { IfOk result (λ told. told ≡ begins (P.state pool.now) who.now request.now state slice) }
+    ensures { IfOk result (λ told. told ≡ begins (P.state pool.now) who.now request.now state slice from) }
 {
     let _most = pool.settings().most_tasks;
     let task = pool.task_count() as u32 + 1;
@@ -46,7 +63,7 @@ fn begins<P: LookUps>(
             request,
             state,
             slice,
-            from: None,
+            from,
         },
     ))
 }
@@ -63,26 +80,61 @@ fn accepted<P: LookUps>(
 {
     let slices = request.task_slices.as_slice();
     match admit(pool, slices, 0) {
-        Some(place) => begins(alloc, pool, who, request, TaskState::Pending, place as u32),
+        Some(place) => {
+            let slice = place as u32;
+            begins(alloc, pool, who, request, TaskState::Pending, slice, None)
+        }
         None => {
             let last = slices.len().saturating_sub(1) as u32;
-            begins(alloc, pool, who, request, TaskState::NoResource, last)
+            begins(alloc, pool, who, request, TaskState::NoResource, last, None)
         }
     }
 }
 
-/// What a caller is told who asks for a new task.
-pub(crate) fn new_task<P: LookUps>(
+/// The task is over at once, with the outcome of an earlier run.
+fn takes_over<P: LookUps>(
     alloc: Global,
     pool: &P,
     who: &Text,
     request: &NewTask,
+    found: Reuse,
+) -> Result<Told, AllocError>
+    requires { length (P.state pool.now).tasks < (P.state pool.now).settings.most_tasks }
+    ensures { IfOk result (λ told. told ≡ takes_over (P.state pool.now) who.now request.now found) }
+{
+    let Reuse { slice, source } = found;
+    begins(
+        alloc,
+        pool,
+        who,
+        request,
+        TaskState::Completed,
+        slice,
+        Some(source),
+    )
+}
+
+/// What a caller is told who asks for a new task.
+pub(crate) fn new_task<P: LookUps, L: Ledger>(
+    alloc: Global,
+    pool: &P,
+    who: &Text,
+    moment: u64,
+    request: &NewTask,
+    steps: &mut Steps<L>,
 ) -> Result<Told, AllocError>
     requires { length request.now.task_slices ≤ 8 }
-    ensures { IfOk result (λ told. told ≡ new_task (P.state pool.now) who.now request.now) }
+    ensures { IfOk result (λ told. told ≡ new_task (P.state pool.now) who.now moment request.now) }
 {
+    if let Some(task) = pool.sent(who, &request.request_uuid, steps) {
+        return Ok(again(request, task));
+    }
     if let Some(told) = full_told(pool) {
         return Ok(told);
+    }
+    let slices = request.task_slices.as_slice();
+    if let Some(found) = reuse(alloc, pool, moment, slices, steps)? {
+        return takes_over(alloc, pool, who, request, found);
     }
     accepted(alloc, pool, who, request)
 }

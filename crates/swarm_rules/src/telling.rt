@@ -30,7 +30,7 @@ pub fn tell<P: LookUps, L: Ledger>(
     ensures { IfOk result (λ told. told ≡ tell (P.state pool.now) who.now moment request.now) }
 {
     match request {
-        Request::New(task) => new_task(alloc, pool, who, task),
+        Request::New(task) => new_task(alloc, pool, who, moment, task, steps),
         Request::Cancel { task, try_no, kill } => {
             cancel(alloc, pool, who, *task, *try_no, *kill, steps)
         }
