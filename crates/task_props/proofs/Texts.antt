@@ -1,5 +1,5 @@
 -- Checked properties are among those whose canonical text tells them.
-use Rattle.std.proofs.Common.{◌≡◌, ℕ, ◌≤◌, ◌<◌, ◌^◌, ◌&&◌, ◌==◌, not, Bool, true, false, List, length, ap, leb-true, eqb-true, arith}
+use Rattle.std.proofs.Common.{◌≡◌, ℕ, ◌≤◌, ◌<◌, ◌^◌, ◌&&◌, not, Bool, true, false, List, length, ap, leb-true, eqb-true, arith}
 use Rattle.std.specs.Prelude.{pos, nat_le, is_none}
 use Rattle.std.specs.List.{All}
 use Rattle.std.proofs.lemmas.Bool.{and_parts}
@@ -8,8 +8,8 @@ use Rattle.properties.specs.declared.properties.Properties.{Properties}
 use Rattle.properties.specs.Canonical.{canonical, HasByteDigests, HasWords}
 use Rattle.properties.proofs.Telling.{canonical_tells}
 use Rattle.task_props.specs.declared.prop_rule.PropRule.TheVariants as prop_rule
-use Rattle.task_props.specs.FieldRules.{range_rule, timeout_rule, grace_rule}
-use Rattle.task_props.specs.Checked.{is_env, are_caches, are_outputs, is_empty, has_lists, has_times, are_sound}
+use Rattle.task_props.specs.FieldRules.{range_rule, timeout_rule}
+use Rattle.task_props.specs.Checked.{is_env, are_caches, is_empty, has_lists, has_times, are_sound}
 use Rattle.task_props.specs.Texts.{HaveOneTextEach}
 
 within : (b : Bool) → is_none (when (not b) prop_rule.Range) ≡ true → b ≡ true
