@@ -3,4 +3,5 @@ mod Items
 mod Lists
 pub mod Rising
 mod SliceParts
+pub mod Texts
 mod Unbroken

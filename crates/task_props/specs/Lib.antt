@@ -9,3 +9,4 @@ pub mod Reading
 pub mod RuleNames
 pub mod Slices
 pub mod Sorted
+pub mod Texts

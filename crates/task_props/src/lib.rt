@@ -11,6 +11,7 @@ mod checking;
 mod field_rules;
 mod item_rule;
 mod item_rules;
+mod laws;
 mod new_task;
 mod paths;
 mod prop_fault;
@@ -21,6 +22,7 @@ mod slice;
 mod slices;
 mod task_field;
 
+pub use laws::checked_properties_have_one_text_each;
 pub use new_task::NewTask;
 pub use paths::path_rule;
 pub use prop_fault::PropFault;
