@@ -28,6 +28,7 @@ refusal_is_plain place (rule.Denied permission pool) = refl
 refusal_is_plain place rule.NoPool = refl
 refusal_is_plain place rule.NoTask = refl
 refusal_is_plain place rule.NoBot = refl
+refusal_is_plain place (rule.UuidReused task) = refl
 refusal_is_plain place (rule.BotUnfit why) = refl
 refusal_is_plain place (rule.BotBusy task try_no) = refl
 refusal_is_plain place (rule.ClaimOver task try_no state) = refl

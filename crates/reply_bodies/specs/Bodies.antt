@@ -64,6 +64,7 @@ refusal_data place (rule.Denied permission pool) =
 refusal_data place rule.NoPool = one_member (codes "code") (string (codes "no_pool"))
 refusal_data place rule.NoTask = one_member (codes "code") (string (codes "no_task"))
 refusal_data place rule.NoBot = one_member (codes "code") (string (codes "no_bot"))
+refusal_data place (rule.UuidReused task) = two_members (codes "code") (string (codes "uuid_reused")) (codes "task") (string (task_id place task))
 refusal_data place (rule.BotUnfit why) = two_members (codes "code") (string (codes "bot_unfit")) (codes "why") (string (unfit_name why))
 refusal_data place (rule.BotBusy task try_no) = two_members (codes "code") (string (codes "bot_busy")) (codes "run") (run_data place (task, try_no))
 refusal_data place (rule.ClaimOver task try_no state) =

@@ -82,6 +82,14 @@ fn unfit_value(alloc: Global, why: Unfit) -> Result<Value, AllocError>
     json!(in alloc; {"code": "bot_unfit", "why": name})
 }
 
+fn reused_value(alloc: Global, place: u32, task: u32) -> Result<Value, AllocError>
+    requires { place < 4 }
+    ensures { IfOk result (λ value. view value ≡ spec_two_members (codes "code") (string (codes "uuid_reused")) (codes "task") (string (spec_task_id place task))) }
+{
+    let id = task_id(alloc, place, task)?;
+    json!(in alloc; {"code": "uuid_reused", "task": id})
+}
+
 fn busy_value(alloc: Global, place: u32, run: (u32, u32)) -> Result<Value, AllocError>
     requires { place < 4 }
     ensures { IfOk result (λ value. view value ≡ spec_two_members (codes "code") (string (codes "bot_busy")) (codes "run") (run_data place run)) }
@@ -151,6 +159,7 @@ fn refusal_value(alloc: Global, place: u32, rule: &Rule) -> Result<Value, AllocE
         Rule::NoPool => code_alone(alloc, "no_pool"),
         Rule::NoTask => code_alone(alloc, "no_task"),
         Rule::NoBot => code_alone(alloc, "no_bot"),
+        Rule::UuidReused { task } => reused_value(alloc, place, *task),
         Rule::BotUnfit { why } => unfit_value(alloc, *why),
         Rule::BotBusy { task, try_no } => busy_value(alloc, place, (*task, *try_no)),
         Rule::ClaimOver {

@@ -21,6 +21,7 @@ refusal_status (rule.Denied permission pool) = 403
 refusal_status rule.NoPool = 404
 refusal_status rule.NoTask = 404
 refusal_status rule.NoBot = 404
+refusal_status (rule.UuidReused task) = 409
 refusal_status (rule.BotUnfit why) = 409
 refusal_status (rule.BotBusy task try_no) = 409
 refusal_status (rule.ClaimOver task try_no state) = 409

@@ -59,6 +59,7 @@ fn refusal_status(why: &Rule) -> u16
         Rule::NoRoute | Rule::NoPool | Rule::NoTask | Rule::NoBot => 404,
         Rule::BadMethod => 405,
         Rule::FrontAhead { length: _ }
+        | Rule::UuidReused { task: _ }
         | Rule::BotUnfit { why: _ }
         | Rule::BotBusy { task: _, try_no: _ }
         | Rule::ClaimOver {

@@ -19,7 +19,7 @@ use Rattle.swarm_wire.specs.declared.bot_fields.RawSaid.{RawSaid}
 use Rattle.swarm_wire.specs.declared.bot_fields.Said.{Said}
 use Rattle.json_fields.specs.Readings.{at, below, inside, each_from, ◌>>=◌}
 use Rattle.json_fields.specs.Fields.{object_of, text_at, each_at, items_at}
-use Rattle.swarm_wire.specs.Tasks.{text_item}
+use Rattle.swarm_wire.specs.SliceProperties.{text_item}
 
 -- ---- dimensions
 

@@ -1,5 +1,5 @@
 -- The files that a bot reports.
-use Rattle.std.specs.Prelude.{ℕ, ◌==◌, ◌&&◌, nat_le, decimal, List, length, if◌then◌else◌, Result, Ok, Err, codes}
+use Rattle.std.specs.Prelude.{ℕ, nat_le, decimal, List, length, Option, Some, None, if◌then◌else◌, Result, Ok, Err, codes}
 use Rattle.std.specs.List.{list_all}
 use Rattle.hex.specs.declared.error.FromHexError.{FromHexError}
 use Rattle.hex.specs.Hex.{decode_sized}
@@ -8,11 +8,11 @@ use Rattle.properties.specs.declared.file.File.{File}
 use Rattle.task_props.specs.declared.prop_rule.PropRule.{PropRule}
 use Rattle.task_props.specs.declared.prop_rule.PropRule.TheVariants.{Count, Grammar}
 use Rattle.task_props.specs.declared.prop_fault.PropFault.{PropFault}
+use Rattle.task_props.specs.Paths.{path_rule}
 use Rattle.json_fields.specs.Readings.{at, inside, each_from, ◌>>=◌}
 use Rattle.json_fields.specs.Fields.{object_of, text_at, required_text_at, number_at, items_at}
 use Rattle.swarm_wire.specs.declared.files.RawFile.{RawFile}
 use Rattle.swarm_wire.specs.Ids.{is_hex_digit}
-use Rattle.swarm_wire.specs.Paths.{path_of}
 use Rattle.swarm_wire.specs.Ranges.{whole_at}
 
 -- ---- fields
@@ -34,6 +34,14 @@ abbrev pub files_in : Data → Result (List RawFile) PropFault
 files_in d = items_at file_item (codes "files") d
 
 -- ---- rules
+
+abbrev pub unless_broken : List ℕ → Option PropRule → Result (List ℕ) PropRule
+unless_broken path None = Ok path
+unless_broken path (Some rule) = Err rule
+
+-- a path below a folder
+abbrev pub path_of : List ℕ → Result (List ℕ) PropRule
+path_of path = unless_broken path (path_rule path)
 
 abbrev pub or_no_digest : Result (List ℕ) FromHexError → Result (List ℕ) PropRule
 or_no_digest (Ok digest) = Ok digest

@@ -5,10 +5,10 @@ ghost use Rattle.dimensions.specs.BotRules.{are_bot_checked};
 ghost use Rattle.swarm_model.specs.Fits.{fits_message as spec_fits_message};
 ghost use Rattle.json_fields.specs.Readings.{Reads, at, each_from};
 ghost use Rattle.json_fields.specs.Fields.{each_at, items_at};
-ghost use Rattle.swarm_wire.specs.Tasks.{text_item};
+ghost use Rattle.swarm_wire.specs.SliceProperties.{text_item};
 ghost use Rattle.swarm_wire.specs.BotFields.{bot_pair_in, bot_pair_item, is_of_pair as spec_is_of_pair, dims_fault as spec_dims_fault, dims_of, quarantine_of, said_in, said_by, message_of, event_named as spec_event_named, event_of};
 
-use crate::tasks::read_texts;
+use crate::slice_properties::read_texts;
 use dimensions::{BotDims, DimFault, DimRule, Seq, Text};
 use json_fields::{
     below, below_place, broken, broken_at, object_of, read_items, read_list, read_text,

@@ -4,10 +4,9 @@ ghost use Rattle.std.specs.List.{list_all};
 ghost use Rattle.serde_json.specs.View.{view};
 ghost use Rattle.json_fields.specs.Readings.{Gives, Reads, at, inside, each_from};
 ghost use Rattle.swarm_wire.specs.Ids.{is_hex_digit as spec_is_hex_digit};
-ghost use Rattle.swarm_wire.specs.Files.{file_in, file_item, files_in, digest_of as spec_digest_of, file_of, file_at, files_of};
+ghost use Rattle.swarm_wire.specs.Files.{file_in, file_item, files_in, path_of, digest_of as spec_digest_of, file_of, file_at, files_of};
 
 use crate::ids::are_hex_digits;
-use crate::paths::read_path;
 use crate::ranges::read_whole;
 use dimensions::{Seq, Text};
 use hex::FromHex;
@@ -17,7 +16,7 @@ use json_fields::{
 };
 use serde_json::Value;
 use std::alloc::Global;
-use task_props::{Digest, File, PropFault, PropRule};
+use task_props::{Digest, File, PropFault, PropRule, path_rule};
 
 /// A file, as it was read.
 #[derive(Drop)]
@@ -69,6 +68,15 @@ pub(crate) fn read_raw_files(alloc: Global, body: &Value) -> Result<Seq<RawFile>
     match read_file_items(alloc, items) {
         Ok(files) => Ok(files),
         Err(fault) => Err(below(alloc, "files", fault)),
+    }
+}
+
+fn read_path(alloc: Global, path: &str) -> Result<Text, PropFault>
+    ensures { Reads result (at (codes "path") (path_of path.now)) }
+{
+    match path_rule(path) {
+        None => Ok(Text::from_str(alloc, path)?),
+        Some(rule) => Err(broken(alloc, "path", rule)),
     }
 }
 

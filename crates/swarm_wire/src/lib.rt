@@ -4,9 +4,9 @@
 //! or the first rule that it breaks; `asked_of` of `specs/Asking.antt` is its meaning. `missing`,
 //! `type` and `unknown` are tried for all fields in their order, by the readers of `json_fields`,
 //! then the other rules, then whether the settings have the pool, and last what isn't served.
-//! `specs/` has a module a call, `Tasks`, `Cancels`, `Results` and `Counts`, and of those of bots
-//! `BotCalls` and `Reports`, which reads its `Outputs` and `Files`. Any answer may give way to want
-//! of memory.
+//! `specs/` has a module a call, `Tasks`, which reads its `SliceProperties`, `Cancels`, `Results` and
+//! `Counts`, and of those of bots `BotCalls` and `Reports`, which reads its `Outputs` and `Files`.
+//! Any answer may give way to want of memory.
 //!
 //! The crate passes on the bodies of replies, [`show_reply`] of `reply_bodies`, with the law on the
 //! ids that they show. It stands on those two, `swarm_policy`, `swarm_model` and `task_props`.
@@ -24,13 +24,13 @@ mod files;
 mod ids;
 mod names;
 mod outputs;
-mod paths;
 mod pools;
 mod ranges;
 mod reports;
 mod request;
 mod results;
 mod route;
+mod slice_properties;
 mod tasks;
 #[cfg(test)]
 mod tests;

@@ -141,16 +141,30 @@ fn bodies(rt: HostRuntime) -> Result<(), Fail> {
     for (more, wanted) in [
         ("", "new of 0"),
         (",\"env\":null,\"foo\":null", "new of 0"),
-        (",\"env\":[]", "not_built"),
-        (",\"inputs\":[]", "new of 0"),
+        (
+            ",\"env\":[{\"key\":\"A\"}],\"caches\":[],\"inputs\":[]",
+            "new of 0",
+        ),
         (",\"inputs\":[null]", "not_built"),
         (
-            ",\"foo\":1,\"env\":[]",
+            ",\"foo\":1,\"inputs\":5",
             "task_slices.0.properties.foo unknown",
         ),
         (
-            ",\"env\":[],\"command\":[]",
+            ",\"inputs\":5,\"command\":[]",
             "task_slices.0.properties.command count",
+        ),
+        (
+            ",\"env\":[{\"x\":1}],\"dimensions\":5",
+            "task_slices.0.properties.env.0.x unknown",
+        ),
+        (
+            ",\"caches\":[{\"path\":1}]",
+            "task_slices.0.properties.caches.0.path type",
+        ),
+        (
+            ",\"grace_period_secs\":3601",
+            "task_slices.0.properties.grace_period_secs range",
         ),
         (
             ",\"command\":[\"a\",null]",
@@ -196,6 +210,10 @@ fn bodies(rt: HostRuntime) -> Result<(), Fail> {
         ),
         (
             "{\"request_uuid\":5,\"task_slices\":[null]}",
+            "request_uuid type",
+        ),
+        (
+            "{\"request_uuid\":null,\"task_slices\":[null]}",
             "task_slices.0 type",
         ),
     ] {
@@ -212,13 +230,19 @@ fn slices_in_bodies(rt: HostRuntime) -> Result<(), Fail> {
     for (waits, pool, program, more, wanted) in [
         ("true", "default", "b", "", "new of 0"),
         ("false", "default", "b", "", "new of 0"),
-        ("false", "default", "b", ",\"env\":[]", "not_built"),
-        ("false", "default", "a", "", "task_slices repeated"),
+        ("false", "default", "b", ",\"inputs\":5", "not_built"),
         (
             "false",
             "default",
             "a",
             ",\"env\":[]",
+            "task_slices repeated",
+        ),
+        (
+            "false",
+            "default",
+            "a",
+            ",\"inputs\":5",
             "task_slices repeated",
         ),
         ("false", "other", "b", "", "task_slices pool"),

@@ -1,9 +1,9 @@
 use Rattle.std.proofs.Common.{◌≡◌, map, drop}
 use Rattle.serde_json.specs.View.{view}
 use Rattle.json_fields.specs.Readings.{each_from}
-use Rattle.swarm_wire.specs.Tasks.{text_item}
+use Rattle.swarm_wire.specs.SliceProperties.{text_item}
 use Rattle.json_fields.proofs.Steps.{then_more}
-use Rattle.swarm_wire.proofs.tasks.read_texts.Given as goal
+use Rattle.swarm_wire.proofs.slice_properties.read_texts.Given as goal
 
 abbrev pub invariant-loop-place : goal.invariant-loop-place
 invariant-loop-place l =
