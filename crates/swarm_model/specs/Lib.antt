@@ -22,3 +22,4 @@ pub mod Kept
 pub mod Examples
 pub mod BotExamples
 pub mod EndExamples
+pub mod ReuseExamples
