@@ -23,3 +23,4 @@ pub mod Kept
 pub mod Examples
 pub mod BotExamples
 pub mod EndExamples
+pub mod ReuseExamples

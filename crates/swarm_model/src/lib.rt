@@ -26,6 +26,7 @@ mod read_rows;
 mod reply;
 mod request;
 mod reuse;
+pub mod reuse_examples;
 mod rule;
 mod steps;
 mod task_changes;

@@ -128,14 +128,22 @@ fn is_sent(who: &Text, uuid: &Text, task: &TaskRow) -> bool
     task.creator == *who && task.request.request_uuid == *uuid
 }
 
+/// The first task with this caller and this uuid.
+fn first_sent<'a>(tasks: &'a [TaskRow], who: &Text, uuid: &Text) -> Option<&'a TaskRow>
+    ensures { option_copied result ≡ find (is_sent who.now uuid.now) tasks.now }
+{
+    tasks.iter().find(|task| is_sent(who, uuid, task))
+}
+
 /// The task that the caller sent under this uuid.
 pub(crate) fn sent<'a>(tasks: &'a [TaskRow], who: &Text, uuid: &Text) -> Option<&'a TaskRow>
     ensures { option_copied result ≡ (if is_empty uuid.now then None else find (is_sent who.now uuid.now) tasks.now) }
 {
     if uuid.as_str().is_empty() {
-        return None;
+        None
+    } else {
+        first_sent(tasks, who, uuid)
     }
-    tasks.iter().find(|task| is_sent(who, uuid, task))
 }
 
 /// The slice that a task has come to.
