@@ -16,8 +16,6 @@ mod addressed;
 mod asked;
 mod bot_calls;
 mod bot_fields;
-#[cfg(test)]
-mod bot_tests;
 mod cancels;
 mod counts;
 mod files;
