@@ -12,7 +12,7 @@ mod environments;
 mod numbers;
 mod orders;
 mod outputs;
-mod properties;
+mod slice_properties;
 mod slices;
 mod uuids;
 
