@@ -146,8 +146,20 @@ fn bots_that_die(course: &mut Course, alloc: Global) -> Result<(), AllocError> {
             16,
             r#"{"state":"PENDING","task_id":"50"}"#,
         ),
-        (3000, CLAIM, B1_CLAIMS_ANEW, DONE, 17, fourth.as_str()),
-        (3000, CLAIM, B2_CLAIMS, DONE, 18, fifth.as_str()),
+    ] {
+        course.call(alloc, moment, path, body, status, front, told)?;
+    }
+    course.call(
+        alloc,
+        3000,
+        CLAIM,
+        B1_CLAIMS_ANEW,
+        DONE,
+        17,
+        fourth.as_str(),
+    )?;
+    course.call(alloc, 3000, CLAIM, B2_CLAIMS, DONE, 18, fifth.as_str())?;
+    for (moment, path, body, status, front, told) in [
         (
             3030,
             CANCEL,
@@ -191,33 +203,37 @@ fn bots_that_die(course: &mut Course, alloc: Global) -> Result<(), AllocError> {
             27,
             r#"{"state":"PENDING","task_id":"60"}"#,
         ),
-        (3720, CLAIM, B2_CLAIMS_ANEW, DONE, 28, sixth.as_str()),
+    ] {
+        course.call(alloc, moment, path, body, status, front, told)?;
+    }
+    course.call(alloc, 3720, CLAIM, B2_CLAIMS_ANEW, DONE, 28, sixth.as_str())?;
+    for (moment, path, body, status, front, told) in [
         // Entry 29 is the second death of b1. Its last report brings it back.
         (4200, UPDATE, end, DONE, 30, MUST_STOP),
         (4200, POLL, B1_POLLS, DONE, 31, SLEEP_1),
-        (
-            4200,
-            GET_RESULT,
-            r#"{"task_id":"40"}"#,
-            DONE,
-            31,
-            is_killed.as_str(),
-        ),
+    ] {
+        course.call(alloc, moment, path, body, status, front, told)?;
+    }
+    let of_fourth = r#"{"task_id":"40"}"#;
+    course.call(
+        alloc,
+        4200,
+        GET_RESULT,
+        of_fourth,
+        DONE,
+        31,
+        is_killed.as_str(),
+    )?;
+    for (moment, path, body, status, front, told) in [
         (4319, COUNT_TASKS, RUNNING, DONE, 31, COUNT_1),
         // Entry 32 is the death of b2, whose run goes on to 4920.
         (4320, COUNT_TASKS, RUNNING, DONE, 32, COUNT_1),
     ] {
         course.call(alloc, moment, path, body, status, front, told)?;
     }
+    let of_run = r#"{"task_id":"61"}"#;
+    course.call(alloc, 4799, GET_RESULT, of_run, DONE, 32, runs.as_str())?;
     for (moment, path, body, status, front, told) in [
-        (
-            4799,
-            GET_RESULT,
-            r#"{"task_id":"61"}"#,
-            DONE,
-            32,
-            runs.as_str(),
-        ),
         // Entry 33 is the last death of b1, at 4800, and entry 34 the silence.
         (
             4920,
@@ -235,26 +251,22 @@ fn bots_that_die(course: &mut Course, alloc: Global) -> Result<(), AllocError> {
             34,
             LATE,
         ),
-        (
-            9999,
-            GET_RESULT,
-            r#"{"task_id":"60"}"#,
-            DONE,
-            34,
-            died.as_str(),
-        ),
-        (
-            9999,
-            GET_RESULT,
-            r#"{"task_id":"51"}"#,
-            DONE,
-            34,
-            is_late.as_str(),
-        ),
-        (9999, COUNT_TASKS, ALL, DONE, 34, r#"{"count":6}"#),
     ] {
         course.call(alloc, moment, path, body, status, front, told)?;
     }
+    let of_sixth = r#"{"task_id":"60"}"#;
+    course.call(alloc, 9999, GET_RESULT, of_sixth, DONE, 34, died.as_str())?;
+    let of_fifth = r#"{"task_id":"51"}"#;
+    course.call(
+        alloc,
+        9999,
+        GET_RESULT,
+        of_fifth,
+        DONE,
+        34,
+        is_late.as_str(),
+    )?;
+    course.call(alloc, 9999, COUNT_TASKS, ALL, DONE, 34, r#"{"count":6}"#)?;
     Ok(())
 }
 

@@ -242,40 +242,37 @@ fn noon(course: &mut Course, alloc: Global) -> Result<(), AllocError> {
             22,
             LATE,
         ),
-        // Tasks 5 and 6 have one priority, and task 5 is older.
-        (1540, CLAIM, B2_SECOND, DONE, 23, fifth.as_str()),
-        (1560, CLAIM, B2_SECOND, DONE, 24, fifth.as_str()),
-        (
-            1580,
-            CLAIM,
-            B2_THIRD,
-            CONFLICT,
-            24,
-            r#"{"code":"bot_busy","run":"51"}"#,
-        ),
     ] {
         course.call(alloc, moment, path, body, status, front, told)?;
     }
+    // Tasks 5 and 6 have one priority, and task 5 is older.
+    for (moment, front) in [(1540, 23), (1560, 24)] {
+        course.call(alloc, moment, CLAIM, B2_SECOND, DONE, front, fifth.as_str())?;
+    }
+    let busy = r#"{"code":"bot_busy","run":"51"}"#;
+    course.call(alloc, 1580, CLAIM, B2_THIRD, CONFLICT, 24, busy)?;
+    course.call(alloc, 1600, CLAIM, B1_SECOND, DONE, 25, sixth.as_str())?;
     for (moment, path, body, status, front, told) in [
-        (1600, CLAIM, B1_SECOND, DONE, 25, sixth.as_str()),
         (1620, CANCEL, stop_fifth, DONE, 26, STOPPED),
         (1640, CANCEL, stop_fifth, DONE, 26, STOPPED),
         (1660, UPDATE, progress, DONE, 27, MUST_STOP),
         (1680, UPDATE, end, DONE, 28, MUST_STOP),
         (1700, UPDATE, late_end, DONE, 29, GOES_ON),
-        (
-            1720,
-            GET_RESULT,
-            r#"{"task_id":"61"}"#,
-            DONE,
-            29,
-            is_late.as_str(),
-        ),
-        (1740, COUNT_TASKS, ALL, DONE, 29, r#"{"count":7}"#),
     ] {
         course.call(alloc, moment, path, body, status, front, told)?;
     }
+    let of_sixth = r#"{"task_id":"61"}"#;
+    course.call(
+        alloc,
+        1720,
+        GET_RESULT,
+        of_sixth,
+        DONE,
+        29,
+        is_late.as_str(),
+    )?;
     for (moment, path, body, status, front, told) in [
+        (1740, COUNT_TASKS, ALL, DONE, 29, r#"{"count":7}"#),
         (
             1760,
             COUNT_TASKS,
