@@ -13,7 +13,5 @@ mod names;
 mod registry;
 mod scans;
 mod silence;
-#[cfg(test)]
-mod tests;
 
 pub use registry::Registry;

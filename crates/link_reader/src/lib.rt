@@ -14,8 +14,6 @@ mod body_end;
 mod head_end;
 mod kept;
 mod pending;
-#[cfg(test)]
-mod tests;
 
 pub use body_end::{BodyEnd, read_body};
 pub use head_end::{HeadEnd, read_head};

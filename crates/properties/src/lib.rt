@@ -12,8 +12,6 @@ mod examples;
 mod file;
 mod laws;
 mod properties;
-#[cfg(test)]
-mod tests;
 
 pub use cache::Cache;
 pub use digest::Digest;

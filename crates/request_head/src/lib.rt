@@ -18,8 +18,6 @@ mod head;
 mod judged;
 mod method;
 mod number;
-#[cfg(test)]
-mod tests;
 
 pub use after::After;
 pub use head::Head;

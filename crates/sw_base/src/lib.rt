@@ -18,8 +18,6 @@ mod link;
 mod memory_link;
 mod step_clock;
 mod system_clock;
-#[cfg(test)]
-mod tests;
 
 pub use clock::Clock;
 pub use console_link::ConsoleLink;

@@ -9,7 +9,7 @@
 //! Any answer may give way to want of memory.
 //!
 //! The crate passes on the bodies of replies, [`show_reply`] of `reply_bodies`, with the law on the
-//! ids that they show. It stands on those two, `swarm_policy`, `swarm_model` and `task_props`.
+//! ids that they show. It stands on those two, `swarm_model` and `task_props`.
 #![tactic(auto)]
 
 mod addressed;
@@ -30,8 +30,6 @@ mod results;
 mod route;
 mod slice_properties;
 mod tasks;
-#[cfg(test)]
-mod tests;
 mod unserved;
 
 pub use asked::{Asked, WireFault};

@@ -16,6 +16,3 @@ mod output;
 mod rows;
 
 pub use rows::TaskRows;
-
-#[cfg(test)]
-mod tests;

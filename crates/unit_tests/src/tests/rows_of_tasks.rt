@@ -1,31 +1,31 @@
+//! Tests of `task_rows`.
+
 ghost use Rattle.std.specs.Prelude.{◌≡◌, ◌<◌, IfSome, IfOk};
 ghost use Rattle.std.specs.Bool.{OnTrue};
 ghost use Rattle.std.specs.Option.{option_copied, option_and_then};
 ghost use Rattle.task_rows.specs.Acting.{AddsRow, EndsSlice, HasFewSlices, StaysShort};
 
-use crate::TaskRows;
+use crate::tests::{bot_pairs, pairs};
 use dimensions::{BotDims, DimSet, Seq, Text};
+use properties::Properties;
 use std::alloc::{AllocError, Global};
 use std::marker::Brand;
 use std::process::Abort;
 use std::sync::ledger::{Blank, Ledger};
 use std::test::Fail;
 use swarm_model::{Chunk, Entry, EntryKind, Last, Outcome, ReadRows, Steps, TaskRow, TaskState};
-use task_props::{NewTask, Properties, Slice};
+use task_props::{NewTask, Slice};
+use task_rows::TaskRows;
 
 fn slice(alloc: Global) -> Result<Slice, Fail> {
-    let pool = (
-        Text::from_str(alloc, "pool")?,
-        Text::from_str(alloc, "default")?,
-    );
-    let pairs = vec![in alloc; pool]?;
+    let pool = pairs(alloc, &[("pool", "default")])?;
     Ok(Slice {
         expiration_secs: 60,
         wait_for_capacity: true,
         properties: Properties {
             command: Seq::new(alloc),
             env: Seq::new(alloc),
-            dimensions: DimSet::read(alloc, pairs.as_slice())?,
+            dimensions: DimSet::read(alloc, pool.as_slice())?,
             caches: Seq::new(alloc),
             inputs: Seq::new(alloc),
             outputs: Seq::new(alloc),
@@ -283,21 +283,12 @@ fn runs<L: Ledger, R: Abort>(rt: &R, alloc: Global, blank: Blank) -> Result<(), 
     Ok(())
 }
 
-fn texts(alloc: Global, text: &str) -> Result<Seq<Text>, Fail> {
-    let text = Text::from_str(alloc, text)?;
-    Ok(Seq::from_vec(vec![in alloc; text]?))
-}
-
 fn bot_dims(alloc: Global) -> Result<BotDims, Fail> {
-    let pairs = vec![in alloc;
-        (Text::from_str(alloc, "id")?, texts(alloc, "b3")?),
-        (Text::from_str(alloc, "pool")?, texts(alloc, "default")?),
-    ]?;
-    Ok(BotDims::read(alloc, "b3", pairs.as_slice())?)
+    let has = bot_pairs(alloc, &[("id", "b3"), ("pool", "default")])?;
+    Ok(BotDims::read(alloc, "b3", has.as_slice())?)
 }
 
-/// A task that waits is canceled; a bot falls silent; a bot comes with another
-/// session.
+/// A task that waits is canceled; a bot falls silent; a bot comes with another session.
 fn ends<L: Ledger, R: Abort>(rt: &R, alloc: Global, blank: Blank) -> Result<(), Fail>
     requires name { blank.name ≡ L.name }
     requires parts { blank.parts ≡ L.parts }

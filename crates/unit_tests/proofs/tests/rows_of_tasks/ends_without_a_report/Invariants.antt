@@ -1,5 +1,5 @@
 -- The name under which steps are counted.
-use Rattle.task_rows.proofs.tests.ends_without_a_report.Given as goal
+use Rattle.unit_tests.proofs.tests.rows_of_tasks.ends_without_a_report.Given as goal
 
 abbrev pub ghosts-ends : goal.ghosts-ends
 ghosts-ends g a = record { name = a.blank.name; parts = a.blank.parts }

@@ -1,5 +1,7 @@
-use crate::{Clock, ConsoleLink, Failed, Link, MemoryLink, StepClock, SystemClock};
+//! Tests of `sw_base`.
+
 use std::alloc::AllocError;
+use sw_base::{Clock, ConsoleLink, Failed, Link, MemoryLink, StepClock, SystemClock};
 
 #[test]
 fn console_carries_both_ways(rt: HostRuntime) {

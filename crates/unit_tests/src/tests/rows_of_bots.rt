@@ -1,36 +1,24 @@
+//! Tests of `bot_registry`.
+
 ghost use Rattle.std.specs.Prelude.{◌≡◌, ◌≤◌, ◌^◌};
 ghost use Rattle.bot_registry.specs.Acting.{Follows};
 
-use crate::Registry;
-use dimensions::{BotDims, DimSet, Seq, Text};
+use crate::tests::{bot_pairs, pairs};
+use bot_registry::Registry;
+use dimensions::{BotDims, DimSet, Text};
 use std::alloc::Global;
 use std::process::Abort;
 use std::test::Fail;
 use swarm_model::{Entry, EntryKind};
 
-fn pair(alloc: Global, key: &str, value: &str) -> Result<(Text, Seq<Text>), Fail> {
-    let values = vec![in alloc; Text::from_str(alloc, value)?]?;
-    Ok((Text::from_str(alloc, key)?, Seq::from_vec(values)))
-}
-
 fn bot_dims(alloc: Global, name: &str, os: &str) -> Result<BotDims, Fail> {
-    let pairs = vec![in alloc;
-        pair(alloc, "id", name)?,
-        pair(alloc, "os", os)?,
-        pair(alloc, "pool", "default")?,
-    ]?;
-    Ok(BotDims::read(alloc, name, pairs.as_slice())?)
+    let has = bot_pairs(alloc, &[("id", name), ("os", os), ("pool", "default")])?;
+    Ok(BotDims::read(alloc, name, has.as_slice())?)
 }
 
 fn wanted(alloc: Global, os: &str) -> Result<DimSet, Fail> {
-    let pairs = vec![in alloc;
-        (Text::from_str(alloc, "os")?, Text::from_str(alloc, os)?),
-        (
-            Text::from_str(alloc, "pool")?,
-            Text::from_str(alloc, "default")?
-        ),
-    ]?;
-    Ok(DimSet::read(alloc, pairs.as_slice())?)
+    let asked = pairs(alloc, &[("os", os), ("pool", "default")])?;
+    Ok(DimSet::read(alloc, asked.as_slice())?)
 }
 
 fn put(registry: &mut Registry, entry: Entry) -> Result<(), Fail>

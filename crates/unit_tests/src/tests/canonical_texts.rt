@@ -1,41 +1,19 @@
-//! The canonical text of a task with every field, worked out by hand, and what `sha256sum` says of
-//! it.
-use crate::{Cache, File, Properties};
+//! Tests of `properties`: the canonical text of properties with every field, worked out by hand,
+//! and what `sha256sum` says of it.
+
+use crate::tests::{caches, pairs, texts};
 use dimensions::{DimSet, Seq, Text};
-use sha2::{Digest as Hash, Sha256};
+use properties::{File, Properties};
+use sha2::{Digest, Sha256};
 use std::alloc::{AllocError, Global};
 use std::test::Fail;
 
 const CANONICAL: &str =
     r#"{"caches":[["git","cache/git"]],"command":["say","\"hi\"","a\\b","two\nlines","\u0001","ü"],"dimensions":[["os","Linux|Mac"],["pool","default"]],"env":[["LANG","C"],["TZ","UTC"]],"execution_timeout_secs":3600,"grace_period_secs":45,"idempotent":true,"inputs":[["in/hello","2cf24dba5fb0a30e26e83b2ac5b9e29e1b161e5c1fa7425e73043362938b9824",5]],"io_timeout_secs":60,"outputs":["out/log"]}"#;
 
-fn texts(alloc: Global, list: &[&str]) -> Result<Seq<Text>, AllocError> {
-    let mut texts = Vec::new(alloc);
-    for text in list {
-        texts.push(Text::from_str(alloc, text)?)?;
-    }
-    Ok(Seq::from_vec(texts))
-}
-
-fn pairs(alloc: Global, list: &[(&str, &str)]) -> Result<Seq<(Text, Text)>, AllocError> {
-    let mut pairs = Vec::new(alloc);
-    for pair in list {
-        let key = Text::from_str(alloc, pair.0)?;
-        let value = Text::from_str(alloc, pair.1)?;
-        pairs.push((key, value))?;
-    }
-    Ok(Seq::from_vec(pairs))
-}
-
 fn dimensions(alloc: Global) -> Result<DimSet, Fail> {
     let asked = pairs(alloc, &[("os", "Linux|Mac"), ("pool", "default")])?;
     Ok(DimSet::read(alloc, asked.as_slice())?)
-}
-
-fn caches(alloc: Global) -> Result<Seq<Cache>, AllocError> {
-    let name = Text::from_str(alloc, "git")?;
-    let path = Text::from_str(alloc, "cache/git")?;
-    Ok(Seq::from_vec(vec![in alloc; Cache { name, path }]?))
 }
 
 fn inputs(alloc: Global) -> Result<Seq<File>, AllocError> {
@@ -50,7 +28,7 @@ fn inputs(alloc: Global) -> Result<Seq<File>, AllocError> {
     ]?))
 }
 
-fn full(alloc: Global) -> Result<Properties, Fail> {
+fn with_every_field(alloc: Global) -> Result<Properties, Fail> {
     let command = texts(
         alloc,
         &["say", "\"hi\"", "a\\b", "two\nlines", "\u{1}", "ü"],
@@ -60,7 +38,7 @@ fn full(alloc: Global) -> Result<Properties, Fail> {
         command,
         env,
         dimensions: dimensions(alloc)?,
-        caches: caches(alloc)?,
+        caches: caches(alloc, &[("git", "cache/git")])?,
         inputs: inputs(alloc)?,
         outputs: texts(alloc, &["out/log"])?,
         execution_timeout_secs: 3600,
@@ -71,17 +49,11 @@ fn full(alloc: Global) -> Result<Properties, Fail> {
 }
 
 #[test]
-fn shows_every_field(rt: HostRuntime) -> Result<(), Fail> {
+fn every_field_is_shown_and_hashed(rt: HostRuntime) -> Result<(), Fail> {
     let alloc = rt.alloc();
-    let text = full(alloc)?.canonical(alloc)?;
-    assert_eq!(rt; text.as_str(), CANONICAL);
-    Ok(())
-}
-
-#[test]
-fn hashes_every_field(rt: HostRuntime) -> Result<(), Fail> {
-    let alloc = rt.alloc();
-    let hash = full(alloc)?.hash(alloc)?;
+    let properties = with_every_field(alloc)?;
+    assert_eq!(rt; properties.canonical(alloc)?.as_str(), CANONICAL);
+    let hash = properties.hash(alloc)?;
     let shown = hex::encode(alloc, hash.as_slice())?;
     assert_eq!(rt;
         shown.as_str(),
