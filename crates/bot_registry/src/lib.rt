@@ -5,7 +5,7 @@
 //! scans of the rows do, in the words of `swarm_model`, and `apply` does to the rows what the entry
 //! does to the bots of a pool. What the registry keeps beside the rows stands in the invariant of
 //! its `Model` alone. `reserve` is the only call that takes memory.
-//! It stands on `swarm_model` and is called by no crate yet; it is meant for a machine with indexes.
+//! It stands on `swarm_model`. It is meant for a machine with indexes, and no machine calls it yet.
 #![tactic(auto)]
 
 mod acting;

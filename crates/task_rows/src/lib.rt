@@ -6,8 +6,8 @@
 //! of the entry and of that row (`specs/Acting.antt`), and ensures that the rows are those after
 //! the entry of every pool that had them before. `reserve` is the only call that takes memory: the
 //! texts of its copy of the entry move into the rows, and the chunks of a run grow in room that it
-//! made. The crate stands on `swarm_model` and is called by no crate yet; it is meant for a
-//! machine with indexes.
+//! made. The crate stands on `swarm_model`. It is meant for a machine with indexes, and no machine
+//! calls it yet.
 #![tactic(auto)]
 
 mod in_place;
