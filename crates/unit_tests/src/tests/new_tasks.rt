@@ -6,60 +6,41 @@ use std::alloc::{AllocError, Global};
 use std::test::Fail;
 use task_props::{NewTask, RawProperties, RawSlice, RawTask};
 
-/// Properties for this os that break no rule, with lists out of order.
-fn properties(alloc: Global, os: &str) -> Result<RawProperties, AllocError> {
-    Ok(RawProperties {
-        command: texts(alloc, &["true"])?,
-        env: pairs(alloc, &[("PATH", "/bin"), ("HOME", "")])?,
-        dimensions: pairs(alloc, &[("pool", "default"), ("os", os)])?,
-        caches: caches(alloc, &[("go", "cache/go"), ("git", "cache/git")])?,
-        outputs: texts(alloc, &["out/b", "out/a"])?,
-        execution_timeout_secs: 604_800,
-        io_timeout_secs: 0,
-        grace_period_secs: 30,
-        idempotent: true,
-    })
-}
-
+/// A slice for this os that breaks no rule.
 fn slice(alloc: Global, os: &str) -> Result<RawSlice, AllocError> {
     Ok(RawSlice {
         expiration_secs: 600,
         wait_for_capacity: true,
-        properties: properties(alloc, os)?,
-    })
-}
-
-fn two_slices(alloc: Global) -> Result<RawTask, AllocError> {
-    let slices = vec![in alloc; slice(alloc, "Linux|Mac")?, slice(alloc, "Linux")?]?;
-    Ok(RawTask {
-        name: Text::new(alloc),
-        priority: 255,
-        bot_ping_tolerance_secs: 0,
-        request_uuid: Text::new(alloc),
-        task_slices: Seq::from_vec(slices),
+        properties: RawProperties {
+            command: texts(alloc, &["true"])?,
+            env: pairs(alloc, &[("PATH", "/bin"), ("HOME", "")])?,
+            dimensions: pairs(alloc, &[("pool", "default"), ("os", os)])?,
+            caches: caches(alloc, &[("go", "cache/go"), ("git", "cache/git")])?,
+            outputs: texts(alloc, &["out/b", "out/a"])?,
+            execution_timeout_secs: 604_800,
+            io_timeout_secs: 0,
+            grace_period_secs: 30,
+            idempotent: true,
+        },
     })
 }
 
 #[test]
 fn a_task_is_checked_and_copied(rt: HostRuntime) -> Result<(), Fail> {
     let alloc = rt.alloc();
-    let task = NewTask::check(alloc, two_slices(alloc)?)?;
+    let slices = vec![in alloc; slice(alloc, "Linux|Mac")?, slice(alloc, "Linux")?]?;
+    let raw = RawTask {
+        name: Text::new(alloc),
+        priority: 255,
+        bot_ping_tolerance_secs: 0,
+        request_uuid: Text::new(alloc),
+        task_slices: Seq::from_vec(slices),
+    };
+    let task = NewTask::check(alloc, raw)?;
     assert!(rt; task.is_checked());
     assert_eq!(rt; task.priority, 255);
     assert_eq!(rt; task.bot_ping_tolerance_secs, 1200);
     assert_eq!(rt; task.pool(), "default");
     assert!(rt; task.try_copy(alloc)? == task);
-    Ok(())
-}
-
-#[test]
-fn the_lists_of_a_slice_are_sorted(rt: HostRuntime) -> Result<(), Fail> {
-    let alloc = rt.alloc();
-    let task = NewTask::check(alloc, two_slices(alloc)?)?;
-    assert_eq!(rt; task.task_slices.as_slice().len(), 2);
-    let sorted = &task.task_slices.as_slice()[0].properties;
-    assert!(rt; sorted.env == pairs(alloc, &[("HOME", ""), ("PATH", "/bin")])?);
-    assert!(rt; sorted.caches == caches(alloc, &[("git", "cache/git"), ("go", "cache/go")])?);
-    assert!(rt; sorted.outputs == texts(alloc, &["out/a", "out/b"])?);
     Ok(())
 }
