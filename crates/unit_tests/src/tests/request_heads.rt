@@ -4,7 +4,8 @@ use request_head::{After, Head, Judged, Method, judge};
 
 #[test]
 fn all_that_a_head_says(rt: HostRuntime) {
-    let text = "POST /a?b=%20 HTTP/1.1\r\nx-swarming-caller:\tuser:a@b.c\r\nX-Swarming-After: 00012\r\nconnection: ,\tCLOSE\t ,x\r\nContent-Length: 0000065536\r\n\r\n";
+    let text =
+        "POST /a?b=%20 HTTP/1.1\r\nx-swarming-caller:\tuser:a@b.c\r\nX-Swarming-After: 00012\r\nconnection: ,\tCLOSE\t ,x\r\nContent-Length: 0000065536\r\n\r\n";
     let head = Head {
         method: Method::Post,
         target: "/a?b=%20",
@@ -23,9 +24,18 @@ fn heads_that_are_refused(rt: HostRuntime) {
         ("", Judged::Bad),
         ("GET / HTTP/1.1\r\nx: y\r\n", Judged::Bad),
         ("GET / HTTP/1.1\r\n\r\nx", Judged::Bad),
-        ("POST /a HTTP/1.1\r\ncontent-length: 1 2\r\n\r\n", Judged::Bad),
-        ("PUT /blobs/a HTTP/1.0\r\nhost: h\r\n\r\n", Judged::LengthRequired),
-        ("POST /a HTTP/1.1\r\ntransfer-encoding:\r\n\r\n", Judged::LengthRequired),
+        (
+            "POST /a HTTP/1.1\r\ncontent-length: 1 2\r\n\r\n",
+            Judged::Bad,
+        ),
+        (
+            "PUT /blobs/a HTTP/1.0\r\nhost: h\r\n\r\n",
+            Judged::LengthRequired,
+        ),
+        (
+            "POST /a HTTP/1.1\r\ntransfer-encoding:\r\n\r\n",
+            Judged::LengthRequired,
+        ),
         (
             "POST /a/blobs/ HTTP/1.1\r\ncontent-length: 65537\r\n\r\n",
             Judged::TooLarge { limit: 65536 },
@@ -76,11 +86,27 @@ fn methods_and_targets(rt: HostRuntime) {
 #[test]
 fn sizes_and_connections(rt: HostRuntime) {
     for (text, size, closes) in [
-        ("PUT /blobs/a HTTP/1.1\r\nContent-Length: 16777216\r\n\r\n", 16777216, false),
-        ("GET /blobs/ HTTP/1.0\r\nContent-Length: 16777216\r\n\r\n", 16777216, true),
-        ("DELETE /blobs HTTP/1.1\r\nContent-Length: 65536\r\n\r\n", 65536, false),
+        (
+            "PUT /blobs/a HTTP/1.1\r\nContent-Length: 16777216\r\n\r\n",
+            16777216,
+            false,
+        ),
+        (
+            "GET /blobs/ HTTP/1.0\r\nContent-Length: 16777216\r\n\r\n",
+            16777216,
+            true,
+        ),
+        (
+            "DELETE /blobs HTTP/1.1\r\nContent-Length: 65536\r\n\r\n",
+            65536,
+            false,
+        ),
         ("GET /a HTTP/1.1\r\nconnection: close,\r\n\r\n", 0, true),
-        ("GET /a HTTP/1.1\r\nconnection: close x, x close\r\n\r\n", 0, false),
+        (
+            "GET /a HTTP/1.1\r\nconnection: close x, x close\r\n\r\n",
+            0,
+            false,
+        ),
         ("GET /a HTTP/1.1\r\nconnection: \"close\"\r\n\r\n", 0, false),
     ] {
         match judge(text.as_bytes()) {
