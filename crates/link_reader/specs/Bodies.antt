@@ -1,8 +1,8 @@
 -- How the input divides where a body is read.
 use Rattle.std.specs.Prelude.{◌≡◌, ℕ, ◌<◌, List, [], ◌++◌, length, take, Result, Ok, Err}
 use Rattle.std.specs.Io.KnownBytes.{IsAtEnd}
-use Rattle.sw_base.specs.Faults.{Rose}
-use Rattle.sw_base.specs.Link.{LinkState, Moves}
+use Rattle.sw_base.specs.Faults.{CountsFault}
+use Rattle.sw_base.specs.Link.{LinkState, Moves, SameOutput}
 use Rattle.link_reader.specs.declared.body_end.BodyEnd.{BodyEnd}
 use Rattle.link_reader.specs.declared.body_end.BodyEnd.TheVariants.{Whole, Dropped, Ended}
 
@@ -18,14 +18,16 @@ pub record IsCut (input head : List ℕ) (n : ℕ) : Type 0 where
   pub short : length front < n
 
 -- what came of it, where `rest` is pending after it
-abbrev pub IsBodyRead : {E : Type 0} → LinkState → LinkState → List ℕ → List ℕ → List ℕ → ℕ → Result BodyEnd E → Type 0
-IsBodyRead before after input head rest n (Ok (Whole v)) = IsWhole input head rest n v.items
-IsBodyRead before after input head rest n (Ok Dropped) = (body : List ℕ) × IsWhole input head rest n body
-IsBodyRead before after input head rest n (Ok Ended) = IsAtEnd after.left × IsCut input head n × (rest ≡ [])
-IsBodyRead before after input head rest n (Err e) = Rose before.read_faults after.read_faults × IsCut input head n × (rest ≡ [])
+abbrev pub IsBodyRead : {E : Type 0} → LinkState → List ℕ → List ℕ → List ℕ → ℕ → Result BodyEnd E → Type 0
+IsBodyRead after input head rest n (Ok (Whole v)) = IsWhole input head rest n v.items
+IsBodyRead after input head rest n (Ok Dropped) = (body : List ℕ) × IsWhole input head rest n body
+IsBodyRead after input head rest n (Ok Ended) = IsAtEnd after.left × IsCut input head n × (rest ≡ [])
+IsBodyRead after input head rest n (Err e) = IsCut input head n × (rest ≡ [])
 
 -- a body of n bytes was read that stands behind a head of `head` bytes
 pub record ReadsBody {E : Type 0} (before after : LinkState) (old new : List ℕ) (head n : ℕ) (result : Result BodyEnd E) : Type 0 where
   pub taken : List ℕ
   pub moves : Moves before after taken []
-  pub outcome : IsBodyRead before after (old ++ taken) (take head old) new n result
+  pub output : SameOutput before after
+  pub faults : CountsFault result before.read_faults after.read_faults
+  pub outcome : IsBodyRead after (old ++ taken) (take head old) new n result

@@ -1,4 +1,5 @@
 ghost use Rattle.std.specs.Prelude.{◌≤◌, ◌<◌, length};
+ghost use Rattle.sw_base.specs.Link.{IsClean};
 ghost use Rattle.link_reader.specs.Bodies.{ReadsBody};
 ghost use Rattle.link_reader.specs.Pieces.{TakesPiece, IsFinish};
 
@@ -31,7 +32,8 @@ fn finish(kept: Kept) -> BodyEnd
 
 // Reads once, and keeps what came: `most` bytes at most.
 fn take_piece<L: Link>(kept: &mut Kept, link: &mut L, most: usize) -> Result<usize, Failed>
-    requires { 0 < most }
+    requires some { 0 < most }
+    requires clean { IsClean (L.state link.old) }
     ensures { TakesPiece (L.state link.old) (L.state link.new) kept.old kept.new most result }
 {
     let mut piece = [0u8; PIECE_LIMIT];
@@ -50,7 +52,8 @@ pub fn read_body<L: Link>(
     size: usize,
     link: &mut L,
 ) -> Result<BodyEnd, Failed>
-    requires { head ≤ length pending.old }
+    requires within { head ≤ length pending.old }
+    requires clean { IsClean (L.state link.old) }
     ensures { ReadsBody (L.state link.old) (L.state link.new) pending.old pending.new head size result }
 {
     let mut got = size.min(pending.len() - head);

@@ -1,3 +1,4 @@
+ghost use Rattle.sw_base.specs.Link.{IsClean};
 ghost use Rattle.link_reader.specs.Heads.{ReadsHead};
 
 use crate::{HEAD_LIMIT, Pending};
@@ -17,6 +18,7 @@ pub enum HeadEnd {
 /// Reads on until the head of the next request is pending: all bytes through the first
 /// CR LF CR LF (RFC 9112, section 2.1). It takes nothing where the head is pending already.
 pub fn read_head<L: Link>(pending: &mut Pending, link: &mut L) -> Result<HeadEnd, Failed>
+    requires { IsClean (L.state link.old) }
     ensures { ReadsHead (L.state link.old) (L.state link.new) pending.old pending.new result }
 {
     'reads: loop {

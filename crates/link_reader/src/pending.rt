@@ -1,5 +1,5 @@
 ghost use Rattle.std.specs.Prelude.{◌≡◌, ◌<◌, ◌≤◌, ◌-◌, length, take, drop};
-ghost use Rattle.sw_base.specs.Link.{Reads};
+ghost use Rattle.sw_base.specs.Link.{IsClean, Reads};
 
 use memchr::memmem;
 use std::alloc::{AllocError, Global};
@@ -84,7 +84,8 @@ impl Pending {
 
     /// Reads once into the room that is left. 0 is the end of the input.
     pub fn fill<L: Link>(&mut self, link: &mut L) -> Result<usize, Failed>
-        requires { length self.old < HEAD_LIMIT }
+        requires room { length self.old < HEAD_LIMIT }
+        requires clean { IsClean (L.state link.old) }
         ensures { Fills (L.state link.old) (L.state link.new) self.old self.new result }
     {
         let n = read_at(&mut self.bytes, self.filled, link)?;
@@ -104,7 +105,8 @@ impl Pending {
 
 // Reads once into what stands behind the first `at` bytes.
 fn read_at<L: Link>(bytes: &mut [u8], at: usize, link: &mut L) -> Result<usize, Failed>
-    requires { at < length bytes.old }
+    requires room { at < length bytes.old }
+    requires clean { IsClean (L.state link.old) }
     ensures kept { take at bytes.new ≡ take at bytes.old }
     ensures reads { Reads (L.state link.old) (L.state link.new) result (drop at bytes.new) }
 {

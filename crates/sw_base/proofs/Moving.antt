@@ -1,7 +1,7 @@
 -- Calls on a link, one after another.
-use Rattle.std.proofs.Common.{◌≡◌, ℕ, List, [], ◌++◌, ◌∷◌, refl, arith}
+use Rattle.std.proofs.Common.{◌≡◌, ◌∙◌, ℕ, List, [], ◌++◌, ◌∷◌, refl, sym, arith}
 use Rattle.std.proofs.KnownBytes.{Consumes-nil, Consumes-trans, Appends-nil, Appends-trans}
-use Rattle.sw_base.specs.Link.{LinkState, Moves}
+use Rattle.sw_base.specs.Link.{LinkState, IsClean, Moves, SameInput, SameOutput, NoFault}
 
 nil_left : (p q : List ℕ) → p ++ q ≡ [] → p ≡ []
 nil_left [] q e = refl
@@ -28,3 +28,25 @@ Moves-trans {s = s} {t = t} {u = u} {x = x} {y = y} {p = p} {q = q} m n = record
   writes = omega arith;
   clean = λ e c. n.clean (nil_right p q e) (m.clean (nil_left p q e) c);
 }
+
+pub SameInput-refl : (s : LinkState) → SameInput s s
+SameInput-refl s = record { left = refl; read_faults = refl }
+
+pub SameInput-trans : {s t u : LinkState} → SameInput s t → SameInput t u → SameInput s u
+SameInput-trans x y = record { left = y.left ∙ x.left; read_faults = y.read_faults ∙ x.read_faults }
+
+pub SameOutput-refl : (s : LinkState) → SameOutput s s
+SameOutput-refl s = record { written = refl; flushed = refl; write_faults = refl }
+
+pub SameOutput-trans : {s t u : LinkState} → SameOutput s t → SameOutput t u → SameOutput s u
+SameOutput-trans x y = record { written = y.written ∙ x.written; flushed = y.flushed ∙ x.flushed; write_faults = y.write_faults ∙ x.write_faults }
+
+pub NoFault-refl : (s : LinkState) → NoFault s s
+NoFault-refl s = record { reads = refl; writes = refl }
+
+pub NoFault-trans : {s t u : LinkState} → NoFault s t → NoFault t u → NoFault s u
+NoFault-trans x y = record { reads = y.reads ∙ x.reads; writes = y.writes ∙ x.writes }
+
+-- a link to which nothing was written is as clean as before
+pub clean_still : {s t : LinkState} → SameOutput s t → IsClean s → IsClean t
+clean_still x clean = x.flushed ∙ clean ∙ sym x.written

@@ -39,6 +39,11 @@ pub record SameOutput (before after : LinkState) : Type 0 where
   pub flushed : after.flushed ≡ before.flushed
   pub write_faults : after.write_faults ≡ before.write_faults
 
+-- no call on the link failed between these states
+pub record NoFault (before after : LinkState) : Type 0 where
+  pub reads : after.read_faults ≡ before.read_faults
+  pub writes : after.write_faults ≡ before.write_faults
+
 -- the first n bytes at Ok(n), and none at an error
 abbrev pub moved : {E : Type 0} → Result ℕ E → List ℕ → List ℕ
 moved (Ok n) bytes = take n bytes

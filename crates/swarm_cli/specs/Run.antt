@@ -1,7 +1,7 @@
 -- What the program does.
 use Rattle.std.specs.Prelude.{◌≡◌, ◌⊎◌, ℕ, List, [], ◌∷◌, codes, Option}
 use Rattle.sw_base.specs.Faults.{Rose}
-use Rattle.sw_base.specs.Link.{LinkState}
+use Rattle.sw_base.specs.Link.{LinkState, IsClean, NoFault}
 use Rattle.swarm_policy.specs.Open.{open_settings}
 use Rattle.swarm_history.specs.Doors.{Logs}
 use Rattle.swarm_http.specs.declared.ended.Ended.{Ended}
@@ -35,8 +35,8 @@ pub record RunsSession (s t : LinkState) (a b : ℕ → Option (List ℕ)) (stat
   pub answered : IsAnswered open_settings numbers s t a b old new ended
   pub status_is : status ≡ status_of ended
 
--- the usage was written whole, or a write failed
+-- the usage was written whole and flushed, or a write or the flush failed
 pub record PrintsUsage (s t : LinkState) (status : ℕ) : Type 0 where
   pub back : List ℕ
   pub written : Written s t (codes "usage\n") back
-  pub cause : ((status ≡ 2) × (back ≡ [])) ⊎ ((status ≡ 4) × Rose s.write_faults t.write_faults)
+  pub cause : ((status ≡ 2) × (back ≡ []) × IsClean t × NoFault s t) ⊎ ((status ≡ 4) × Rose s.write_faults t.write_faults)

@@ -1,8 +1,9 @@
 ghost use Rattle.std.specs.Prelude.{◌≡◌, ◌↔◌, IsTrue, map, string_bytes};
+ghost use Rattle.sw_base.specs.Link.{IsClean};
 ghost use Rattle.swarm_cli.specs.Run.{AreSession, RunsSession, PrintsUsage, status_of};
 
 use std::alloc::Global;
-use swarm_http::{Clock, Ended, Link, PlainDoor, send_whole, session};
+use swarm_http::{Clock, Ended, Link, PlainDoor, send_flushed, session};
 use swarm_plain::ListPool;
 use swarm_policy::open_settings;
 
@@ -18,6 +19,7 @@ fn status_of(ended: Ended) -> u8
 }
 
 fn run_session<L: Link, C: Clock>(alloc: Global, console: &mut L, clock: &mut C) -> u8
+    requires { IsClean (L.state console.old) }
     ensures { RunsSession (L.state console.old) (L.state console.new) (C.ahead clock.old) (C.ahead clock.new) result }
 {
     let Ok(settings) = open_settings(alloc) else {
@@ -39,6 +41,15 @@ fn are_session(words: &[String]) -> bool
     }
 }
 
+fn print_usage<L: Link>(console: &mut L) -> u8
+    ensures { PrintsUsage (L.state console.old) (L.state console.new) result }
+{
+    match send_flushed(console, b"usage\n") {
+        Ok(()) => 2,
+        Err(_) => 4,
+    }
+}
+
 /// Carries out the words of the command line, without the program's own name, and answers the
 /// status with which the program ends.
 ///
@@ -50,6 +61,7 @@ fn are_session(words: &[String]) -> bool
 /// | 5 | there was no memory to begin with |
 /// | 7 | the input ended inside a request, or a head was refused |
 pub fn run<L: Link, C: Clock>(alloc: Global, words: &[String], console: &mut L, clock: &mut C) -> u8
+    requires { IsClean (L.state console.old) }
     ensures session { AreSession (map string_bytes words.now) →
         RunsSession (L.state console.old) (L.state console.new) (C.ahead clock.old) (C.ahead clock.new) result }
     ensures usage { ¬ (AreSession (map string_bytes words.now)) →
@@ -58,8 +70,5 @@ pub fn run<L: Link, C: Clock>(alloc: Global, words: &[String], console: &mut L, 
     if are_session(words) {
         return run_session(alloc, console, clock);
     }
-    match send_whole(console, b"usage\n") {
-        Ok(()) => 2,
-        Err(_) => 4,
-    }
+    print_usage(console)
 }

@@ -5,8 +5,9 @@ use Rattle.std.proofs.Common.{inl, inr, refl, Bool, true, false, ◌≡◌, ℕ,
 use Rattle.std.proofs.lemmas.List.{get_or-take, length-take-le}
 use Rattle.httparse.specs.Grammar.{RequestHead}
 use Rattle.memchr.specs.Find.{OccursAt}
+use Rattle.sw_base.specs.Faults.{Rose}
 use Rattle.sw_base.specs.Link.{LinkState}
-use Rattle.sw_base.proofs.Moving.{Moves-refl, Moves-trans}
+use Rattle.sw_base.proofs.Moving.{Moves-refl, Moves-trans, SameOutput-refl, SameOutput-trans}
 use Rattle.link_reader.specs.Heads.{blank_line, IsHeadEnd, Grows}
 use Rattle.link_reader.specs.Bodies.{IsWhole, IsCut}
 use Rattle.request_head.specs.Heads.{IsHead, IsNoHead}
@@ -115,29 +116,30 @@ limit_is h limit e =
 
 -- the head that is pending is refused, with nothing read
 pub refused_here : {s : LinkState} {pending : List ℕ} {why : Refusal} → IsRefused pending (rule_of why) → Takes s s pending pending (taken.Refuses why)
-refused_here {s = s} {pending = pending} refused = record { taken = []; moves = Moves-refl s; outcome = (refused, append-nil pending) }
+refused_here {s = s} {pending = pending} refused = record { taken = []; moves = Moves-refl s; output = SameOutput-refl s; outcome = (refused, append-nil pending, refl) }
 
-stops_after : (ended : Ended) (rest : List ℕ) (s t u : LinkState) → s.read_faults ≤ t.read_faults → StopsAs ended rest t u → StopsAs ended rest s u
-stops_after Closed rest s t u le x = x
-stops_after CutShort rest s t u le x = x
-stops_after ReadFault rest s t u le x = (omega (arith, x.0), x.1)
+stops_after : (ended : Ended) (rest : List ℕ) (s t u : LinkState) → t.read_faults ≡ s.read_faults → StopsAs ended rest t u → StopsAs ended rest s u
+stops_after Closed rest s t u le x = (x.0, x.1, x.2 ∙ le)
+stops_after CutShort rest s t u le x = (x.0, x.1, x.2 ∙ le)
+stops_after ReadFault rest s t u le x = (subst (λ n. Rose n u.read_faults) le x.0, x.1)
 stops_after LastAsked rest s t u le x = x
 stops_after BadHead rest s t u le x = x
 stops_after Retired rest s t u le x = x
 stops_after WriteFault rest s t u le x = x
 stops_after Memory rest s t u le x = x
 
-taken_after : (s t u : LinkState) (input new : List ℕ) (r : Taken) → s.read_faults ≤ t.read_faults → IsTaken t u input new r → IsTaken s u input new r
-taken_after s t u input new (taken.Asks received) le x = x
-taken_after s t u input new (taken.Refuses why) le x = x
+taken_after : (s t u : LinkState) (input new : List ℕ) (r : Taken) → t.read_faults ≡ s.read_faults → IsTaken t u input new r → IsTaken s u input new r
+taken_after s t u input new (taken.Asks received) le x = (x.0, x.1 ∙ le)
+taken_after s t u input new (taken.Refuses why) le x = (x.0, x.1, x.2 ∙ le)
 taken_after s t u input new (taken.Ends ended) le x = stops_after ended input s t u le x
 
--- a request was taken after reads
-pub takes_after : {s t u : LinkState} {a b c : List ℕ} {r : Taken} → Grows s t a b → Takes t u b c r → Takes s u a c r
-takes_after {s = s} {t = t} {u = u} {a = a} {b = b} {c = c} {r = r} x y =
+-- a request was taken after reads, none of which failed
+pub takes_after : {s t u : LinkState} {a b c : List ℕ} {r : Taken} → Grows s t a b → t.read_faults ≡ s.read_faults → Takes t u b c r → Takes s u a c r
+takes_after {s = s} {t = t} {u = u} {a = a} {b = b} {c = c} {r = r} x well y =
     let same : b ++ y.taken ≡ a ++ (x.taken ++ y.taken) = ap (λ l. l ++ y.taken) x.grown ∙ append_assoc a x.taken y.taken in
     record {
       taken = x.taken ++ y.taken;
       moves = Moves-trans x.moves y.moves;
-      outcome = subst (λ input. IsTaken s u input c r) same (taken_after s t u (b ++ y.taken) c r x.moves.reads y.outcome);
+      output = SameOutput-trans x.output y.output;
+      outcome = subst (λ input. IsTaken s u input c r) same (taken_after s t u (b ++ y.taken) c r well y.outcome);
     }

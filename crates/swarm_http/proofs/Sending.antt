@@ -1,58 +1,94 @@
 -- Writing, one piece after another.
-use Rattle.std.proofs.Common.{◌≡◌, ℕ, List, [], ◌++◌, arith, refl, sym, ap, ◌∙◌, append_assoc, append-nil, Result, subst}
-use Rattle.std.specs.Prelude.{MatchResult}
-use Rattle.std.proofs.lemmas.Result.{MatchResult-weaker}
-use Rattle.sw_base.specs.Faults.{Rose}
-use Rattle.sw_base.specs.Link.{LinkState, Moves, Flushes}
-use Rattle.sw_base.proofs.Moving.{Moves-refl, Moves-trans}
+use Rattle.std.proofs.Common.{◌≡◌, ℕ, List, [], ◌++◌, refl, sym, ap, ◌∙◌, append_assoc, append-nil, Result, Ok, Err, subst}
+use Rattle.std.specs.Prelude.{OnOk}
+use Rattle.sw_base.specs.Faults.{Rose, CountsFault}
+use Rattle.sw_base.specs.Link.{LinkState, Moves, SameInput, Flushes}
+use Rattle.sw_base.proofs.Moving.{Moves-refl, Moves-trans, SameInput-refl, SameInput-trans}
 use Rattle.swarm_http.specs.Sends.{Written, Sends}
 
-pub none_written : (s : LinkState) (text : List ℕ) → Written s s text text
-none_written s text = record { sent = []; moves = Moves-refl s; whole = refl }
+-- so much was written, and no write failed
+pub record SoFar (s t : LinkState) (text back : List ℕ) : Type 0 where
+  pub written : Written s t text back
+  pub well : t.write_faults ≡ s.write_faults
 
-pub more_written : {s t u : LinkState} {text back piece rest : List ℕ} → Written s t text back → Moves t u [] piece → back ≡ piece ++ rest → Written s u text rest
-more_written {piece = piece} {rest = rest} w m is = record {
-  sent = w.sent ++ piece;
-  moves = Moves-trans w.moves m;
-  whole = w.whole ∙ ap (λ l. w.sent ++ l) is ∙ sym (append_assoc w.sent piece rest);
-}
+pub none_written : (s : LinkState) (text : List ℕ) → SoFar s s text text
+none_written s text = record { written = record { sent = []; moves = Moves-refl s; input = SameInput-refl s; whole = refl }; well = refl }
+
+pub more_written : {s t u : LinkState} {text back piece rest : List ℕ} → SoFar s t text back → Moves t u [] piece → SameInput t u → u.write_faults ≡ t.write_faults → back ≡ piece ++ rest → SoFar s u text rest
+more_written {piece = piece} {rest = rest} x m input well is =
+    let w = x.written in
+    record {
+      written = record {
+        sent = w.sent ++ piece;
+        moves = Moves-trans w.moves m;
+        input = SameInput-trans w.input input;
+        whole = w.whole ∙ ap (λ l. w.sent ++ l) is ∙ sym (append_assoc w.sent piece rest);
+      };
+      well = well ∙ x.well;
+    }
+
+-- a write failed after others
+pub write_failed : {T E : Type 0} {e : E} {s t u : LinkState} {text back : List ℕ} → SoFar s t text back → Moves t u [] [] → SameInput t u → Rose t.write_faults u.write_faults → Sends {T = T} s u text (Err e)
+write_failed {s = s} {u = u} x m input rose =
+    let w = x.written in
+    record {
+      back = _;
+      written = record {
+        sent = w.sent;
+        moves = subst (Moves s u []) (append-nil w.sent) (Moves-trans w.moves m);
+        input = SameInput-trans w.input input;
+        whole = w.whole;
+      };
+      faults = subst (λ n. Rose n u.write_faults) x.well rose;
+      outcome = tt;
+    }
 
 -- one text after another
 pub after_sent : {T U E F : Type 0} {s t u : LinkState} {a b : List ℕ} {r : Result T E} {q : Result U F}
-    → (p : Sends s t a r) → p.back ≡ [] → Sends t u b q → Sends s u (a ++ b) q
-after_sent {s = s} {u = u} {a = a} {b = b} {q = q} p all r = record {
+    → (p : Sends s t a r) → p.back ≡ [] → t.write_faults ≡ s.write_faults → Sends t u b q → Sends s u (a ++ b) q
+after_sent {u = u} {b = b} {q = q} p all well r = record {
   back = r.back;
   written = record {
     sent = p.written.sent ++ r.written.sent;
     moves = Moves-trans p.written.moves r.written.moves;
+    input = SameInput-trans p.written.input r.written.input;
     whole = ap (λ l. l ++ b) (p.written.whole ∙ ap (λ l. p.written.sent ++ l) all ∙ append-nil p.written.sent)
         ∙ ap (λ l. p.written.sent ++ l) r.written.whole ∙ sym (append_assoc p.written.sent r.written.sent r.back);
   };
-  outcome = MatchResult-weaker q r.outcome (λ x e. e) (λ e rose. omega (arith, p.written.moves.writes));
+  faults = subst (λ n. CountsFault q n u.write_faults) well r.faults;
+  outcome = r.outcome;
 }
 
 -- a text that failed, with more to come
-pub failed_before : {T U E F : Type 0} {s t : LinkState} {a : List ℕ} {r : Result T E} {q : Result U F} (b : List ℕ)
-    → Sends s t a r → MatchResult q (λ _. ⊥) (λ _. Rose s.write_faults t.write_faults) → Sends s t (a ++ b) q
-failed_before {a = a} {q = q} b p outcome = record {
+pub failed_before : {T U E F : Type 0} {s t : LinkState} {a : List ℕ} {r : Result T E} {e : F} (b : List ℕ)
+    → Sends s t a r → Rose s.write_faults t.write_faults → Sends {T = U} s t (a ++ b) (Err e)
+failed_before b p rose = record {
   back = p.back ++ b;
   written = record {
     sent = p.written.sent;
     moves = p.written.moves;
+    input = p.written.input;
     whole = ap (λ l. l ++ b) p.written.whole ∙ append_assoc p.written.sent p.back b;
   };
-  outcome = MatchResult-weaker q outcome (λ x no. absurd no) (λ e rose. rose);
+  faults = rose;
+  outcome = tt;
 }
+
+on_ok : {T E P : Type 0} (r : Result T E) → P → OnOk r P
+on_ok (Ok v) p = p
+on_ok (Err e) p = tt
 
 -- a text that was flushed
 pub flushed : {T U E F : Type 0} {s t u : LinkState} {a : List ℕ} {r : Result T E} {q : Result U F}
-    → (p : Sends s t a r) → p.back ≡ [] → Flushes t u q → Sends s u a q
-flushed {s = s} {u = u} {q = q} p all f = record {
+    → (p : Sends s t a r) → p.back ≡ [] → t.write_faults ≡ s.write_faults → Flushes t u q → Sends s u a q
+flushed {s = s} {u = u} {q = q} p all well f = record {
   back = [];
   written = record {
     sent = p.written.sent;
     moves = subst (Moves s u []) (append-nil p.written.sent) (Moves-trans p.written.moves f.moves);
+    input = SameInput-trans p.written.input f.input;
     whole = p.written.whole ∙ ap (λ l. p.written.sent ++ l) all;
   };
-  outcome = MatchResult-weaker q f.faults (λ x e. refl) (λ e rose. omega (arith, p.written.moves.writes));
+  faults = subst (λ n. CountsFault q n u.write_faults) well f.faults;
+  outcome = on_ok q refl;
 }

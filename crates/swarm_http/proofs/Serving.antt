@@ -9,8 +9,8 @@ use Rattle.httparse.specs.Grammar.{RequestHead}
 use Rattle.request_head.specs.Says.{size_of}
 use Rattle.sw_base.specs.Clock.{HandsIn}
 use Rattle.sw_base.specs.Faults.{Rose}
-use Rattle.sw_base.specs.Link.{LinkState, IsClean, Moves}
-use Rattle.sw_base.proofs.Moving.{Moves-refl, Moves-trans}
+use Rattle.sw_base.specs.Link.{LinkState, IsClean, Moves, NoFault}
+use Rattle.sw_base.proofs.Moving.{Moves-refl, Moves-trans, NoFault-refl, NoFault-trans, clean_still}
 use Rattle.swarm_model.specs.declared.pool_settings.Settings.{Settings}
 use Rattle.swarm_history.specs.Doors.{Logs, DoorState}
 use Rattle.swarm_http.specs.declared.ended.Ended.{Ended}
@@ -22,9 +22,9 @@ use Rattle.swarm_http.specs.declared.request.Taken.TheVariants as taken
 use Rattle.swarm_http.specs.Shown.{refusal}
 use Rattle.swarm_http.specs.Outcomes.{Outcome, Acts, shows, uses}
 use Rattle.swarm_http.specs.Exchange.{Exchange, HeadSays, spelled, reply_of, moments_of, Chain}
-use Rattle.swarm_http.specs.Answered.{replies, Serves, NoneCloses, IsCutReply, last_reply, refused_head, EndsAs, IsAnswered, KeepsDoor}
+use Rattle.swarm_http.specs.Answered.{replies, Serves, NoneCloses, IsOpenStill, IsCutReply, last_reply, refused_head, EndsAs, EndsAtFault, IsAnswered, KeepsDoor}
 use Rattle.swarm_http.specs.Sends.{Sends, rule_of, text_of}
-use Rattle.swarm_http.specs.Takes.{IsHeld, StopsAs, Takes}
+use Rattle.swarm_http.specs.Takes.{IsHeld, StopsAs, Takes, ReadsWell}
 use Rattle.swarm_http.specs.Steps.{Answers, GoesOn, Stops}
 
 pub HandsIn-nil : (a : ℕ → Option (List ℕ)) → HandsIn a a []
@@ -66,19 +66,30 @@ none_close : (xs ys : List Exchange) → NoneCloses xs → NoneCloses ys → Non
 none_close [] ys p q = q
 none_close (x ∷ xs) ys p q = (p.0, none_close xs ys p.1 q)
 
-cut_after : (xs ys : List Exchange) (rest sent : List ℕ) → NoneCloses xs → IsCutReply ys rest sent → IsCutReply (xs ++ ys) rest (replies xs ++ sent)
-cut_after xs ys rest sent o (last_reply zs x front back is still so_far whole) =
+-- no request was answered yet
+nothing_open : IsOpenStill 1 []
+nothing_open = record { few = omega arith; open_still = tt }
+
+-- fewer than 65536 requests, and no request more
+open_after : (xs ys : List Exchange) → length xs < 65536 → NoneCloses xs → IsOpenStill 1 ys → IsOpenStill 65536 (xs ++ ys)
+open_after xs ys few o y = record {
+  few = let none : length ys < 1 = y.few in omega (arith, length-append xs ys);
+  open_still = none_close xs ys o y.open_still;
+}
+
+cut_after : (xs ys : List Exchange) (rest sent : List ℕ) → length xs < 65536 → NoneCloses xs → IsCutReply 1 ys rest sent → IsCutReply 65536 (xs ++ ys) rest (replies xs ++ sent)
+cut_after xs ys rest sent few o (last_reply zs x front back is still so_far whole) =
     last_reply (xs ++ zs) x front back (ap (λ l. xs ++ l) is ∙ sym (append_assoc xs zs (x ∷ []))) (none_close xs zs o still)
     (ap (λ l. replies xs ++ l) so_far ∙ sym (append_assoc (replies xs) (replies zs) front) ∙ ap (λ l. l ++ front) (sym (flat_map-append reply_of xs zs))) whole
-cut_after xs ys rest sent o (refused_head why front back still refused so_far whole) =
-    refused_head why front back (none_close xs ys o still) refused
+cut_after xs ys rest sent few o (refused_head why front back still refused so_far whole) =
+    refused_head why front back (open_after xs ys few o still) refused
     (ap (λ l. replies xs ++ l) so_far ∙ sym (append_assoc (replies xs) (replies ys) front) ∙ ap (λ l. l ++ front) (sym (flat_map-append reply_of xs ys))) whole
 
 -- a connection that ends after some exchanges, none of which asks to close it
-ends_after : (ended : Ended) (xs ys : List Exchange) (rest sent : List ℕ) (s m t : LinkState) → NoneCloses xs → s.read_faults ≤ m.read_faults → s.write_faults ≤ m.write_faults
-    → ended ≢ Retired → ended ≢ Memory → EndsAs ended ys rest sent m t → EndsAs ended (xs ++ ys) rest (replies xs ++ sent) s t
-ends_after Closed xs ys rest sent s m t o r w nr nm e = (e.0, e.1, replies_after xs ys sent e.2, none_close xs ys o e.3)
-ends_after LastAsked xs ys rest sent s m t o r w nr nm e =
+ends_after : (ended : Ended) (xs ys : List Exchange) (rest sent : List ℕ) (s m t : LinkState) → length xs < 65536 → NoneCloses xs → NoFault s m
+    → ended ≢ Retired → ended ≢ Memory → EndsAs 1 ended ys rest sent m t → EndsAs 65536 ended (xs ++ ys) rest (replies xs ++ sent) s t
+ends_after Closed xs ys rest sent s m t few o well nr nm e = (e.0, e.1, replies_after xs ys sent e.2, open_after xs ys few o e.3)
+ends_after LastAsked xs ys rest sent s m t few o well nr nm e =
     let l = e.0 in (
       record {
         earlier = xs ++ l.earlier;
@@ -89,13 +100,13 @@ ends_after LastAsked xs ys rest sent s m t o r w nr nm e =
       },
       replies_after xs ys sent e.1,
     )
-ends_after CutShort xs ys rest sent s m t o r w nr nm e = (e.0, e.1, replies_after xs ys sent e.2, none_close xs ys o e.3)
-ends_after BadHead xs ys rest sent s m t o r w nr nm e =
-    (e.0, e.1, ap (λ l. replies xs ++ l) e.2 ∙ sym (append_assoc (replies xs) (replies ys) (refusal None e.0)) ∙ ap (λ l. l ++ refusal None e.0) (sym (flat_map-append reply_of xs ys)), none_close xs ys o e.3)
-ends_after Retired xs ys rest sent s m t o r w nr nm e = absurd (nr refl)
-ends_after ReadFault xs ys rest sent s m t o r w nr nm e = (omega (arith, e.0), e.1, replies_after xs ys sent e.2, none_close xs ys o e.3)
-ends_after WriteFault xs ys rest sent s m t o r w nr nm e = (omega (arith, e.0), cut_after xs ys rest sent o e.1)
-ends_after Memory xs ys rest sent s m t o r w nr nm e = absurd (nm refl)
+ends_after CutShort xs ys rest sent s m t few o well nr nm e = (e.0, e.1, replies_after xs ys sent e.2, open_after xs ys few o e.3)
+ends_after BadHead xs ys rest sent s m t few o well nr nm e =
+    (e.0, e.1, ap (λ l. replies xs ++ l) e.2 ∙ sym (append_assoc (replies xs) (replies ys) (refusal None e.0)) ∙ ap (λ l. l ++ refusal None e.0) (sym (flat_map-append reply_of xs ys)), open_after xs ys few o e.3)
+ends_after Retired xs ys rest sent s m t few o well nr nm e = absurd (nr refl)
+ends_after ReadFault xs ys rest sent s m t few o well nr nm e = (subst (λ n. Rose n t.read_faults) well.reads e.0, e.1, replies_after xs ys sent e.2, open_after xs ys few o e.3)
+ends_after WriteFault xs ys rest sent s m t few o well nr nm e = (subst (λ n. Rose n t.write_faults) well.writes e.0, cut_after xs ys rest sent few o e.1)
+ends_after Memory xs ys rest sent s m t few o well nr nm e = absurd (nm refl)
 
 -- no request was answered
 none_served : {settings : Settings} {numbers : ℕ → ℕ} {pending rest taken sent : List ℕ} {s t : LinkState} {a : ℕ → Option (List ℕ)} {d : Logs}
@@ -114,18 +125,27 @@ one_served {rest = rest} {taken = taken} {text = text} {body = body} {outcome = 
   chain = (e, record { says = says; size = size; acts = acts }, refl);
 }
 
+-- it ended at a write or a flush that failed
+write_fault : {s t : LinkState} → t.read_faults ≡ s.read_faults → EndsAtFault WriteFault s t
+write_fault reads = record { reads = λ n. reads; writes = λ n. absurd (n refl); clean = λ n. absurd (n refl) }
+
+-- no call failed
+no_faults : {ended : Ended} {s t : LinkState} → t.read_faults ≡ s.read_faults → t.write_faults ≡ s.write_faults → IsClean t → EndsAtFault ended s t
+no_faults reads writes clean = record { reads = λ n. reads; writes = λ n. writes; clean = λ n. clean }
+
 -- a request was taken, answered and its reply written
 pub goes_on : {settings : Settings} {numbers : ℕ → ℕ} {pending rest : List ℕ} {received : Received} {shown : Shown} {T E : Type 0} {r : Result T E} {s t u : LinkState} {a b : ℕ → Option (List ℕ)} {d e : Logs}
     → Takes s t pending rest (taken.Asks received)
     → ((body : List ℕ) (head : RequestHead) → IsHeld received body head → Answers settings numbers head body a b d e shown)
-    → (w : Sends t u (text_of shown) r) → w.back ≡ [] → IsClean u → received.said.closes ≡ false → GoesOn settings numbers pending rest s u a b d e
-goes_on {s = s} {u = u} x answers w all flushed still =
-    let q = x.outcome in
+    → (w : Sends t u (text_of shown) r) → w.back ≡ [] → u.write_faults ≡ t.write_faults → IsClean u → received.said.closes ≡ false → GoesOn settings numbers pending rest s u a b d e
+goes_on {s = s} {u = u} x answers w all well flushed still =
+    let q = x.outcome.0 in
     let y = answers q.body q.head q.held in
     let sent : w.written.sent ≡ shows y.outcome = sym (append-nil w.written.sent) ∙ ap (λ l. w.written.sent ++ l) (sym all) ∙ sym w.written.whole ∙ y.shown in
     let moves = Moves-trans x.moves w.written.moves in
     record {
       x = record { text = q.text; body = q.body; head = q.head; outcome = y.outcome };
+      no_fault = record { reads = w.written.input.read_faults ∙ x.outcome.1; writes = well ∙ x.output.write_faults };
       clean = flushed;
       open_still = sym q.held.said.closes ∙ still;
       serves = one_served (subst (Moves s u x.taken) sent (subst (λ l. Moves s u l w.written.sent) (append-nil x.taken) moves)) q.input_is q.says q.size y.acts y.moments;
@@ -137,7 +157,7 @@ pub reply_cut : {settings : Settings} {numbers : ℕ → ℕ} {pending rest : Li
     → ((body : List ℕ) (head : RequestHead) → IsHeld received body head → Answers settings numbers head body a b d e shown)
     → Sends t u (text_of shown) r → Rose t.write_faults u.write_faults → Stops settings numbers pending s u a b d e WriteFault
 reply_cut {rest = rest} {s = s} {u = u} x answers w rose =
-    let q = x.outcome in
+    let q = x.outcome.0 in
     let y = answers q.body q.head q.held in
     let one : Exchange = record { text = q.text; body = q.body; head = q.head; outcome = y.outcome } in
     let moves = Moves-trans x.moves w.written.moves in
@@ -146,9 +166,9 @@ reply_cut {rest = rest} {s = s} {u = u} x answers w rose =
       rest = rest;
       sent = w.written.sent;
       serves = one_served (subst (λ l. Moves s u l w.written.sent) (append-nil x.taken) moves) q.input_is q.says q.size y.acts y.moments;
-      ends = (omega (arith, x.moves.writes, rose), last_reply [] one w.written.sent w.back refl tt refl (sym y.shown ∙ w.written.whole));
+      ends = (subst (λ n. Rose n u.write_faults) x.output.write_faults rose, last_reply [] one w.written.sent w.back refl tt refl (sym y.shown ∙ w.written.whole));
       few = omega arith;
-      clean = λ n c. absurd (n refl);
+      faults = write_fault (w.written.input.read_faults ∙ x.outcome.1);
       not_retired = λ h. cc;
       not_memory = λ h. cc;
     }
@@ -157,9 +177,9 @@ reply_cut {rest = rest} {s = s} {u = u} x answers w rose =
 pub asked_last : {settings : Settings} {numbers : ℕ → ℕ} {pending rest : List ℕ} {received : Received} {shown : Shown} {T E : Type 0} {r : Result T E} {s t u : LinkState} {a b : ℕ → Option (List ℕ)} {d e : Logs}
     → Takes s t pending rest (taken.Asks received)
     → ((body : List ℕ) (head : RequestHead) → IsHeld received body head → Answers settings numbers head body a b d e shown)
-    → (w : Sends t u (text_of shown) r) → w.back ≡ [] → IsClean u → received.said.closes ≡ true → Stops settings numbers pending s u a b d e LastAsked
-asked_last {rest = rest} {s = s} {u = u} x answers w all flushed closing =
-    let q = x.outcome in
+    → (w : Sends t u (text_of shown) r) → w.back ≡ [] → u.write_faults ≡ t.write_faults → IsClean u → received.said.closes ≡ true → Stops settings numbers pending s u a b d e LastAsked
+asked_last {rest = rest} {s = s} {u = u} x answers w all well flushed closing =
+    let q = x.outcome.0 in
     let y = answers q.body q.head q.held in
     let one : Exchange = record { text = q.text; body = q.body; head = q.head; outcome = y.outcome } in
     let sent : w.written.sent ≡ shows y.outcome = sym (append-nil w.written.sent) ∙ ap (λ l. w.written.sent ++ l) (sym all) ∙ sym w.written.whole ∙ y.shown in
@@ -171,24 +191,24 @@ asked_last {rest = rest} {s = s} {u = u} x answers w all flushed closing =
       serves = one_served (subst (λ l. Moves s u l w.written.sent) (append-nil x.taken) moves) q.input_is q.says q.size y.acts y.moments;
       ends = (record { earlier = []; last = one; are = refl; open_before = tt; closing = sym q.held.said.closes ∙ closing }, sent ∙ sym (append-nil (shows y.outcome)));
       few = omega arith;
-      clean = λ n c. flushed;
+      faults = no_faults (w.written.input.read_faults ∙ x.outcome.1) (well ∙ x.output.write_faults) flushed;
       not_retired = λ h. cc;
       not_memory = λ h. cc;
     }
 
 -- the head was refused
 pub head_refused : {settings : Settings} {numbers : ℕ → ℕ} {pending rest : List ℕ} {why : Refusal} {T E : Type 0} {r : Result T E} {s t u : LinkState} {a : ℕ → Option (List ℕ)} {d : Logs}
-    → Takes s t pending rest (taken.Refuses why) → (w : Sends t u (refusal None (rule_of why)) r) → w.back ≡ [] → IsClean u → Stops settings numbers pending s u a a d d BadHead
-head_refused {rest = rest} {why = why} {s = s} {u = u} x w all flushed =
+    → Takes s t pending rest (taken.Refuses why) → (w : Sends t u (refusal None (rule_of why)) r) → w.back ≡ [] → u.write_faults ≡ t.write_faults → IsClean u → Stops settings numbers pending s u a a d d BadHead
+head_refused {rest = rest} {why = why} {s = s} {u = u} x w all well flushed =
     let moves = Moves-trans x.moves w.written.moves in
     record {
       xs = [];
       rest = rest;
       sent = w.written.sent;
       serves = none_served (subst (λ l. Moves s u l w.written.sent) (append-nil x.taken) moves) x.outcome.1;
-      ends = (rule_of why, x.outcome.0, sym (append-nil w.written.sent) ∙ ap (λ l. w.written.sent ++ l) (sym all) ∙ sym w.written.whole, tt);
+      ends = (rule_of why, x.outcome.0, sym (append-nil w.written.sent) ∙ ap (λ l. w.written.sent ++ l) (sym all) ∙ sym w.written.whole, nothing_open);
       few = omega arith;
-      clean = λ n c. flushed;
+      faults = no_faults (w.written.input.read_faults ∙ x.outcome.2) (well ∙ x.output.write_faults) flushed;
       not_retired = λ h. cc;
       not_memory = λ h. cc;
     }
@@ -203,17 +223,17 @@ refusal_cut {rest = rest} {why = why} {s = s} {u = u} x w rose =
       rest = rest;
       sent = w.written.sent;
       serves = none_served (subst (λ l. Moves s u l w.written.sent) (append-nil x.taken) moves) x.outcome.1;
-      ends = (omega (arith, x.moves.writes, rose), refused_head (rule_of why) w.written.sent w.back tt x.outcome.0 refl w.written.whole);
+      ends = (subst (λ n. Rose n u.write_faults) x.output.write_faults rose, refused_head (rule_of why) w.written.sent w.back nothing_open x.outcome.0 refl w.written.whole);
       few = omega arith;
-      clean = λ n c. absurd (n refl);
+      faults = write_fault (w.written.input.read_faults ∙ x.outcome.2);
       not_retired = λ h. cc;
       not_memory = λ h. cc;
     }
 
-ends_of : (ended : Ended) (rest : List ℕ) (s t : LinkState) → StopsAs ended rest s t → EndsAs ended [] rest [] s t × (ended ≢ Retired) × (ended ≢ Memory)
-ends_of Closed rest s t x = ((x.0, x.1, refl, tt), (λ h. cc), (λ h. cc))
-ends_of CutShort rest s t x = ((x.0, x.1, refl, tt), (λ h. cc), (λ h. cc))
-ends_of ReadFault rest s t x = ((x.0, x.1, refl, tt), (λ h. cc), (λ h. cc))
+ends_of : (ended : Ended) (rest : List ℕ) (s t : LinkState) → StopsAs ended rest s t → EndsAs 1 ended [] rest [] s t × (ended ≢ Retired) × (ended ≢ Memory) × (ended ≢ ReadFault → ReadsWell s t)
+ends_of Closed rest s t x = ((x.0, x.1, refl, nothing_open), (λ h. cc), (λ h. cc), λ n. x.2)
+ends_of CutShort rest s t x = ((x.0, x.1, refl, nothing_open), (λ h. cc), (λ h. cc), λ n. x.2)
+ends_of ReadFault rest s t x = ((x.0, x.1, refl, nothing_open), (λ h. cc), (λ h. cc), λ n. absurd (n refl))
 ends_of LastAsked rest s t x = absurd x
 ends_of BadHead rest s t x = absurd x
 ends_of Retired rest s t x = absurd x
@@ -222,8 +242,8 @@ ends_of Memory rest s t x = absurd x
 
 -- no request came
 pub taking_ended : {settings : Settings} {numbers : ℕ → ℕ} {pending rest : List ℕ} {s t : LinkState} {a : ℕ → Option (List ℕ)} {d : Logs} (ended : Ended)
-    → Takes s t pending rest (taken.Ends ended) → Stops settings numbers pending s t a a d d ended
-taking_ended {pending = pending} {s = s} {t = t} ended x =
+    → Takes s t pending rest (taken.Ends ended) → IsClean s → Stops settings numbers pending s t a a d d ended
+taking_ended {pending = pending} {s = s} {t = t} ended x clean =
     let e = ends_of ended (pending ++ x.taken) s t x.outcome in
     record {
       xs = [];
@@ -232,7 +252,7 @@ taking_ended {pending = pending} {s = s} {t = t} ended x =
       serves = none_served x.moves refl;
       ends = e.0;
       few = omega arith;
-      clean = λ n c. x.moves.clean refl c;
+      faults = record { reads = e.3; writes = λ n. x.output.write_faults; clean = λ n. clean_still x.output clean };
       not_retired = e.1;
       not_memory = e.2;
     }
@@ -251,18 +271,20 @@ pub record SoFar (settings : Settings) (numbers : ℕ → ℕ) (count : ℕ) (pe
   pub serves : Serves settings numbers xs [] pending (replies xs) s t a b d.seen e.seen
   pub counted : length xs ≡ count
   pub open_still : NoneCloses xs
-  pub clean : IsClean s → IsClean t
+  pub no_fault : NoFault s t
+  pub clean : IsClean t
   pub settings_is : e.settings ≡ settings
   pub numbers_are : e.numbers ≡ numbers
   pub keeps : KeepsDoor count d e
 
-pub begun : (settings : Settings) (s : LinkState) (a : ℕ → Option (List ℕ)) (d : DoorState) → d.settings ≡ settings → SoFar settings d.numbers 0 [] s s a a d d
-begun settings s a d same = record {
+pub begun : (settings : Settings) (s : LinkState) (a : ℕ → Option (List ℕ)) (d : DoorState) → IsClean s → d.settings ≡ settings → SoFar settings d.numbers 0 [] s s a a d d
+begun settings s a d clean same = record {
   xs = [];
   serves = nothing_served settings d.numbers s a d.seen;
   counted = refl;
   open_still = tt;
-  clean = λ c. c;
+  no_fault = NoFault-refl s;
+  clean = clean;
   settings_is = same;
   numbers_are = refl;
   keeps = record { settings = refl; numbers = refl; faults = omega arith; calls = omega arith };
@@ -277,7 +299,8 @@ one_on {settings = settings} {numbers = numbers} {pending = pending} {more = mor
       xs = x.xs ++ y.x ∷ [];
       serves = subst (λ l. Serves settings numbers (x.xs ++ y.x ∷ []) [] more l s u a c d.seen f.seen)
           (replies_after x.xs (y.x ∷ []) (reply_of y.x) (sym (append-nil (reply_of y.x)))) (Serves-trans x.serves step);
-      clean = λ c. y.clean;
+      no_fault = NoFault-trans x.no_fault y.no_fault;
+      clean = y.clean;
       counted = omega (arith, length-append x.xs (y.x ∷ []), x.counted);
       open_still = none_close x.xs (y.x ∷ []) x.open_still (y.open_still, tt);
       settings_is = k.settings ∙ x.settings_is;
@@ -294,14 +317,14 @@ ended_so {settings = settings} {pending = pending} {s = s} {t = t} {u = u} {b = 
       rest = y.rest;
       sent = replies x.xs ++ y.sent;
       serves = Serves-trans x.serves step;
-      ends = ends_after ended x.xs y.xs y.rest y.sent s t u x.open_still x.serves.moves.reads x.serves.moves.writes y.not_retired y.not_memory y.ends;
+      ends = ends_after ended x.xs y.xs y.rest y.sent s t u (omega (arith, x.counted)) x.open_still x.no_fault y.not_retired y.not_memory y.ends;
       few = omega (arith, length-append x.xs y.xs, x.counted, y.few);
-      clean = λ n c. y.clean n (x.clean c);
+      faults = record { reads = λ n. y.faults.reads n ∙ x.no_fault.reads; writes = λ n. y.faults.writes n ∙ x.no_fault.writes; clean = y.faults.clean };
     }
 
 pub retired : {settings : Settings} {numbers : ℕ → ℕ} {pending : List ℕ} {s t : LinkState} {a b : ℕ → Option (List ℕ)} {d e : DoorState}
     → SoFar settings numbers 65536 pending s t a b d e → IsAnswered settings numbers s t a b d.seen e.seen Retired
-retired {pending = pending} x = record { xs = x.xs; rest = pending; sent = replies x.xs; serves = x.serves; ends = (x.counted, refl, x.open_still); few = omega (arith, x.counted); clean = λ n c. x.clean c }
+retired {pending = pending} x = record { xs = x.xs; rest = pending; sent = replies x.xs; serves = x.serves; ends = (x.counted, refl, x.open_still); few = omega (arith, x.counted); faults = no_faults x.no_fault.reads x.no_fault.writes x.clean }
 
-pub no_memory : {settings : Settings} {numbers : ℕ → ℕ} {s : LinkState} {a : ℕ → Option (List ℕ)} {old : Logs} → IsAnswered settings numbers s s a a old old Memory
-no_memory {settings = settings} {numbers = numbers} {s = s} {a = a} {old = old} = record { xs = []; rest = []; sent = []; serves = nothing_served settings numbers s a old; ends = (refl, refl, refl); few = omega arith; clean = λ n c. c }
+pub no_memory : {settings : Settings} {numbers : ℕ → ℕ} {s : LinkState} {a : ℕ → Option (List ℕ)} {old : Logs} → IsClean s → IsAnswered settings numbers s s a a old old Memory
+no_memory {settings = settings} {numbers = numbers} {s = s} {a = a} {old = old} clean = record { xs = []; rest = []; sent = []; serves = nothing_served settings numbers s a old; ends = (refl, refl, refl); few = omega arith; faults = no_faults refl refl clean }

@@ -61,35 +61,45 @@ pub record LastCloses (xs : List Exchange) : Type 0 where
   pub open_before : NoneCloses earlier
   pub closing : closes last ≡ true
 
--- the last reply, or the refusal of the head, was not written and flushed whole
-pub data IsCutReply (xs : List Exchange) (rest sent : List ℕ) : Type 0 where
-  last_reply : (ys : List Exchange) (x : Exchange) (front back : List ℕ) → xs ≡ ys ++ x ∷ [] → NoneCloses ys → sent ≡ replies ys ++ front → reply_of x ≡ front ++ back
-      → IsCutReply xs rest sent
-  refused_head : (why : Rule) (front back : List ℕ) → NoneCloses xs → IsRefused rest why → sent ≡ replies xs ++ front → refusal None why ≡ front ++ back
-      → IsCutReply xs rest sent
+-- fewer than so many requests were answered, and none of them asks to close the connection
+pub record IsOpenStill (most : ℕ) (xs : List Exchange) : Type 0 where
+  pub few : length xs < most
+  pub open_still : NoneCloses xs
 
--- what each ending says of the requests answered, of the rest, and of the bytes written
-abbrev pub EndsAs : Ended → List Exchange → List ℕ → List ℕ → LinkState → LinkState → Type 0
-EndsAs Closed xs rest sent s t = (rest ≡ []) × IsAtEnd t.left × (sent ≡ replies xs) × NoneCloses xs
-EndsAs LastAsked xs rest sent s t = LastCloses xs × (sent ≡ replies xs)
-EndsAs CutShort xs rest sent s t = IsPart rest × IsAtEnd t.left × (sent ≡ replies xs) × NoneCloses xs
-EndsAs BadHead xs rest sent s t = (why : Rule) × IsRefused rest why × (sent ≡ replies xs ++ refusal None why) × NoneCloses xs
-EndsAs Retired xs rest sent s t = (length xs ≡ 65536) × (sent ≡ replies xs) × NoneCloses xs
-EndsAs ReadFault xs rest sent s t = Rose s.read_faults t.read_faults × ((rest ≡ []) ⊎ IsPart rest) × (sent ≡ replies xs) × NoneCloses xs
-EndsAs WriteFault xs rest sent s t = Rose s.write_faults t.write_faults × IsCutReply xs rest sent
-EndsAs Memory xs rest sent s t = (xs ≡ []) × (rest ≡ []) × (sent ≡ [])
+-- the last reply, or the refusal of the head, was not written and flushed whole
+pub data IsCutReply (most : ℕ) (xs : List Exchange) (rest sent : List ℕ) : Type 0 where
+  last_reply : (ys : List Exchange) (x : Exchange) (front back : List ℕ) → xs ≡ ys ++ x ∷ [] → NoneCloses ys → sent ≡ replies ys ++ front → reply_of x ≡ front ++ back
+      → IsCutReply most xs rest sent
+  refused_head : (why : Rule) (front back : List ℕ) → IsOpenStill most xs → IsRefused rest why → sent ≡ replies xs ++ front → refusal None why ≡ front ++ back
+      → IsCutReply most xs rest sent
+
+-- what each ending says of the requests answered, at most so many, of the rest, and of the bytes written
+abbrev pub EndsAs : ℕ → Ended → List Exchange → List ℕ → List ℕ → LinkState → LinkState → Type 0
+EndsAs most Closed xs rest sent s t = (rest ≡ []) × IsAtEnd t.left × (sent ≡ replies xs) × IsOpenStill most xs
+EndsAs most LastAsked xs rest sent s t = LastCloses xs × (sent ≡ replies xs)
+EndsAs most CutShort xs rest sent s t = IsPart rest × IsAtEnd t.left × (sent ≡ replies xs) × IsOpenStill most xs
+EndsAs most BadHead xs rest sent s t = (why : Rule) × IsRefused rest why × (sent ≡ replies xs ++ refusal None why) × IsOpenStill most xs
+EndsAs most Retired xs rest sent s t = (length xs ≡ most) × (sent ≡ replies xs) × NoneCloses xs
+EndsAs most ReadFault xs rest sent s t = Rose s.read_faults t.read_faults × ((rest ≡ []) ⊎ IsPart rest) × (sent ≡ replies xs) × IsOpenStill most xs
+EndsAs most WriteFault xs rest sent s t = Rose s.write_faults t.write_faults × IsCutReply most xs rest sent
+EndsAs most Memory xs rest sent s t = (xs ≡ []) × (rest ≡ []) × (sent ≡ [])
+
+-- no call on the link failed but the one that ended the connection, and all that was written is flushed unless that was a write or a flush
+pub record EndsAtFault (ended : Ended) (s t : LinkState) : Type 0 where
+  pub reads : ended ≢ ReadFault → t.read_faults ≡ s.read_faults
+  pub writes : ended ≢ WriteFault → t.write_faults ≡ s.write_faults
+  pub clean : ended ≢ WriteFault → IsClean t
 
 -- The whole connection, with nothing pending at its begin: there are requests and a rest such that
--- all that was read, asked of the clock and the door, and written is theirs, in order. All that was
--- written is flushed, if no write or flush failed.
+-- all that was read, asked of the clock and the door, and written is theirs, in order.
 pub record IsAnswered (settings : Settings) (numbers : ℕ → ℕ) (s t : LinkState) (a b : ℕ → Option (List ℕ)) (old new : Logs) (ended : Ended) : Type 0 where
   pub xs : List Exchange
   pub rest : List ℕ
   pub sent : List ℕ
   pub serves : Serves settings numbers xs [] rest sent s t a b old new
-  pub ends : EndsAs ended xs rest sent s t
+  pub ends : EndsAs 65536 ended xs rest sent s t
   pub few : length xs ≤ 65536
-  pub clean : ended ≢ WriteFault → IsClean s → IsClean t
+  pub faults : EndsAtFault ended s t
 
 -- what a connection keeps of its door, on which it made so many calls at most
 pub record KeepsDoor (most : ℕ) (old new : DoorState) : Type 0 where

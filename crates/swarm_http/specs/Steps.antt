@@ -1,18 +1,18 @@
 -- One request of a connection.
 use Rattle.std.specs.Prelude.{◌≡◌, ◌≢◌, ℕ, ◌≤◌, List, [], ◌∷◌, length, false, Option, None, Result, Err}
 use Rattle.sw_base.specs.Clock.{HandsIn}
-use Rattle.sw_base.specs.Link.{LinkState, IsClean}
+use Rattle.sw_base.specs.Link.{LinkState, IsClean, NoFault}
 use Rattle.swarm_model.specs.declared.pool_settings.Settings.{Settings}
 use Rattle.swarm_history.specs.Doors.{Logs}
 use Rattle.swarm_http.specs.declared.ended.Ended.{Ended}
-use Rattle.swarm_http.specs.declared.ended.Ended.TheVariants.{Retired, WriteFault, Memory}
+use Rattle.swarm_http.specs.declared.ended.Ended.TheVariants.{Retired, Memory}
 use Rattle.swarm_http.specs.declared.connection.Step.{Step}
 use Rattle.swarm_http.specs.declared.connection.Step.TheVariants.{Next, End}
 use Rattle.swarm_http.specs.declared.reply.Shown.{Shown}
 use Rattle.swarm_http.specs.Outcomes.{Outcome, Acts, shows, uses}
 use Rattle.swarm_http.specs.Exchange.{Exchange, reply_of, closes}
 use Rattle.httparse.specs.Grammar.{RequestHead}
-use Rattle.swarm_http.specs.Answered.{Serves, EndsAs}
+use Rattle.swarm_http.specs.Answered.{Serves, EndsAs, EndsAtFault}
 use Rattle.swarm_http.specs.Shown.{refusal}
 use Rattle.swarm_http.specs.Sends.{text_of}
 use Rattle.swarm_wire.specs.declared.asked.Asked.{Asked}
@@ -36,6 +36,7 @@ pub record GoesOn (settings : Settings) (numbers : ℕ → ℕ) (pending rest : 
   pub x : Exchange
   pub open_still : closes x ≡ false
   pub serves : Serves settings numbers (x ∷ []) pending rest (reply_of x) s t a b old new
+  pub no_fault : NoFault s t
   pub clean : IsClean t
 
 -- the connection ends so, after one request more or none
@@ -44,9 +45,9 @@ pub record Stops (settings : Settings) (numbers : ℕ → ℕ) (pending : List �
   pub rest : List ℕ
   pub sent : List ℕ
   pub serves : Serves settings numbers xs pending rest sent s t a b old new
-  pub ends : EndsAs ended xs rest sent s t
+  pub ends : EndsAs 1 ended xs rest sent s t
   pub few : length xs ≤ 1
-  pub clean : ended ≢ WriteFault → IsClean s → IsClean t
+  pub faults : EndsAtFault ended s t
   pub not_retired : ended ≢ Retired
   pub not_memory : ended ≢ Memory
 

@@ -2,7 +2,7 @@
 use Rattle.std.specs.Prelude.{◌≡◌, ◌⊎◌, ℕ, List, [], ◌++◌, length, Option, Some, None, IfSome, ⊤}
 use Rattle.std.specs.Io.KnownBytes.{IsAtEnd}
 use Rattle.sw_base.specs.Faults.{Rose}
-use Rattle.sw_base.specs.Link.{LinkState, Moves}
+use Rattle.sw_base.specs.Link.{LinkState, Moves, SameOutput}
 use Rattle.swarm_http.specs.declared.ended.Ended.{Ended}
 use Rattle.swarm_http.specs.declared.ended.Ended.TheVariants.{Closed, LastAsked, CutShort, BadHead, Retired, ReadFault, WriteFault, Memory}
 use Rattle.httparse.specs.Grammar.{RequestHead}
@@ -18,10 +18,14 @@ use Rattle.swarm_http.specs.Exchange.{HeadSays}
 use Rattle.swarm_http.specs.Answered.{IsPart, IsRefused}
 use Rattle.swarm_http.specs.Sends.{rule_of}
 
+-- no read failed
+abbrev pub ReadsWell : LinkState → LinkState → Type 0
+ReadsWell s t = t.read_faults ≡ s.read_faults
+
 -- the input ended, or a read failed
 abbrev pub StopsAs : Ended → List ℕ → LinkState → LinkState → Type 0
-StopsAs Closed rest s t = (rest ≡ []) × IsAtEnd t.left
-StopsAs CutShort rest s t = IsPart rest × IsAtEnd t.left
+StopsAs Closed rest s t = (rest ≡ []) × IsAtEnd t.left × ReadsWell s t
+StopsAs CutShort rest s t = IsPart rest × IsAtEnd t.left × ReadsWell s t
 StopsAs ReadFault rest s t = Rose s.read_faults t.read_faults × ((rest ≡ []) ⊎ IsPart rest)
 StopsAs LastAsked rest s t = ⊥
 StopsAs BadHead rest s t = ⊥
@@ -64,12 +68,13 @@ pub record IsReceived (received : Received) (input rest : List ℕ) : Type 0 whe
 
 -- what came of it, with `new` pending after it
 abbrev pub IsTaken : LinkState → LinkState → List ℕ → List ℕ → Taken → Type 0
-IsTaken s t input new (taken.Asks received) = IsReceived received input new
-IsTaken s t input new (taken.Refuses why) = IsRefused new (rule_of why) × (input ≡ new)
+IsTaken s t input new (taken.Asks received) = IsReceived received input new × ReadsWell s t
+IsTaken s t input new (taken.Refuses why) = IsRefused new (rule_of why) × (input ≡ new) × ReadsWell s t
 IsTaken s t input new (taken.Ends ended) = StopsAs ended input s t
 
 -- what was pending and what was taken from the link is the input
 pub record Takes (s t : LinkState) (old new : List ℕ) (result : Taken) : Type 0 where
   pub taken : List ℕ
   pub moves : Moves s t taken []
+  pub output : SameOutput s t
   pub outcome : IsTaken s t (old ++ taken) new result

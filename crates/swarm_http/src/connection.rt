@@ -1,5 +1,6 @@
 //! One connection.
 ghost use Rattle.std.specs.Prelude.{◌≡◌, ◌<◌, ◌≤◌, ◌+◌, ◌^◌};
+ghost use Rattle.sw_base.specs.Link.{IsClean};
 ghost use Rattle.swarm_model.specs.Settings.{AreOpen};
 ghost use Rattle.swarm_http.specs.Answered.{IsAnswered, KeepsDoor};
 ghost use Rattle.swarm_http.specs.Steps.{IsStep};
@@ -36,6 +37,7 @@ fn serve_one<D: Door, L: Link, C: Clock>(
     requires settings { (D.state door.old).settings ≡ settings.now }
     requires open { AreOpen settings.now }
     requires calls { (D.state door.old).calls < 2 ^ 40 }
+    requires clean { IsClean (L.state link.old) }
     ensures step { IsStep settings.now (D.state door.old).numbers pending.old pending.new (L.state link.old) (L.state link.new) (C.ahead clock.old) (C.ahead clock.new) (D.state door.old).seen (D.state door.new).seen result }
     ensures door { KeepsDoor 1 (D.state door.old) (D.state door.new) }
 {
@@ -68,6 +70,7 @@ pub fn session<D: Door, L: Link, C: Clock>(
     requires settings { (D.state door.old).settings ≡ settings.now }
     requires open { AreOpen settings.now }
     requires calls { (D.state door.old).calls + 65536 ≤ 2 ^ 40 }
+    requires clean { IsClean (L.state link.old) }
     ensures answered { IsAnswered settings.now (D.state door.old).numbers (L.state link.old) (L.state link.new) (C.ahead clock.old) (C.ahead clock.new) (D.state door.old).seen (D.state door.new).seen result }
     ensures door { KeepsDoor 65536 (D.state door.old) (D.state door.new) }
 {

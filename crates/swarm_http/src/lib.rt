@@ -22,6 +22,6 @@ mod send;
 
 pub use connection::session;
 pub use ended::Ended;
-pub use send::send_whole;
+pub use send::send_flushed;
 pub use sw_base::{Clock, ConsoleLink, Failed, Link, MemoryLink, StepClock, SystemClock};
 pub use swarm_history::{Answered, CallFault, Door, PlainDoor};

@@ -1,6 +1,7 @@
 //! Taking the next request from a link.
 ghost use Rattle.std.specs.Prelude.{◌≡◌, ◌≤◌, ℕ, List, length, take, IfSome, option_map};
 ghost use Rattle.httparse.specs.Grammar.{RequestHead};
+ghost use Rattle.sw_base.specs.Link.{IsClean};
 ghost use Rattle.link_reader.specs.Heads.{IsHeadEnd};
 ghost use Rattle.request_head.specs.Says.{size_of};
 ghost use Rattle.request_head.specs.Judging.{Says};
@@ -89,6 +90,7 @@ fn take_body<L: Link>(
 ) -> Taken
     requires within { n ≤ length pending.old }
     requires says { (h : RequestHead) × HeadSays (take n pending.old) h × (size ≡ size_of h) × IsSaid said h }
+    requires clean { IsClean (L.state link.old) }
     ensures { Takes (L.state link.old) (L.state link.new) pending.old pending.new result }
 {
     match read_body(alloc, pending, n, size as usize, link) {
@@ -117,6 +119,7 @@ fn too_large(limit: u32) -> Refusal
 fn take_head<L: Link>(alloc: Global, n: usize, pending: &mut Pending, link: &mut L) -> Taken
     requires end { IsHeadEnd pending.old n }
     requires short { length pending.old ≤ 16384 }
+    requires clean { IsClean (L.state link.old) }
     ensures { Takes (L.state link.old) (L.state link.new) pending.old pending.new result }
 {
     match judge(pending.front(n)) {
@@ -132,6 +135,7 @@ fn take_head<L: Link>(alloc: Global, n: usize, pending: &mut Pending, link: &mut
 
 /// Takes the next request.
 pub fn take_request<L: Link>(alloc: Global, pending: &mut Pending, link: &mut L) -> Taken
+    requires { IsClean (L.state link.old) }
     ensures { Takes (L.state link.old) (L.state link.new) pending.old pending.new result }
 {
     match read_head(pending, link) {

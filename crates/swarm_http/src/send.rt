@@ -14,8 +14,8 @@ const FRONT_BEFORE: &[u8] =
 
 const FRONT_AFTER: &[u8] = b"\r\n\r\n{\"code\":\"want_of_memory\"}";
 
-/// Writes a text whole, unless a write fails. It doesn't flush.
-pub fn send_whole<L: Link>(link: &mut L, text: &[u8]) -> Result<(), Failed>
+// Writes a text whole, unless a write fails. It doesn't flush.
+fn send_whole<L: Link>(link: &mut L, text: &[u8]) -> Result<(), Failed>
     ensures { Sends (L.state link.old) (L.state link.new) text.now result }
 {
     let mut rest = text;
@@ -104,6 +104,17 @@ fn send_text<L: Link>(link: &mut L, shown: &Shown) -> Result<(), Failed>
         Shown::Whole(head, body) => send_parts(link, head.as_bytes(), body.as_slice()),
         Shown::WantOfMemoryAt(front) => send_want_of_memory(link, *front),
     }
+}
+
+/// Writes a text whole and flushes it, unless a write or the flush fails.
+pub fn send_flushed<L: Link>(link: &mut L, text: &[u8]) -> Result<(), Failed>
+    ensures flushed { OnOk result (IsClean (L.state link.new)) }
+    ensures sends { Sends (L.state link.old) (L.state link.new) text.now result }
+{
+    if let Err(failed) = send_whole(link, text) {
+        return Err(failed);
+    }
+    link.flush()
 }
 
 /// Writes a reply whole and flushes it, unless a write or the flush fails.

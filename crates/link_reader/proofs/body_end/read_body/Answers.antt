@@ -10,5 +10,5 @@ pieces-init g c = begun (g.L.Link.state c.args.link.now) c.args.pending.now c.re
 pub pieces-preserved : goal.pieces-preserved
 pieces-preserved g c =
     let p = c.in-Ok.ensures in
-    let step = one_more c.pieces.invariant c.pieces-test.true p (omega (arith, p.outcome.0, p.outcome.1)) in
+    let step = one_more c.pieces.invariant c.pieces-test.true p (omega (arith, p.outcome.0, p.outcome.1)) p.faults in
     subst (λ k. SoFar (g.L.Link.state c.args.link.now) (g.L.Link.state c.take_piece.new.link) c.args.pending.now c.remove_front.new.self c.args.head c.args.size (c.pieces.got + k) c.take_piece.new.kept) p.outcome.0 step

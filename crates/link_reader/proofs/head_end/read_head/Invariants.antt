@@ -1,10 +1,10 @@
 use Rattle.std.proofs.Common.{◌-◌, length}
-use Rattle.link_reader.specs.Heads.{Grows}
 use Rattle.link_reader.specs.declared.pending.TheConstants.{HEAD_LIMIT}
+use Rattle.link_reader.proofs.HeadLemmas.{SoFar}
 use Rattle.link_reader.proofs.head_end.read_head.Given as goal
 
 abbrev pub invariant-reads : goal.invariant-reads
-invariant-reads g l = Grows (g.L.Link.state l.fn.link) (g.L.Link.state l.link) l.fn.pending l.pending
+invariant-reads g l = SoFar (g.L.Link.state l.fn.link) (g.L.Link.state l.link) l.fn.pending l.pending
 
 abbrev pub decreases-reads : goal.decreases-reads
 decreases-reads g l = HEAD_LIMIT - length l.pending

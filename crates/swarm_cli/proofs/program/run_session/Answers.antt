@@ -2,8 +2,8 @@ use Rattle.swarm_cli.proofs.Sessions.{nothing_began}
 use Rattle.swarm_cli.proofs.program.run_session.Goals as goal
 
 pub returns-in_default : goal.returns-in_default
-returns-in_default g c = nothing_began (g.L.Link.state c.args.console.now) (g.C.Clock.ahead c.args.clock.now) c.status_of.result c.status_of.ensures
+returns-in_default g c = nothing_began (g.L.Link.state c.args.console.now) (g.C.Clock.ahead c.args.clock.now) c.status_of.result c.requires c.status_of.ensures
 
 pub returns-in_default-new : goal.returns-in_default-new
 returns-in_default-new g c =
-    nothing_began (g.L.Link.state c.args.console.now) (g.C.Clock.ahead c.args.clock.now) c.status_of-in_default-new.result c.status_of-in_default-new.ensures
+    nothing_began (g.L.Link.state c.args.console.now) (g.C.Clock.ahead c.args.clock.now) c.status_of-in_default-new.result c.requires c.status_of-in_default-new.ensures

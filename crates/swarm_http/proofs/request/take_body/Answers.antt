@@ -9,7 +9,8 @@ returns-in-Ok-Whole g c =
     record {
       taken = r.taken;
       moves = r.moves;
-      outcome = received_whole says.1 says.2 r.outcome (record { said = says.3; body_is = refl });
+      output = r.output;
+      outcome = (received_whole says.1 says.2 r.outcome (record { said = says.3; body_is = refl }), r.faults);
     }
 
 pub returns-in-Ok-Dropped : goal.returns-in-Ok-Dropped
@@ -19,17 +20,18 @@ returns-in-Ok-Dropped g c =
     record {
       taken = r.taken;
       moves = r.moves;
-      outcome = received_whole says.1 says.2 r.outcome.1 (record { said = says.3; body_is = tt });
+      output = r.output;
+      outcome = (received_whole says.1 says.2 r.outcome.1 (record { said = says.3; body_is = tt }), r.faults);
     }
 
 pub returns-in-Ok-Ended : goal.returns-in-Ok-Ended
 returns-in-Ok-Ended g c =
     let r = rw c.in-Ok-Ended.field-0-is at c.in-Ok-Ended.ensures in
     let says = c.requires.says in
-    record { taken = r.taken; moves = r.moves; outcome = (part_cut says.1 says.2 r.outcome.1, r.outcome.0) }
+    record { taken = r.taken; moves = r.moves; output = r.output; outcome = (part_cut says.1 says.2 r.outcome.1, r.outcome.0, r.faults) }
 
 pub returns-in-Err : goal.returns-in-Err
 returns-in-Err g c =
     let r = c.in-Err.ensures in
     let says = c.requires.says in
-    record { taken = r.taken; moves = r.moves; outcome = (r.outcome.0, inr (part_cut says.1 says.2 r.outcome.1)) }
+    record { taken = r.taken; moves = r.moves; output = r.output; outcome = (r.faults, inr (part_cut says.1 says.2 r.outcome.0)) }

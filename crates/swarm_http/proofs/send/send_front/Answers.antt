@@ -7,10 +7,10 @@ pub returns-in-Ok : goal.returns-in-Ok
 returns-in-Ok g c =
     let p = c.in-Ok.ensures in
     let e : c.as_bytes.result.now ≡ decimal c.args.front = c.as_bytes.ensures.value ∙ c.format.ensures.text in
-    rw (← e) (after_sent p p.outcome c.send_whole-in-Ok.ensures)
+    rw (← e) (after_sent p p.outcome p.faults c.send_whole-in-Ok.ensures)
 
 pub returns-in-Err : goal.returns-in-Err
 returns-in-Err g c =
     let p = c.in-Err.ensures in
     let e : c.as_bytes.result.now ≡ decimal c.args.front = c.as_bytes.ensures.value ∙ c.format.ensures.text in
-    rw (← e) (failed_before (codes "\r\n\r\n{\"code\":\"want_of_memory\"}") p p.outcome)
+    rw (← e) (failed_before (codes "\r\n\r\n{\"code\":\"want_of_memory\"}") p p.faults)
