@@ -1,6 +1,9 @@
 //! Tests of `sw_base`.
 
 use std::alloc::AllocError;
+use std::io::{self, ErrorKind, Write};
+use std::test::Fail;
+use std::time::SystemTime;
 use sw_base::{Clock, ConsoleLink, Failed, Link, MemoryLink, StepClock, SystemClock};
 
 #[test]
@@ -14,6 +17,29 @@ fn console_carries_both_ways(rt: HostRuntime) {
     assert_eq!(rt; link.read(&mut into), Ok(0));
     assert_eq!(rt; link.write(b"xyz"), Ok(3));
     assert_eq!(rt; link.flush(), Ok(()));
+}
+
+/// A writer that takes all that it is given, and whose flush fails.
+#[derive(Drop)]
+struct NeverFlushed;
+
+impl Write for NeverFlushed {
+    fn write(&mut self, piece: &[u8]) -> io::Result<usize> {
+        Ok(piece.len())
+    }
+
+    fn flush(&mut self) -> io::Result<()> {
+        Err(io::Error::from(ErrorKind::BrokenPipe))
+    }
+}
+
+/// The contract of a console can't say that its writer was flushed.
+#[test]
+fn a_flush_of_the_console_reaches_its_writer(rt: HostRuntime) {
+    let input: &[u8] = b"";
+    let mut link = ConsoleLink::new(input, NeverFlushed);
+    assert_eq!(rt; link.write(b"xyz"), Ok(3));
+    assert_eq!(rt; link.flush(), Err(Failed));
 }
 
 #[test]
@@ -37,7 +63,7 @@ fn memory_moves_in_pieces_and_fails_where_told(rt: HostRuntime) -> Result<(), Al
 }
 
 #[test]
-fn clocks_answer(rt: HostRuntime) {
+fn a_clock_of_steps_stays_at_the_last_moment(rt: HostRuntime) {
     let mut clock = StepClock {
         at: u64::MAX - 5,
         step: 3,
@@ -45,7 +71,18 @@ fn clocks_answer(rt: HostRuntime) {
     assert_eq!(rt; clock.now(), u64::MAX - 5);
     assert_eq!(rt; clock.now(), u64::MAX - 2);
     assert_eq!(rt; clock.now(), u64::MAX);
-    let mut system = SystemClock::new(&rt);
+}
+
+/// The contract of the system's clock can't say which moment it is.
+#[test]
+fn the_clock_of_the_system_has_its_seconds(rt: HostRuntime) -> Result<(), Fail> {
+    let mut clock = SystemClock::new(&rt);
+    let before = SystemTime::now(&rt)?.duration_since(SystemTime::UNIX_EPOCH)?;
+    let now = clock.now();
+    let after = SystemTime::now(&rt)?.duration_since(SystemTime::UNIX_EPOCH)?;
     // 2023-11-14T22:13:20Z, long before this test was written.
-    assert!(rt; system.now() > 1_700_000_000);
+    assert!(rt; before.as_secs() > 1_700_000_000);
+    assert!(rt; before.as_secs() <= now);
+    assert!(rt; now <= after.as_secs());
+    Ok(())
 }
