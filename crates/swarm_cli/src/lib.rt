@@ -7,7 +7,5 @@
 #![tactic(auto)]
 
 mod program;
-#[cfg(test)]
-mod tests;
 
 pub use program::run;

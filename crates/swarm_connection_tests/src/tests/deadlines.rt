@@ -1,30 +1,65 @@
-//! Slices that run out in a pool whose log or tasks are as many as they may be.
+//! Slices that run out in a pool that has all the entries or tasks that it may have.
 
-use crate::tests::limits::{LOG_FULL, ONE_TASK_IS_ALL, limited, serve};
-use crate::tests::moments::Moments;
-use crate::tests::slices::{get, shown, shown_of, task};
-use crate::tests::{COUNTS_ONE, DEFAULT, TASK, asking, pending};
+use crate::tests::list_clock::ListClock;
+use crate::tests::pools::{limited, serve};
+use crate::tests::{LOG_FULL, TASK, new_task, one_task_is_all, pending, reply, request};
+use std::alloc::{AllocError, Global};
 use std::test::Fail;
 use swarm_http::Ended;
 
-const ONE_TASK_IS_ALL_OF_TWO: &str =
-    "HTTP/1.1 503 Service Unavailable\r\nContent-Length: 36\r\nContent-Type: application/json\r\nX-Swarming-Front: 2\r\n\r\n{\"code\":\"pool_tasks_full\",\"limit\":1}";
+/// A request for a task with a slice of each of these seconds, and whether it waits. The command
+/// of a slice is its place.
+fn task(alloc: Global, slices: &[(u32, bool)]) -> Result<String, AllocError> {
+    let mut list = String::new(alloc);
+    for (place, (secs, waits)) in slices.iter().enumerate() {
+        if place > 0 {
+            list.push_str(",")?;
+        }
+        let slice = format!(in alloc;
+            r#"{{"expiration_secs":{secs},"wait_for_capacity":{waits},"properties":{{"command":["{place}"],"dimensions":[{{"key":"pool","value":"default"}}]}}}}"#
+        )?;
+        list.push_str(slice.as_str())?;
+    }
+    let body = format!(in alloc; r#"{{"task_slices":[{list}]}}"#)?;
+    new_task(alloc, body.as_str())
+}
 
-/// Requests, each at the next moment, to a pool of one entry: the small task, and what comes of its
-/// slice of 600.
+fn get(alloc: Global, id: &str) -> Result<String, AllocError> {
+    let body = format!(in alloc; r#"{{"task_id":"{id}"}}"#)?;
+    request(alloc, "/prpc/swarming.v2.Tasks/GetResult", body.as_str())
+}
+
+/// The reply with a task that `ana` made at 1000.
+fn view(
+    alloc: Global,
+    front: u32,
+    id: &str,
+    slice: u32,
+    state: &str,
+    completed: &str,
+) -> Result<String, AllocError> {
+    let body = format!(in alloc;
+        r#"{{"bot_id":null,"completed_ts":{completed},"created_ts":1000,"current_task_slice":{slice},"deduped_from":null,"dropped":null,"duration_ms":null,"exit_code":null,"files":[],"name":"","output_length":0,"priority":0,"run_id":null,"started_ts":null,"state":"{state}","task_id":"{id}","user":"ana"}}"#
+    )?;
+    reply(alloc, "200 OK", front, body.as_str())
+}
+
+/// Requests to a pool of one entry: the small task, and what comes of its slice of 600 seconds.
 #[test]
 fn a_log_of_one_entry(rt: HostRuntime) -> Result<(), Fail> {
     let alloc = rt.alloc();
     let settings = limited(alloc, 9, 1, 1000)?;
-    let count = asking(alloc, "CountTasks", "", DEFAULT)?;
+    let path = "/prpc/swarming.v2.Tasks/CountTasks";
+    let count = request(alloc, path, r#"{"pool":"default"}"#)?;
     let get = get(alloc, "10")?;
-    let small = asking(alloc, "NewTask", "", TASK)?;
+    let small = new_task(alloc, TASK)?;
     let requests = format!(in alloc; "{small}{small}{count}{count}{count}{get}{small}{count}")?;
-    let mut clock = Moments::new(alloc, &[1000, 1000, 1000, 1599, 1600, 1600, 1601, 1599])?;
+    let mut clock = ListClock::new(alloc, &[1000, 1000, 1000, 1599, 1600, 1600, 1601, 1599])?;
     let served = serve(alloc, &settings, &mut clock, requests.as_bytes())?;
     let first = pending(alloc, 1, "10")?;
+    let one = reply(alloc, "200 OK", 1, r#"{"count":1}"#)?;
     let expected = format!(in alloc;
-        "{first}{LOG_FULL}{COUNTS_ONE}{COUNTS_ONE}{LOG_FULL}{LOG_FULL}{LOG_FULL}{COUNTS_ONE}"
+        "{first}{LOG_FULL}{one}{one}{LOG_FULL}{LOG_FULL}{LOG_FULL}{one}"
     )?;
     assert_eq!(rt; served.ended, Ended::Closed);
     assert_eq!(rt; served.link.output(), expected.as_bytes());
@@ -39,10 +74,10 @@ fn a_log_that_fills_within_a_call(rt: HostRuntime) -> Result<(), Fail> {
     let asked = task(alloc, &[(60, true), (60, true)])?;
     let get = get(alloc, "10")?;
     let requests = format!(in alloc; "{asked}{get}{get}{get}{get}")?;
-    let mut clock = Moments::new(alloc, &[1000, 5000, 900, 1119, 1120])?;
+    let mut clock = ListClock::new(alloc, &[1000, 5000, 900, 1119, 1120])?;
     let served = serve(alloc, &settings, &mut clock, requests.as_bytes())?;
     let first = pending(alloc, 1, "10")?;
-    let between = shown(alloc, 2, 1, "PENDING", "null")?;
+    let between = view(alloc, 2, "10", 1, "PENDING", "null")?;
     let expected = format!(in alloc; "{first}{LOG_FULL}{between}{between}{LOG_FULL}")?;
     assert_eq!(rt; served.ended, Ended::Closed);
     assert_eq!(rt; served.link.output(), expected.as_bytes());
@@ -60,12 +95,12 @@ fn the_earliest_deadlines_of_a_full_log(rt: HostRuntime) -> Result<(), Fail> {
     let get_one = get(alloc, "10")?;
     let get_two = get(alloc, "20")?;
     let requests = format!(in alloc; "{one}{two}{get_one}{get_one}{get_two}")?;
-    let mut clock = Moments::new(alloc, &[1000, 1000, 5000, 0, 1109])?;
+    let mut clock = ListClock::new(alloc, &[1000, 1000, 5000, 0, 1109])?;
     let served = serve(alloc, &settings, &mut clock, requests.as_bytes())?;
     let first = pending(alloc, 1, "10")?;
     let second = pending(alloc, 2, "20")?;
-    let one_ended = shown(alloc, 4, 0, "EXPIRED", "1100")?;
-    let two_waits = shown_of(alloc, 4, "20", 1000, 1, "PENDING", "null")?;
+    let one_ended = view(alloc, 4, "10", 0, "EXPIRED", "1100")?;
+    let two_waits = view(alloc, 4, "20", 1, "PENDING", "null")?;
     let expected = format!(in alloc; "{first}{second}{LOG_FULL}{one_ended}{two_waits}")?;
     assert_eq!(rt; served.ended, Ended::Closed);
     assert_eq!(rt; served.link.output(), expected.as_bytes());
@@ -80,10 +115,12 @@ fn a_full_pool_and_no_open_slice(rt: HostRuntime) -> Result<(), Fail> {
     let asked = task(alloc, &[(60, true), (60, true)])?;
     let unopened = task(alloc, &[(60, false)])?;
     let requests = format!(in alloc; "{asked}{unopened}{unopened}")?;
-    let mut clock = Moments::new(alloc, &[1000, 1059, 1060])?;
+    let mut clock = ListClock::new(alloc, &[1000, 1059, 1060])?;
     let served = serve(alloc, &settings, &mut clock, requests.as_bytes())?;
     let first = pending(alloc, 1, "10")?;
-    let expected = format!(in alloc; "{first}{ONE_TASK_IS_ALL}{ONE_TASK_IS_ALL_OF_TWO}")?;
+    let before = one_task_is_all(alloc, 1)?;
+    let after = one_task_is_all(alloc, 2)?;
+    let expected = format!(in alloc; "{first}{before}{after}")?;
     assert_eq!(rt; served.ended, Ended::Closed);
     assert_eq!(rt; served.link.output(), expected.as_bytes());
     Ok(())
@@ -98,10 +135,10 @@ fn the_weight_of_deadlines(rt: HostRuntime) -> Result<(), Fail> {
     let asked = task(alloc, &[(60, true), (60, true)])?;
     let get = get(alloc, "10")?;
     let requests = format!(in alloc; "{asked}{get}")?;
-    let mut clock = Moments::new(alloc, &[1000, 5000])?;
+    let mut clock = ListClock::new(alloc, &[1000, 5000])?;
     let served = serve(alloc, &settings, &mut clock, requests.as_bytes())?;
     let first = pending(alloc, 1, "10")?;
-    let ended = shown(alloc, 3, 1, "EXPIRED", "1120")?;
+    let ended = view(alloc, 3, "10", 1, "EXPIRED", "1120")?;
     let expected = format!(in alloc; "{first}{ended}")?;
     assert_eq!(rt; served.ended, Ended::Closed);
     assert_eq!(rt; served.link.output(), expected.as_bytes());

@@ -1,9 +1,12 @@
-//! A client that sends a request only when it has the whole reply to the one before.
+//! A client that sends a request only once it has the whole reply to the one before.
 
 ghost use Rattle.std.specs.Prelude.{◌≤◌, length, None};
 
+use crate::tests::NEW_TASK;
 use std::alloc::{AllocError, Global};
-use swarm_http::{Failed, Link};
+use std::test::Fail;
+use swarm_cli::run;
+use swarm_http::{Failed, Link, StepClock};
 
 /// It gives its request so many times, each after the reply to the one before was flushed. A read
 /// that comes sooner fails.
@@ -82,4 +85,15 @@ impl Link for TurnLink {
         self.is_writing = false;
         Ok(())
     }
+}
+
+#[test]
+fn a_client_that_waits_for_each_reply(rt: HostRuntime) -> Result<(), Fail> {
+    let alloc = rt.alloc();
+    let mut link = TurnLink::new(alloc, NEW_TASK, 3)?;
+    let mut clock = StepClock { at: 1000, step: 0 };
+    let words = vec![in alloc; String::from_str(alloc, "session")?]?;
+    assert_eq!(rt; run(alloc, &words, &mut link, &mut clock), 0);
+    assert_eq!(rt; link.answered(), 3);
+    Ok(())
 }

@@ -1,0 +1,20 @@
+//! An input that ends within a request.
+
+use crate::tests::NEW_TASK;
+use std::test::Fail;
+use swarm_cli::run;
+use swarm_http::{MemoryLink, StepClock};
+
+#[test]
+fn an_input_that_is_cut_anywhere(rt: HostRuntime) -> Result<(), Fail> {
+    let alloc = rt.alloc();
+    let words = vec![in alloc; String::from_str(alloc, "session")?]?;
+    for size in 1..NEW_TASK.len() {
+        let input = Vec::from_slice(alloc, &NEW_TASK[..size])?;
+        let mut link = MemoryLink::new(alloc, input, 100, Vec::new(alloc));
+        let mut clock = StepClock { at: 1000, step: 0 };
+        assert_eq!(rt; run(alloc, &words, &mut link, &mut clock), 7);
+        assert_eq!(rt; link.output().len(), 0);
+    }
+    Ok(())
+}
