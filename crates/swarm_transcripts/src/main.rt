@@ -1,0 +1,18 @@
+//! Runs the transcripts of all files of the folder that it is started in, or of the one that its
+//! word names. It prints how many each file has, and where a run differs from its transcript, and
+//! ends with status 1 if one does, or if a file of the folder holds no transcripts.
+#![tactic(auto)]
+
+use std::process::ExitCode;
+use std::{env, io};
+use transcript_runs::run_folder;
+
+fn main(rt: HostRuntime) -> io::Result<ExitCode> {
+    let word = env::args(&rt)?.nth(1);
+    let folder = word.as_ref().map_or(".", |it| it.as_str());
+    Ok(if run_folder(&rt, folder)? {
+        ExitCode::SUCCESS
+    } else {
+        ExitCode::FAILURE
+    })
+}

@@ -1,0 +1,148 @@
+use std::alloc::{AllocError, AllocFailed};
+use std::error::Error;
+use std::fmt;
+
+/// What is wrong with a line of a text.
+#[derive(Debug, Drop)]
+pub enum TextFault {
+    /// A part of the line is not what has to stand there.
+    Form { wanted: &'static str, came: String },
+    /// A name that no line above gives.
+    UnknownName(String),
+    RepeatedName(String),
+    /// No line below has use of the name.
+    UnusedName(String),
+    /// No transcript of this name stands above.
+    UnknownTranscript(String),
+    RepeatedTranscript(String),
+    /// The line belongs to a transcript, and stands before the first.
+    OutsideTranscript,
+    /// `from` stands behind a row.
+    LateFrom,
+    RequestWithoutCaller,
+    FieldWithoutRequest,
+    /// A reply before the first request, or the second reply to one.
+    ReplyWithoutRequest,
+}
+
+impl fmt::Display for TextFault {
+    fn fmt<W: fmt::Write>(&self, f: &mut fmt::Formatter<W>) -> fmt::Result {
+        match self {
+            TextFault::Form { wanted, came } => write!(f, "{wanted} is wanted, and not `{came}`"),
+            TextFault::UnknownName(name) => write!(f, "the name `{name}` was not given before"),
+            TextFault::RepeatedName(name) => write!(f, "the name `{name}` was given before"),
+            TextFault::UnusedName(name) => write!(f, "the name `{name}` is used nowhere below"),
+            TextFault::UnknownTranscript(name) => {
+                write!(f, "no transcript `{name}` ends above this line")
+            }
+            TextFault::RepeatedTranscript(name) => {
+                write!(f, "there is a transcript `{name}` above this line")
+            }
+            TextFault::OutsideTranscript => write!(f, "this line stands outside any transcript"),
+            TextFault::LateFrom => write!(f, "`from` has to stand before the first row"),
+            TextFault::RequestWithoutCaller => write!(f, "this request has no caller"),
+            TextFault::FieldWithoutRequest => write!(f, "no request follows this field"),
+            TextFault::ReplyWithoutRequest => write!(f, "this reply has no request before it"),
+        }
+    }
+}
+
+impl TextFault {
+    /// The error of this fault at a line.
+    pub(crate) fn at(self, line: usize) -> TranscriptError {
+        TranscriptError::Text { line, fault: self }
+    }
+}
+
+/// Why a text holds no transcripts, or how a run differs from its transcript. Lines are those of the
+/// text, counted from 1.
+#[derive(Debug, Drop)]
+pub enum TranscriptError {
+    /// A line is not of the form.
+    Text {
+        line: usize,
+        fault: TextFault,
+    },
+    /// Other bytes came than those of the reply at this line. Both are shown from the same place on,
+    /// a little before the first byte that differs.
+    Reply {
+        line: usize,
+        wanted: String,
+        came: String,
+    },
+    /// More bytes came than those of the replies, the last of which stands at this line.
+    More {
+        line: usize,
+        came: String,
+    },
+    /// The program ended with another status than the transcript that begins at this line has.
+    Status {
+        line: usize,
+        wanted: u8,
+        came: u8,
+    },
+    /// Pools were asked at more moments, or at fewer, than the transcript that begins at this line
+    /// has.
+    Moments {
+        line: usize,
+        wanted: usize,
+        came: usize,
+    },
+    Memory,
+}
+
+impl TranscriptError {
+    /// The line that it is about, or 0 for none.
+    pub fn line(&self) -> usize {
+        match self {
+            TranscriptError::Text { line, .. }
+            | TranscriptError::Reply { line, .. }
+            | TranscriptError::More { line, .. }
+            | TranscriptError::Status { line, .. }
+            | TranscriptError::Moments { line, .. } => *line,
+            TranscriptError::Memory => 0,
+        }
+    }
+}
+
+/// What was wanted and what came, without the line.
+impl fmt::Display for TranscriptError {
+    fn fmt<W: fmt::Write>(&self, f: &mut fmt::Formatter<W>) -> fmt::Result {
+        match self {
+            TranscriptError::Text { fault, .. } => write!(f, "{fault}"),
+            TranscriptError::Reply { wanted, came, .. } => {
+                write!(f, "{wanted} was wanted, and {came} came")
+            }
+            TranscriptError::More { came, .. } => {
+                write!(
+                    f,
+                    "nothing was wanted behind the last reply, and {came} came"
+                )
+            }
+            TranscriptError::Status { wanted, came, .. } => {
+                write!(f, "status {wanted} was wanted, and {came} came")
+            }
+            TranscriptError::Moments { wanted, came, .. } => write!(
+                f,
+                "the clock was to be asked {wanted} times, and was asked {came} times"
+            ),
+            TranscriptError::Memory => write!(f, "there was no memory"),
+        }
+    }
+}
+
+impl Error for TextFault {}
+
+impl Error for TranscriptError {}
+
+impl From<AllocError> for TranscriptError {
+    fn from(_error: AllocError) -> TranscriptError {
+        TranscriptError::Memory
+    }
+}
+
+impl<T: Drop> From<AllocFailed<T>> for TranscriptError {
+    fn from(_error: AllocFailed<T>) -> TranscriptError {
+        TranscriptError::Memory
+    }
+}

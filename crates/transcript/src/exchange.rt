@@ -1,0 +1,40 @@
+use std::alloc::{AllocError, Global};
+
+/// The bytes of a request, with these further fields in its head.
+pub(crate) fn request_bytes(
+    alloc: Global,
+    path: &str,
+    caller: &str,
+    fields: &[u8],
+    body: &[u8],
+) -> Result<Vec<u8>, AllocError> {
+    let size = body.len();
+    let head = format!(in alloc;
+        "POST {path} HTTP/1.1\r\nX-Swarming-Caller: {caller}\r\nContent-Length: {size}\r\n"
+    )?;
+    let mut bytes = Vec::from_slice(alloc, head.as_bytes())?;
+    bytes.extend_from_slice(fields)?;
+    bytes.extend_from_slice(b"\r\n")?;
+    bytes.extend_from_slice(body)?;
+    Ok(bytes)
+}
+
+/// The bytes of a reply. The front `-` stands for none.
+pub(crate) fn reply_bytes(
+    alloc: Global,
+    status: &str,
+    front: &str,
+    body: &[u8],
+) -> Result<Vec<u8>, AllocError> {
+    let size = body.len();
+    let mut head = format!(in alloc;
+        "HTTP/1.1 {status}\r\nContent-Length: {size}\r\nContent-Type: application/json\r\n"
+    )?;
+    if front != "-" {
+        write!(head, "X-Swarming-Front: {front}\r\n")?;
+    }
+    head.push_str("\r\n")?;
+    let mut bytes = Vec::from_slice(alloc, head.as_bytes())?;
+    bytes.extend_from_slice(body)?;
+    Ok(bytes)
+}

@@ -1,0 +1,65 @@
+//! Transcripts: what is sent over a connection and what comes back, as rows of a readable text.
+//!
+//! [`read`] takes the transcripts out of a text, and [`compare`] holds what was written in a run
+//! against the replies of its transcript. A text has one entry a line. Lines that are blank or begin
+//! with `#` are left out.
+//!
+//! | Line | Meaning |
+//! |---|---|
+//! | `let NAME TEXT` | from here on `${NAME}` stands for the text, and `${NAME*9}` for it nine times |
+//! | `transcript NAME` | begins a transcript: one run of the program over one connection, on a new pool |
+//! | `from NAME` | the transcript begins with the rows of an earlier one of the file |
+//! | `words WORD ..` | the words of the command line; `session` where the line is absent |
+//! | `caller NAME` | who sends the requests from here on, also in the transcripts that follow |
+//! | `field TEXT` | one more field in the head of the next request |
+//! | `> MOMENT PATH BODY` | a request: the clock's second at which its pool is asked, or `-` where no pool is asked, its path and its body |
+//! | `< STATUS \| FRONT \| BODY` | its reply: the status, the `X-Swarming-Front` or `-` for none, and the body |
+//! | `>> TEXT` | bytes that are sent as they stand |
+//! | `<< TEXT` | bytes that are answered as they stand |
+//! | `moment SECONDS` | one more second at which a pool is asked, for a request that is sent by `>>` |
+//! | `step SECONDS` | the transcript is also run over a clock that begins at its first moment and goes on by this step at each call |
+//! | `pieces FIRST LAST` | the transcript is run once for each size of the pieces in which its bytes come; `pieces 1000 1000` where the line is absent |
+//! | `fails CALL ..` | the calls on the link that fail: reads, writes and flushes, counted together from 0 |
+//! | `ends STATUS` | the status with which the program ends; 0 where the line is absent |
+//!
+//! Each TEXT and BODY may be empty, and white space at its end counts. In it `${NAME}` and
+//! `${NAME*9}` are put in, `${0x0a}` stands for one byte, and `${0x61*65}` for 65 of them. A name is
+//! letters, digits and `_`. It is given once in a file, and used below the line that gives it.
+//!
+//! A request is sent as
+//!
+//! ```text
+//! POST PATH HTTP/1.1
+//! X-Swarming-Caller: NAME
+//! Content-Length: SIZE
+//!
+//! BODY
+//! ```
+//!
+//! with its further fields behind these two, and a reply is
+//!
+//! ```text
+//! HTTP/1.1 STATUS
+//! Content-Length: SIZE
+//! Content-Type: application/json
+//! X-Swarming-Front: FRONT
+//!
+//! BODY
+//! ```
+//!
+//! without the last field where its front is `-`. Each line of a head ends in CR LF.
+#![tactic(auto)]
+
+mod comparison;
+mod draft;
+mod error;
+mod exchange;
+mod names;
+mod parts;
+mod reader;
+mod transcript;
+
+pub use comparison::compare;
+pub use error::{TextFault, TranscriptError};
+pub use reader::read;
+pub use transcript::{Pieces, Reply, Transcript};

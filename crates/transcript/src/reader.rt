@@ -1,0 +1,249 @@
+use crate::draft::Draft;
+use crate::exchange::{reply_bytes, request_bytes};
+use crate::names::Names;
+use crate::parts::{form_error, is_front, is_name, is_status, read_number};
+use crate::{Pieces, TextFault, Transcript, TranscriptError};
+use std::alloc::Global;
+
+/// What the lines so far have said.
+#[derive(Drop)]
+struct Reader {
+    alloc: Global,
+    /// The line that is being read.
+    line: usize,
+    names: Names,
+    caller: Option<String>,
+    earlier: Vec<Transcript>,
+    current: Option<Draft>,
+}
+
+impl Reader {
+    fn new(alloc: Global) -> Reader {
+        Reader {
+            alloc,
+            line: 0,
+            names: Names::new(alloc),
+            caller: None,
+            earlier: Vec::new(alloc),
+            current: None,
+        }
+    }
+
+    /// Reads a line: its key, and the entry behind it.
+    fn read_line(&mut self, text: &str) -> Result<(), TranscriptError> {
+        if text.trim().is_empty() || text.starts_with('#') {
+            return Ok(());
+        }
+        let (key, entry) = text.split_once(' ').unwrap_or((text, ""));
+        match key {
+            "let" => self.give_name(entry),
+            "caller" => self.set_caller(entry),
+            "transcript" => self.begin(entry),
+            "from" => self.begin_with(entry),
+            "words" => self.set_words(entry),
+            "step" => self.set_step(entry),
+            "pieces" => self.set_pieces(entry),
+            "fails" => self.set_fails(entry),
+            "ends" => self.set_status(entry),
+            "field" => self.add_field(entry),
+            "moment" => self.add_moment(entry),
+            ">" => self.add_request(entry),
+            "<" => self.add_reply(entry),
+            ">>" => self.add_sent(entry),
+            "<<" => self.add_answered(entry),
+            _ => Err(self.form_error("a key", key)),
+        }
+    }
+
+    fn form_error(&self, wanted: &'static str, came: &str) -> TranscriptError {
+        form_error(self.alloc, self.line, wanted, came)
+    }
+
+    /// The bytes of a text of this line.
+    fn expand(&mut self, text: &str) -> Result<Vec<u8>, TranscriptError> {
+        self.names.expand(self.alloc, self.line, text)
+    }
+
+    /// The transcript that this line belongs to.
+    fn draft(&mut self) -> Result<&mut Draft, TranscriptError> {
+        match &mut self.current {
+            Some(draft) => Ok(draft),
+            None => Err(TextFault::OutsideTranscript.at(self.line)),
+        }
+    }
+
+    fn give_name(&mut self, entry: &str) -> Result<(), TranscriptError> {
+        let (name, text) = entry.split_once(' ').unwrap_or((entry, ""));
+        let text = self.expand(text)?;
+        self.names.give(self.alloc, self.line, name, text)
+    }
+
+    fn set_caller(&mut self, caller: &str) -> Result<(), TranscriptError> {
+        if caller.is_empty() {
+            return Err(self.form_error("a caller", caller));
+        }
+        self.caller = Some(String::from_str(self.alloc, caller)?);
+        Ok(())
+    }
+
+    /// Ends the transcript that was read last, if there is one.
+    fn end_draft(&mut self) -> Result<(), TranscriptError> {
+        if let Some(draft) = self.current.take() {
+            self.earlier.push(draft.end()?)?;
+        }
+        Ok(())
+    }
+
+    fn begin(&mut self, name: &str) -> Result<(), TranscriptError> {
+        if !is_name(name) {
+            return Err(self.form_error("a name of letters, digits and `_`", name));
+        }
+        self.end_draft()?;
+        if self.earlier.iter().any(|it| it.name.as_str() == name) {
+            let name = String::from_str(self.alloc, name)?;
+            return Err(TextFault::RepeatedTranscript(name).at(self.line));
+        }
+        self.current = Some(Draft::new(self.alloc, name, self.line)?);
+        Ok(())
+    }
+
+    fn begin_with(&mut self, name: &str) -> Result<(), TranscriptError> {
+        let Some(draft) = &mut self.current else {
+            return Err(TextFault::OutsideTranscript.at(self.line));
+        };
+        match self.earlier.iter().find(|it| it.name.as_str() == name) {
+            Some(other) => draft.begin_with(self.alloc, self.line, other),
+            None => {
+                let name = String::from_str(self.alloc, name)?;
+                Err(TextFault::UnknownTranscript(name).at(self.line))
+            }
+        }
+    }
+
+    fn set_words(&mut self, entry: &str) -> Result<(), TranscriptError> {
+        let mut words = Vec::new(self.alloc);
+        for word in entry.split_whitespace() {
+            words.push(String::from_str(self.alloc, word)?)?;
+        }
+        self.draft()?.transcript.words = words;
+        Ok(())
+    }
+
+    fn set_step(&mut self, entry: &str) -> Result<(), TranscriptError> {
+        let step = read_number(self.alloc, self.line, entry)?;
+        self.draft()?.transcript.step = Some(step);
+        Ok(())
+    }
+
+    fn set_pieces(&mut self, entry: &str) -> Result<(), TranscriptError> {
+        let (first, last) = entry.split_once(' ').unwrap_or((entry, entry));
+        let first = read_number(self.alloc, self.line, first)?;
+        let last = read_number(self.alloc, self.line, last)?;
+        if first < 1 || last < first {
+            return Err(self.form_error("a size from 1 on and one that is not below it", entry));
+        }
+        self.draft()?.transcript.pieces = Pieces { first, last };
+        Ok(())
+    }
+
+    fn set_fails(&mut self, entry: &str) -> Result<(), TranscriptError> {
+        let mut fails = Vec::new(self.alloc);
+        for call in entry.split_whitespace() {
+            fails.push(read_number(self.alloc, self.line, call)?)?;
+        }
+        self.draft()?.transcript.fails = fails;
+        Ok(())
+    }
+
+    fn set_status(&mut self, entry: &str) -> Result<(), TranscriptError> {
+        let status = read_number(self.alloc, self.line, entry)?;
+        self.draft()?.transcript.status = status;
+        Ok(())
+    }
+
+    fn add_field(&mut self, entry: &str) -> Result<(), TranscriptError> {
+        let line = self.line;
+        let field = self.expand(entry)?;
+        self.draft()?.add_field(line, field.as_slice())?;
+        Ok(())
+    }
+
+    fn add_moment(&mut self, entry: &str) -> Result<(), TranscriptError> {
+        let moment = read_number(self.alloc, self.line, entry)?;
+        self.draft()?.transcript.moments.push(moment)?;
+        Ok(())
+    }
+
+    fn add_request(&mut self, entry: &str) -> Result<(), TranscriptError> {
+        let Some((moment, target)) = entry.split_once(' ') else {
+            return Err(self.form_error("MOMENT PATH BODY", entry));
+        };
+        if moment != "-" {
+            self.add_moment(moment)?;
+        }
+        let (path, body) = target.split_once(' ').unwrap_or((target, ""));
+        let body = self.expand(body)?;
+        let alloc = self.alloc;
+        let fields = self.draft()?.take_fields(alloc);
+        let Some(caller) = &self.caller else {
+            return Err(TextFault::RequestWithoutCaller.at(self.line));
+        };
+        let caller = caller.as_str();
+        let bytes = request_bytes(alloc, path, caller, fields.as_slice(), body.as_slice())?;
+        self.draft()?.add_request(bytes.as_slice())?;
+        Ok(())
+    }
+
+    fn add_reply(&mut self, entry: &str) -> Result<(), TranscriptError> {
+        let line = self.line;
+        let Some((status, rest)) = entry.split_once(" | ") else {
+            return Err(self.form_error("STATUS | FRONT | BODY", entry));
+        };
+        let Some((front, body)) = rest.split_once(" | ") else {
+            return Err(self.form_error("STATUS | FRONT | BODY", entry));
+        };
+        if !is_status(status) {
+            return Err(self.form_error("a status as `200 OK`", status));
+        }
+        if !is_front(front) {
+            return Err(self.form_error("a front or `-`", front));
+        }
+        let body = self.expand(body)?;
+        let bytes = reply_bytes(self.alloc, status, front, body.as_slice())?;
+        self.draft()?.add_reply(line, bytes)
+    }
+
+    fn add_sent(&mut self, entry: &str) -> Result<(), TranscriptError> {
+        let bytes = self.expand(entry)?;
+        self.draft()?.add_request(bytes.as_slice())?;
+        Ok(())
+    }
+
+    fn add_answered(&mut self, entry: &str) -> Result<(), TranscriptError> {
+        let line = self.line;
+        let bytes = self.expand(entry)?;
+        self.draft()?.add_bytes(line, bytes)?;
+        Ok(())
+    }
+
+    /// The transcripts, once all lines were read.
+    fn end(mut self) -> Result<Vec<Transcript>, TranscriptError> {
+        self.end_draft()?;
+        self.names.end(self.alloc)?;
+        Ok(self.earlier)
+    }
+}
+
+/// Reads the transcripts of a text.
+///
+/// # Errors
+///
+/// The first line that is not of the form, the first name that nothing uses, or want of memory.
+pub fn read(alloc: Global, text: &str) -> Result<Vec<Transcript>, TranscriptError> {
+    let mut reader = Reader::new(alloc);
+    for line in text.lines() {
+        reader.line = reader.line.saturating_add(1);
+        reader.read_line(line)?;
+    }
+    reader.end()
+}

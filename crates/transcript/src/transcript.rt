@@ -1,0 +1,79 @@
+use std::alloc::{AllocError, Global};
+
+/// The bytes of a reply, and the line at which it stands.
+#[derive(Drop)]
+pub struct Reply {
+    pub line: usize,
+    pub bytes: Vec<u8>,
+}
+
+/// The sizes of the pieces in which the bytes of a connection come, from the first to the last.
+#[derive(Clone, Copy, Debug, PartialEq, Eq)]
+pub struct Pieces {
+    pub first: usize,
+    pub last: usize,
+}
+
+/// One run of the program over one connection, and what it is to answer.
+#[derive(Drop)]
+pub struct Transcript {
+    pub name: String,
+    /// The line at which it begins.
+    pub line: usize,
+    /// The words of the command line.
+    pub words: Vec<String>,
+    /// The bytes that are sent.
+    pub input: Vec<u8>,
+    /// The seconds at which pools are asked, in order.
+    pub moments: Vec<u64>,
+    pub replies: Vec<Reply>,
+    /// The bytes of the replies, one after the other.
+    pub output: Vec<u8>,
+    /// The step of the second clock over which it is run, in seconds.
+    pub step: Option<u64>,
+    pub pieces: Pieces,
+    /// The numbers of the calls on the link that fail.
+    pub fails: Vec<u64>,
+    /// The status with which the program ends.
+    pub status: u8,
+}
+
+impl Transcript {
+    /// A transcript without rows, whose one word is `session`.
+    pub(crate) fn new(alloc: Global, name: &str, line: usize) -> Result<Transcript, AllocError> {
+        Ok(Transcript {
+            name: String::from_str(alloc, name)?,
+            line,
+            words: vec![in alloc; String::from_str(alloc, "session")?]?,
+            input: Vec::new(alloc),
+            moments: Vec::new(alloc),
+            replies: Vec::new(alloc),
+            output: Vec::new(alloc),
+            step: None,
+            pieces: Pieces {
+                first: 1000,
+                last: 1000,
+            },
+            fails: Vec::new(alloc),
+            status: 0,
+        })
+    }
+
+    /// Adds a reply that stands at a line.
+    pub(crate) fn add_reply(&mut self, line: usize, bytes: Vec<u8>) -> Result<(), AllocError> {
+        self.output.extend_from_slice(bytes.as_slice())?;
+        self.replies.push(Reply { line, bytes })?;
+        Ok(())
+    }
+
+    /// Adds the rows of another transcript.
+    pub(crate) fn add_rows(&mut self, alloc: Global, other: &Transcript) -> Result<(), AllocError> {
+        self.input.extend_from_slice(other.input.as_slice())?;
+        self.moments.extend_from_slice(other.moments.as_slice())?;
+        for reply in other.replies.iter() {
+            let bytes = Vec::from_slice(alloc, reply.bytes.as_slice())?;
+            self.add_reply(reply.line, bytes)?;
+        }
+        Ok(())
+    }
+}
