@@ -11,7 +11,7 @@ use std::process::Abort;
 use std::test::Fail;
 use swarm_model::{Entry, EntryKind};
 
-fn bot_dims(alloc: Global, name: &str, os: &str) -> Result<BotDims, Fail> {
+fn bot_dims<'a>(alloc: Global, name: &'a str, os: &'a str) -> Result<BotDims, Fail> {
     let has = bot_pairs(alloc, &[("id", name), ("os", os), ("pool", "default")])?;
     Ok(BotDims::read(alloc, name, has.as_slice())?)
 }
@@ -32,14 +32,14 @@ fn put(registry: &mut Registry, entry: Entry) -> Result<(), Fail>
 }
 
 /// A bot comes for the first time.
-fn greet(
+fn greet<'a>(
     rt: &impl Abort,
     alloc: Global,
     registry: &mut Registry,
     moment: u64,
     number: u32,
-    name: &str,
-    os: &str,
+    name: &'a str,
+    os: &'a str,
 ) -> Result<(), Fail>
     requires early { moment ≤ 2 ^ 40 }
     requires most { registry.old.most ≡ 3 }
