@@ -1,5 +1,5 @@
 -- A session that had no memory to begin with.
-use Rattle.std.proofs.Common.{◌≡◌, ℕ, List, [], Option, refl}
+use Rattle.std.proofs.Common.{◌≡◌, ℕ, List, [], Option, refl, true}
 use Rattle.sw_base.specs.Link.{LinkState, IsClean}
 use Rattle.swarm_http.specs.declared.ended.Ended.TheVariants.{Memory}
 use Rattle.swarm_http.proofs.Serving.{no_memory}
@@ -9,10 +9,11 @@ pub nothing_began : (s : LinkState) (a : ℕ → Option (List ℕ)) (status : �
 nothing_began s a status clean is =
     record {
       ended = Memory;
-      numbers = λ p. 0;
+      writer = record { numbers = λ p. 0; alone = true };
       old = λ p. [];
       new = λ p. [];
       numbered = λ p. refl;
+      alone = refl;
       empty = λ p. refl;
       answered = no_memory clean;
       status_is = is;

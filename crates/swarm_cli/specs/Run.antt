@@ -1,9 +1,9 @@
 -- What the program does.
-use Rattle.std.specs.Prelude.{◌≡◌, ◌⊎◌, ℕ, List, [], ◌∷◌, codes, Option}
+use Rattle.std.specs.Prelude.{◌≡◌, ◌⊎◌, ℕ, List, [], ◌∷◌, codes, Option, IsTrue}
 use Rattle.sw_base.specs.Faults.{Rose}
 use Rattle.sw_base.specs.Link.{LinkState, IsClean, NoFault}
 use Rattle.swarm_policy.specs.Open.{open_settings}
-use Rattle.swarm_history.specs.Doors.{Logs}
+use Rattle.swarm_history.specs.Doors.{Logs, Writer}
 use Rattle.swarm_http.specs.declared.ended.Ended.{Ended}
 use Rattle.swarm_http.specs.declared.ended.Ended.TheVariants.{Closed, LastAsked, CutShort, BadHead, Retired, ReadFault, WriteFault, Memory}
 use Rattle.swarm_http.specs.Sends.{Written}
@@ -24,15 +24,16 @@ status_of BadHead = 7
 abbrev pub AreSession : List (List ℕ) → Type 0
 AreSession words = words ≡ codes "session" ∷ []
 
--- one connection over a door with the open settings, the pass 0 and an empty log of each pool
+-- one connection over a door with the open settings, which writes alone, under the number 0, to an empty log of each pool
 pub record RunsSession (s t : LinkState) (a b : ℕ → Option (List ℕ)) (status : ℕ) : Type 0 where
   pub ended : Ended
-  pub numbers : ℕ → ℕ
+  pub writer : Writer
   pub old : Logs
   pub new : Logs
-  pub numbered : (p : ℕ) → numbers p ≡ 0
+  pub numbered : (p : ℕ) → writer.numbers p ≡ 0
+  pub alone : IsTrue writer.alone
   pub empty : (p : ℕ) → old p ≡ []
-  pub answered : IsAnswered open_settings numbers s t a b old new ended
+  pub answered : IsAnswered open_settings writer s t a b old new ended
   pub status_is : status ≡ status_of ended
 
 -- the usage was written whole and flushed, or a write or the flush failed

@@ -15,11 +15,15 @@ use Rattle.swarm_model.specs.Answers.{answer}
 use Rattle.swarm_model.specs.Deadlines.{due_entry}
 use Rattle.swarm_model.specs.Effects.{opening, after}
 use Rattle.swarm_model.specs.History.{replay, IsLegal, moment_of}
-use Rattle.swarm_model.specs.Points.{is_ahead, IsPoint, IsStopped, LacksRoom, next_entry}
+use Rattle.swarm_model.specs.Points.{is_ahead, IsPoint, LacksRoom, next_entry}
 use Rattle.swarm_model.specs.Kept.{Kept, IsHistory}
 use Rattle.swarm_model.specs.Soundness.{IsSound}
 use Rattle.swarm_laws.proofs.Sound.{sound_always}
-use Rattle.swarm_history.specs.Settling.{Settles, Responds}
+use Rattle.swarm_model.specs.declared.pool_settings.PoolSettings.{PoolSettings}
+use Rattle.swarm_history.specs.declared.door.Answered.{Answered}
+use Rattle.swarm_history.specs.declared.door.CallFault.{CallFault}
+use Rattle.swarm_history.specs.Doors.{Writer, ArePieces, is_log_full, IsAnsweredCall, IsStoppedCall}
+use Rattle.swarm_history.specs.Settling.{Settles, Responds, IsOwnPoint, IsOwnStop}
 
 -- what a machine keeps is sound
 pub sound_history : (kept : Kept) → IsHistory kept → IsSound kept.pool
@@ -27,16 +31,19 @@ sound_history kept h = subst IsSound (sym h.replayed) (sound_always kept.pool.se
 
 -- a call of one who has seen more than there is
 pub early_point : (start : PoolState) (pass : ℕ) (log : List Entry) (who : List ℕ) (moment : ℕ) (ahead : Option ℕ) (request : Request) →
-    IsLegal start log → is_ahead (length log) ahead ≡ true → IsPoint start pass log log who moment ahead request (reply.No (rule.FrontAhead (length log)))
+    IsLegal start log → is_ahead (length log) ahead ≡ true → IsOwnPoint start pass log log who moment ahead request (reply.No (rule.FrontAhead (length log)))
 early_point start pass log who moment ahead request legal is =
     record {
-      others = [];
-      settled = [];
-      own = None;
-      legal = legal;
-      parts = sym (append-nil log);
-      by_others = tt;
-      acts = rw (append-nil log, is) (record { reply = refl; settled_is = refl; own_is = refl });
+      point = record {
+        others = [];
+        settled = [];
+        own = None;
+        legal = legal;
+        parts = sym (append-nil log);
+        by_others = tt;
+        acts = rw (append-nil log, is) (record { reply = refl; settled_is = refl; own_is = refl });
+      };
+      no_others = refl;
     }
 
 -- an entry that is due comes before the request's own
@@ -66,34 +73,51 @@ module _ (pass : ℕ) (who : List ℕ) (moment : ℕ) (ahead : Option ℕ) (requ
   rows_settled = rows ∙ ap (replay start) s.log ∙ fold-append after start old.log s.settled
 
   pub settled_point : (new : Kept) → due_entry mid.pool at pass ≡ None → (answered : Reply) → Responds pass who at request mid new answered →
-      IsPoint start pass old.log new.log who moment ahead request answered
+      IsOwnPoint start pass old.log new.log who moment ahead request answered
   settled_point new none answered a =
       record {
-        others = [];
-        settled = s.settled;
-        own = (answer mid.pool who at pass request).entry;
-        legal = subst (λ x. IsLegal (opening x) new.log) (a.settings ∙ s.settings) a.history.legal;
-        parts = a.log ∙ ap (λ (l : List Entry). l ++ option_to_list (answer mid.pool who at pass request).entry) s.log ∙ append_assoc old.log s.settled _;
-        by_others = tt;
-        acts = rw (append-nil old.log, behind, ← moment_is) (record {
-          due_first = s.due_first;
-          nothing_due = rw (← rows_settled) none;
-          reply = rw (← rows_settled) a.reply;
-          entry = rw (← rows_settled) refl;
-        });
+        point = record {
+          others = [];
+          settled = s.settled;
+          own = (answer mid.pool who at pass request).entry;
+          legal = subst (λ x. IsLegal (opening x) new.log) (a.settings ∙ s.settings) a.history.legal;
+          parts = a.log ∙ ap (λ (l : List Entry). l ++ option_to_list (answer mid.pool who at pass request).entry) s.log ∙ append_assoc old.log s.settled _;
+          by_others = tt;
+          acts = rw (append-nil old.log, behind, ← moment_is) (record {
+            due_first = s.due_first;
+            nothing_due = rw (← rows_settled) none;
+            reply = rw (← rows_settled) a.reply;
+            entry = rw (← rows_settled) refl;
+          });
+        };
+        no_others = refl;
       }
 
   -- it stopped where an entry was to be added
   pub settled_stop : (log : List Entry) (full : Bool) → log ≡ mid.log → OnTrue full (LacksRoom mid.pool mid.log (next_entry mid.pool pass who at request)) →
-      IsStopped start pass old.log log who moment ahead request full
+      IsOwnStop start pass old.log log who moment ahead request full
   settled_stop log full same lacks =
       record {
-        others = [];
-        settled = s.settled;
-        legal = rw same (subst (λ x. IsLegal (opening x) mid.log) s.settings s.history.legal);
-        parts = same ∙ s.log;
-        by_others = tt;
-        not_ahead = rw (append-nil old.log) behind;
-        due_first = rw (append-nil old.log, ← moment_is) s.due_first;
-        full = rw (append-nil old.log, ← moment_is, same, ← rows, ← s.settings) lacks;
+        stop = record {
+          others = [];
+          settled = s.settled;
+          legal = rw same (subst (λ x. IsLegal (opening x) mid.log) s.settings s.history.legal);
+          parts = same ∙ s.log;
+          by_others = tt;
+          not_ahead = rw (append-nil old.log) behind;
+          due_first = rw (append-nil old.log, ← moment_is) s.due_first;
+          full = rw (append-nil old.log, ← moment_is, same, ← rows, ← s.settings) lacks;
+        };
+        no_others = refl;
       }
+
+-- a request was answered with no other's entries before it, which serves a door that writes alone and any other
+pub answered_call : {pool : PoolSettings} {writer : Writer} {place : ℕ} {old new : List Entry} {who : List ℕ} {moment : ℕ} {ahead : Option ℕ} {request : Request} {answered : Answered}
+    → IsOwnPoint (opening pool) (writer.numbers place) old new who moment ahead request answered.reply → answered.front ≡ length new → ArePieces answered.reply answered.pieces
+    → IsAnsweredCall pool writer place old new who moment ahead request answered
+answered_call p front pieces = record { point = p.point; no_others = λ _. p.no_others; front = front; pieces = pieces }
+
+pub stopped_call : {pool : PoolSettings} {writer : Writer} {place : ℕ} {old new : List Entry} {who : List ℕ} {moment : ℕ} {ahead : Option ℕ} {request : Request} {fault : CallFault}
+    → IsOwnStop (opening pool) (writer.numbers place) old new who moment ahead request (is_log_full fault)
+    → IsStoppedCall pool writer place old new who moment ahead request fault
+stopped_call p = record { stop = p.stop; no_others = λ _. p.no_others }

@@ -1,5 +1,5 @@
 -- What a door tells, and what a call does to it.
-use Rattle.std.specs.Prelude.{◌≡◌, ◌≢◌, ℕ, Bool, true, false, ◌+◌, ◌≤◌, List, [], length, slice_get, Option, Result, Ok, Err, IsSomeAnd}
+use Rattle.std.specs.Prelude.{◌≡◌, ◌≢◌, ℕ, Bool, true, false, ◌+◌, ◌≤◌, List, [], length, slice_get, Option, Result, Ok, Err, IsSomeAnd, IsTrue}
 use Rattle.swarm_model.specs.declared.pool_settings.Settings.{Settings}
 use Rattle.swarm_model.specs.declared.pool_settings.PoolSettings.{PoolSettings}
 use Rattle.swarm_model.specs.declared.entry.Entry.{Entry}
@@ -15,12 +15,17 @@ use Rattle.swarm_history.specs.declared.door.Answered.{Answered}
 abbrev pub Logs : Type 0
 Logs = ℕ → List Entry
 
--- The settings with which the door was made, the entries that it has seen of each pool, the number
--- of its pass at each place, how often its keepers failed, and how many calls were made on it.
+-- how a door writes: the number that its entries bear at each place, and whether it writes to the logs alone
+pub record Writer : Type 0 where
+  pub numbers : ℕ → ℕ
+  pub alone : Bool
+
+-- The settings with which the door was made, the entries that it has seen of each pool, how it
+-- writes, how often its keepers failed, and how many calls were made on it.
 pub record DoorState : Type 0 where
   pub settings : Settings
   pub seen : Logs
-  pub numbers : ℕ → ℕ
+  pub writer : Writer
   pub faults : ℕ
   pub calls : ℕ
 
@@ -36,31 +41,38 @@ abbrev pub is_log_full : CallFault → Bool
 is_log_full fault.Memory = false
 is_log_full fault.LogFull = true
 
--- a request was answered at its point of the log that grew from `old` to `new`
-pub record IsAnsweredCall (pool : PoolSettings) (number : ℕ) (old new : List Entry) (who : List ℕ) (moment : ℕ) (after : Option ℕ) (request : Request) (answered : Answered) : Type 0 where
-  pub point : IsPoint (opening pool) number old new who moment after request answered.reply
+-- a request was answered at its point of the log that grew from `old` to `new`, before which a door that writes alone adds nothing
+pub record IsAnsweredCall (pool : PoolSettings) (writer : Writer) (place : ℕ) (old new : List Entry) (who : List ℕ) (moment : ℕ) (after : Option ℕ) (request : Request) (answered : Answered) : Type 0 where
+  pub point : IsPoint (opening pool) (writer.numbers place) old new who moment after request answered.reply
+  pub no_others : IsTrue writer.alone → point.others ≡ []
   pub front : answered.front ≡ length new
   pub pieces : ArePieces answered.reply answered.pieces
 
+-- a call stopped, before which a door that writes alone adds nothing
+pub record IsStoppedCall (pool : PoolSettings) (writer : Writer) (place : ℕ) (old new : List Entry) (who : List ℕ) (moment : ℕ) (after : Option ℕ) (request : Request) (fault : CallFault) : Type 0 where
+  pub stop : IsStopped (opening pool) (writer.numbers place) old new who moment after request (is_log_full fault)
+  pub no_others : IsTrue writer.alone → stop.others ≡ []
+
 -- a request was answered, or its call stopped
-abbrev pub IsPoolCall : PoolSettings → ℕ → List Entry → List Entry → List ℕ → ℕ → Option ℕ → Request → Result Answered CallFault → Type 0
-IsPoolCall pool number old new who moment after request (Ok answered) = IsAnsweredCall pool number old new who moment after request answered
-IsPoolCall pool number old new who moment after request (Err fault) = IsStopped (opening pool) number old new who moment after request (is_log_full fault)
+abbrev pub IsPoolCall : PoolSettings → Writer → ℕ → List Entry → List Entry → List ℕ → ℕ → Option ℕ → Request → Result Answered CallFault → Type 0
+IsPoolCall pool writer place old new who moment after request (Ok answered) = IsAnsweredCall pool writer place old new who moment after request answered
+IsPoolCall pool writer place old new who moment after request (Err fault) = IsStoppedCall pool writer place old new who moment after request fault
 
 -- one call, of the pool at a place
 pub record IsCall (old new : DoorState) (place : ℕ) (moment : ℕ) (after : Option ℕ) (who : List ℕ) (request : Request) (result : Result Answered CallFault) : Type 0 where
   pub done : IsSomeAnd (slice_get old.settings.pools place)
-      (λ pool. IsPoolCall pool (old.numbers place) (old.seen place) (new.seen place) who moment after request result)
+      (λ pool. IsPoolCall pool old.writer place (old.seen place) (new.seen place) who moment after request result)
   pub elsewhere : Elsewhere place old.seen new.seen
   pub settings : new.settings ≡ old.settings
-  pub numbers : new.numbers ≡ old.numbers
+  pub writer : new.writer ≡ old.writer
   pub faults : old.faults ≤ new.faults
   pub calls : new.calls ≤ old.calls + 1
 
--- a door of these settings that has seen nothing, was not called and never failed
+-- a door of these settings that writes alone, has seen nothing, was not called and never failed
 pub record IsNewDoor (settings : Settings) (door : DoorState) : Type 0 where
   pub settings_are : door.settings ≡ settings
   pub seen : (p : ℕ) → door.seen p ≡ []
-  pub numbers : (p : ℕ) → door.numbers p ≡ 0
+  pub numbers : (p : ℕ) → door.writer.numbers p ≡ 0
+  pub alone : IsTrue door.writer.alone
   pub faults : door.faults ≡ 0
   pub calls : door.calls ≡ 0

@@ -1,4 +1,4 @@
-ghost use Rattle.std.specs.Prelude.{◌≡◌, ◌==◌, ◌∷◌, [], length, IsTrue, IfOk, if◌then◌else◌};
+ghost use Rattle.std.specs.Prelude.{◌≡◌, ◌==◌, ◌∷◌, [], length, true, IsTrue, IfOk, if◌then◌else◌};
 ghost use Rattle.swarm_model.specs.Settings.{are_settings};
 
 use crate::serving::serve;
@@ -41,7 +41,7 @@ impl<M: Machine + Drop> Door for PlainDoor<M> {
     ghost state = { λ d. record {
       settings = record { store = d.store; pools = (M.kept d.machine).pool.settings ∷ [] };
       seen = λ p. if p == 0 then (M.kept d.machine).log else [];
-      numbers = λ p. 0;
+      writer = record { numbers = λ p. 0; alone = true };
       faults = 0;
       calls = d.calls;
     } };

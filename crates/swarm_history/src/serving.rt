@@ -5,9 +5,9 @@ ghost use Rattle.swarm_model.specs.Answers.{answer};
 ghost use Rattle.swarm_model.specs.Deadlines.{due_entry};
 ghost use Rattle.swarm_model.specs.Effects.{opening};
 ghost use Rattle.swarm_model.specs.Kept.{IsHistory};
-ghost use Rattle.swarm_model.specs.Points.{IsPoint, IsStopped, LacksRoom, is_ahead};
+ghost use Rattle.swarm_model.specs.Points.{LacksRoom, is_ahead};
 ghost use Rattle.swarm_history.specs.Doors.{is_log_full};
-ghost use Rattle.swarm_history.specs.Settling.{Stays, Responds};
+ghost use Rattle.swarm_history.specs.Settling.{Stays, Responds, IsOwnPoint, IsOwnStop};
 
 use crate::CallFault;
 use crate::settling::{add, settle};
@@ -97,8 +97,8 @@ pub(crate) fn serve<M: Machine>(
 ) -> Result<Reply, CallFault>
     requires { IsTrue (fits (M.kept machine.old).pool.settings request.now) }
     ensures settings { (M.kept machine.new).pool.settings ≡ (M.kept machine.old).pool.settings }
-    ensures point { IfOk result (IsPoint (opening (M.kept machine.old).pool.settings) pass (M.kept machine.old).log (M.kept machine.new).log who.now moment after request.now) }
-    ensures stopped { IfErr result (λ f. IsStopped (opening (M.kept machine.old).pool.settings) pass (M.kept machine.old).log (M.kept machine.new).log who.now moment after request.now (is_log_full f)) }
+    ensures point { IfOk result (IsOwnPoint (opening (M.kept machine.old).pool.settings) pass (M.kept machine.old).log (M.kept machine.new).log who.now moment after request.now) }
+    ensures stopped { IfErr result (λ f. IsOwnStop (opening (M.kept machine.old).pool.settings) pass (M.kept machine.old).log (M.kept machine.new).log who.now moment after request.now (is_log_full f)) }
 {
     let length = machine.length();
     if is_ahead(length, after) {

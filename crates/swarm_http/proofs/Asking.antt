@@ -13,7 +13,7 @@ use Rattle.swarm_wire.specs.Routes.{route_of}
 use Rattle.swarm_wire.specs.Asking.{asked_of}
 use Rattle.swarm_history.specs.declared.door.Answered.{Answered}
 use Rattle.swarm_history.specs.declared.door.CallFault.{CallFault}
-use Rattle.swarm_history.specs.Doors.{Logs, Elsewhere, IsPoolCall}
+use Rattle.swarm_history.specs.Doors.{Logs, Elsewhere, IsPoolCall, Writer}
 use Rattle.request_head.specs.declared.after.After.{After}
 use Rattle.std.specs.Prelude.{IsSomeAnd, slice_get}
 use Rattle.swarm_http.specs.declared.reply.Shown.{Shown}
@@ -59,31 +59,31 @@ body_asks settings head body items route who after asked e m c same is asks =
     body_left settings head body route who e m c ∙ ap (λ (r : Result Asked Rule). then r (meant_by who)) (rw (same, is) at asks)
 
 -- a request that was refused before any call
-pub refused_early : (settings : Settings) (numbers : ℕ → ℕ) (head : RequestHead) (body : List ℕ) (a : ℕ → Option (List ℕ)) (old : Logs) (shown : Shown) (why : Rule)
-    → meaning settings head body ≡ Err why → text_of shown ≡ refusal None why → Answers settings numbers head body a a old old shown
-refused_early settings numbers head body a old shown why means text =
+pub refused_early : (settings : Settings) (writer : Writer) (head : RequestHead) (body : List ℕ) (a : ℕ → Option (List ℕ)) (old : Logs) (shown : Shown) (why : Rule)
+    → meaning settings head body ≡ Err why → text_of shown ≡ refusal None why → Answers settings writer head body a a old old shown
+refused_early settings writer head body a old shown why means text =
     record { outcome = early why; acts = (means, refl); moments = HandsIn-nil a; shown = text }
 
 -- a request for which there was no memory
-pub not_held : (settings : Settings) (numbers : ℕ → ℕ) (head : RequestHead) (body : List ℕ) (a : ℕ → Option (List ℕ)) (old : Logs) (shown : Shown)
-    → text_of shown ≡ refusal None rule.WantOfMemory → Answers settings numbers head body a a old old shown
-not_held settings numbers head body a old shown text = record { outcome = unheld; acts = refl; moments = HandsIn-nil a; shown = text }
+pub not_held : (settings : Settings) (writer : Writer) (head : RequestHead) (body : List ℕ) (a : ℕ → Option (List ℕ)) (old : Logs) (shown : Shown)
+    → text_of shown ≡ refusal None rule.WantOfMemory → Answers settings writer head body a a old old shown
+not_held settings writer head body a old shown text = record { outcome = unheld; acts = refl; moments = HandsIn-nil a; shown = text }
 
 -- a body that was refused
-pub body_refused : (settings : Settings) (numbers : ℕ → ℕ) (head : RequestHead) (body who : List ℕ) (a : ℕ → Option (List ℕ)) (old : Logs) (shown : Shown) (asked : Result Asked Rule)
-    → meaning settings head body ≡ then asked (meant_by who) → IsEarly shown asked → Answers settings numbers head body a a old old shown
-body_refused settings numbers head body who a old shown asked means (told why e text) =
-    refused_early settings numbers head body a old shown why (means ∙ ap (λ (r : Result Asked Rule). then r (meant_by who)) e) text
-body_refused settings numbers head body who a old shown asked means (untold text) = not_held settings numbers head body a old shown text
+pub body_refused : (settings : Settings) (writer : Writer) (head : RequestHead) (body who : List ℕ) (a : ℕ → Option (List ℕ)) (old : Logs) (shown : Shown) (asked : Result Asked Rule)
+    → meaning settings head body ≡ then asked (meant_by who) → IsEarly shown asked → Answers settings writer head body a a old old shown
+body_refused settings writer head body who a old shown asked means (told why e text) =
+    refused_early settings writer head body a old shown why (means ∙ ap (λ (r : Result Asked Rule). then r (meant_by who)) e) text
+body_refused settings writer head body who a old shown asked means (untold text) = not_held settings writer head body a old shown text
 
 -- the pool of a request was called for it
-pub is_called : (settings : Settings) (numbers : ℕ → ℕ) (head : RequestHead) (body who : List ℕ) (asked : Asked) (moment : ℕ) (after : After) (front : Option ℕ) (result : Result Answered CallFault) (old new : Logs)
+pub is_called : (settings : Settings) (writer : Writer) (head : RequestHead) (body who : List ℕ) (asked : Asked) (moment : ℕ) (after : After) (front : Option ℕ) (result : Result Answered CallFault) (old new : Logs)
     → after ≡ after_of head → front ≡ front_of after → meaning settings head body ≡ meant_by who asked
-    → IsSomeAnd (slice_get settings.pools asked.place) (λ pool. IsPoolCall pool (numbers asked.place) (old asked.place) (new asked.place) who moment front asked.request result)
-    → Elsewhere asked.place old new → IsCalled settings numbers head body (record { who = who; asked = asked }) moment result old new
-is_called settings numbers head body who asked moment after front result old new same seen means call elsewhere = record {
+    → IsSomeAnd (slice_get settings.pools asked.place) (λ pool. IsPoolCall pool writer asked.place (old asked.place) (new asked.place) who moment front asked.request result)
+    → Elsewhere asked.place old new → IsCalled settings writer head body (record { who = who; asked = asked }) moment result old new
+is_called settings writer head body who asked moment after front result old new same seen means call elsewhere = record {
   means = means;
-  call = subst (λ (f : Option ℕ). IsSomeAnd (slice_get settings.pools asked.place) (λ pool. IsPoolCall pool (numbers asked.place) (old asked.place) (new asked.place) who moment f asked.request result))
+  call = subst (λ (f : Option ℕ). IsSomeAnd (slice_get settings.pools asked.place) (λ pool. IsPoolCall pool writer asked.place (old asked.place) (new asked.place) who moment f asked.request result))
       (seen ∙ ap front_of same) call;
   elsewhere = elsewhere;
 }

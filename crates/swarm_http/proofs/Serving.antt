@@ -12,7 +12,7 @@ use Rattle.sw_base.specs.Faults.{Rose}
 use Rattle.sw_base.specs.Link.{LinkState, IsClean, Moves, NoFault}
 use Rattle.sw_base.proofs.Moving.{Moves-refl, Moves-trans, NoFault-refl, NoFault-trans, clean_still}
 use Rattle.swarm_model.specs.declared.pool_settings.Settings.{Settings}
-use Rattle.swarm_history.specs.Doors.{Logs, DoorState}
+use Rattle.swarm_history.specs.Doors.{Logs, DoorState, Writer}
 use Rattle.swarm_http.specs.declared.ended.Ended.{Ended}
 use Rattle.swarm_http.specs.declared.ended.Ended.TheVariants.{Closed, LastAsked, CutShort, BadHead, Retired, ReadFault, WriteFault, Memory}
 use Rattle.swarm_http.specs.declared.reply.Refusal.{Refusal}
@@ -36,18 +36,18 @@ HandsIn-trans a b c xs ys p q more =
     subst (λ k. Consumes (a k) (c more) (xs ++ ys)) e
     (Consumes-trans (a (length xs + (length ys + more))) (b (length ys + more)) (c more) xs ys (p (length ys + more)) (q more))
 
-Chain-append : (settings : Settings) (numbers : ℕ → ℕ) (old mid new : Logs) (xs ys : List Exchange)
-    → Chain settings numbers old xs mid → Chain settings numbers mid ys new → Chain settings numbers old (xs ++ ys) new
-Chain-append settings numbers old mid new [] ys same rest = subst (λ l. Chain settings numbers l ys new) same rest
-Chain-append settings numbers old mid new (x ∷ xs) ys first rest = (first.0, first.1, Chain-append settings numbers first.0 mid new xs ys first.2 rest)
+Chain-append : (settings : Settings) (writer : Writer) (old mid new : Logs) (xs ys : List Exchange)
+    → Chain settings writer old xs mid → Chain settings writer mid ys new → Chain settings writer old (xs ++ ys) new
+Chain-append settings writer old mid new [] ys same rest = subst (λ l. Chain settings writer l ys new) same rest
+Chain-append settings writer old mid new (x ∷ xs) ys first rest = (first.0, first.1, Chain-append settings writer first.0 mid new xs ys first.2 rest)
 
-nothing_served : (settings : Settings) (numbers : ℕ → ℕ) (s : LinkState) (a : ℕ → Option (List ℕ)) (old : Logs) → Serves settings numbers [] [] [] [] s s a a old old
-nothing_served settings numbers s a old = record { taken = []; moves = Moves-refl s; input_is = refl; moments = HandsIn-nil a; chain = refl }
+nothing_served : (settings : Settings) (writer : Writer) (s : LinkState) (a : ℕ → Option (List ℕ)) (old : Logs) → Serves settings writer [] [] [] [] s s a a old old
+nothing_served settings writer s a old = record { taken = []; moves = Moves-refl s; input_is = refl; moments = HandsIn-nil a; chain = refl }
 
-Serves-trans : {settings : Settings} {numbers : ℕ → ℕ} {xs ys : List Exchange} {pending mid rest p q : List ℕ} {s t u : LinkState} {a b c : ℕ → Option (List ℕ)} {d e f : Logs}
-    → Serves settings numbers xs pending mid p s t a b d e → Serves settings numbers ys mid rest q t u b c e f
-    → Serves settings numbers (xs ++ ys) pending rest (p ++ q) s u a c d f
-Serves-trans {settings = settings} {numbers = numbers} {xs = xs} {ys = ys} {pending = pending} {mid = mid} {rest = rest} {a = a} {b = b} {c = c} {d = d} {e = e} {f = f} x y = record {
+Serves-trans : {settings : Settings} {writer : Writer} {xs ys : List Exchange} {pending mid rest p q : List ℕ} {s t u : LinkState} {a b c : ℕ → Option (List ℕ)} {d e f : Logs}
+    → Serves settings writer xs pending mid p s t a b d e → Serves settings writer ys mid rest q t u b c e f
+    → Serves settings writer (xs ++ ys) pending rest (p ++ q) s u a c d f
+Serves-trans {settings = settings} {writer = writer} {xs = xs} {ys = ys} {pending = pending} {mid = mid} {rest = rest} {a = a} {b = b} {c = c} {d = d} {e = e} {f = f} x y = record {
   taken = x.taken ++ y.taken;
   moves = Moves-trans x.moves y.moves;
   input_is =
@@ -55,7 +55,7 @@ Serves-trans {settings = settings} {numbers = numbers} {xs = xs} {ys = ys} {pend
       ∙ ap (λ l. flat_map spelled xs ++ l) y.input_is ∙ sym (append_assoc (flat_map spelled xs) (flat_map spelled ys) rest)
       ∙ ap (λ l. l ++ rest) (sym (flat_map-append spelled xs ys));
   moments = subst (HandsIn a c) (sym (flat_map-append moments_of xs ys)) (HandsIn-trans a b c (flat_map moments_of xs) (flat_map moments_of ys) x.moments y.moments);
-  chain = Chain-append settings numbers d e f xs ys x.chain y.chain;
+  chain = Chain-append settings writer d e f xs ys x.chain y.chain;
 }
 
 -- what was sent before goes in front
@@ -109,14 +109,14 @@ ends_after WriteFault xs ys rest sent s m t few o well nr nm e = (subst (λ n. R
 ends_after Memory xs ys rest sent s m t few o well nr nm e = absurd (nm refl)
 
 -- no request was answered
-none_served : {settings : Settings} {numbers : ℕ → ℕ} {pending rest taken sent : List ℕ} {s t : LinkState} {a : ℕ → Option (List ℕ)} {d : Logs}
-    → Moves s t taken sent → pending ++ taken ≡ rest → Serves settings numbers [] pending rest sent s t a a d d
+none_served : {settings : Settings} {writer : Writer} {pending rest taken sent : List ℕ} {s t : LinkState} {a : ℕ → Option (List ℕ)} {d : Logs}
+    → Moves s t taken sent → pending ++ taken ≡ rest → Serves settings writer [] pending rest sent s t a a d d
 none_served {taken = taken} {a = a} m is = record { taken = taken; moves = m; input_is = is; moments = HandsIn-nil a; chain = refl }
 
 -- one request was answered
-one_served : {settings : Settings} {numbers : ℕ → ℕ} {pending rest taken sent text body : List ℕ} {head : RequestHead} {outcome : Outcome} {s t : LinkState} {a b : ℕ → Option (List ℕ)} {d e : Logs}
-    → Moves s t taken sent → pending ++ taken ≡ (text ++ body) ++ rest → HeadSays text head → size_of head ≡ length body → Acts settings numbers head body outcome d e → HandsIn a b (uses outcome)
-    → Serves settings numbers (record { text = text; body = body; head = head; outcome = outcome } ∷ []) pending rest sent s t a b d e
+one_served : {settings : Settings} {writer : Writer} {pending rest taken sent text body : List ℕ} {head : RequestHead} {outcome : Outcome} {s t : LinkState} {a b : ℕ → Option (List ℕ)} {d e : Logs}
+    → Moves s t taken sent → pending ++ taken ≡ (text ++ body) ++ rest → HeadSays text head → size_of head ≡ length body → Acts settings writer head body outcome d e → HandsIn a b (uses outcome)
+    → Serves settings writer (record { text = text; body = body; head = head; outcome = outcome } ∷ []) pending rest sent s t a b d e
 one_served {rest = rest} {taken = taken} {text = text} {body = body} {outcome = outcome} {a = a} {b = b} {e = e} m is says size acts moments = record {
   taken = taken;
   moves = m;
@@ -134,10 +134,10 @@ no_faults : {ended : Ended} {s t : LinkState} → t.read_faults ≡ s.read_fault
 no_faults reads writes clean = record { reads = λ n. reads; writes = λ n. writes; clean = λ n. clean }
 
 -- a request was taken, answered and its reply written
-pub goes_on : {settings : Settings} {numbers : ℕ → ℕ} {pending rest : List ℕ} {received : Received} {shown : Shown} {T E : Type 0} {r : Result T E} {s t u : LinkState} {a b : ℕ → Option (List ℕ)} {d e : Logs}
+pub goes_on : {settings : Settings} {writer : Writer} {pending rest : List ℕ} {received : Received} {shown : Shown} {T E : Type 0} {r : Result T E} {s t u : LinkState} {a b : ℕ → Option (List ℕ)} {d e : Logs}
     → Takes s t pending rest (taken.Asks received)
-    → ((body : List ℕ) (head : RequestHead) → IsHeld received body head → Answers settings numbers head body a b d e shown)
-    → (w : Sends t u (text_of shown) r) → w.back ≡ [] → u.write_faults ≡ t.write_faults → IsClean u → received.said.closes ≡ false → GoesOn settings numbers pending rest s u a b d e
+    → ((body : List ℕ) (head : RequestHead) → IsHeld received body head → Answers settings writer head body a b d e shown)
+    → (w : Sends t u (text_of shown) r) → w.back ≡ [] → u.write_faults ≡ t.write_faults → IsClean u → received.said.closes ≡ false → GoesOn settings writer pending rest s u a b d e
 goes_on {s = s} {u = u} x answers w all well flushed still =
     let q = x.outcome.0 in
     let y = answers q.body q.head q.held in
@@ -152,10 +152,10 @@ goes_on {s = s} {u = u} x answers w all well flushed still =
     }
 
 -- its reply was not written whole
-pub reply_cut : {settings : Settings} {numbers : ℕ → ℕ} {pending rest : List ℕ} {received : Received} {shown : Shown} {T E : Type 0} {r : Result T E} {s t u : LinkState} {a b : ℕ → Option (List ℕ)} {d e : Logs}
+pub reply_cut : {settings : Settings} {writer : Writer} {pending rest : List ℕ} {received : Received} {shown : Shown} {T E : Type 0} {r : Result T E} {s t u : LinkState} {a b : ℕ → Option (List ℕ)} {d e : Logs}
     → Takes s t pending rest (taken.Asks received)
-    → ((body : List ℕ) (head : RequestHead) → IsHeld received body head → Answers settings numbers head body a b d e shown)
-    → Sends t u (text_of shown) r → Rose t.write_faults u.write_faults → Stops settings numbers pending s u a b d e WriteFault
+    → ((body : List ℕ) (head : RequestHead) → IsHeld received body head → Answers settings writer head body a b d e shown)
+    → Sends t u (text_of shown) r → Rose t.write_faults u.write_faults → Stops settings writer pending s u a b d e WriteFault
 reply_cut {rest = rest} {s = s} {u = u} x answers w rose =
     let q = x.outcome.0 in
     let y = answers q.body q.head q.held in
@@ -174,10 +174,10 @@ reply_cut {rest = rest} {s = s} {u = u} x answers w rose =
     }
 
 -- its reply was the last
-pub asked_last : {settings : Settings} {numbers : ℕ → ℕ} {pending rest : List ℕ} {received : Received} {shown : Shown} {T E : Type 0} {r : Result T E} {s t u : LinkState} {a b : ℕ → Option (List ℕ)} {d e : Logs}
+pub asked_last : {settings : Settings} {writer : Writer} {pending rest : List ℕ} {received : Received} {shown : Shown} {T E : Type 0} {r : Result T E} {s t u : LinkState} {a b : ℕ → Option (List ℕ)} {d e : Logs}
     → Takes s t pending rest (taken.Asks received)
-    → ((body : List ℕ) (head : RequestHead) → IsHeld received body head → Answers settings numbers head body a b d e shown)
-    → (w : Sends t u (text_of shown) r) → w.back ≡ [] → u.write_faults ≡ t.write_faults → IsClean u → received.said.closes ≡ true → Stops settings numbers pending s u a b d e LastAsked
+    → ((body : List ℕ) (head : RequestHead) → IsHeld received body head → Answers settings writer head body a b d e shown)
+    → (w : Sends t u (text_of shown) r) → w.back ≡ [] → u.write_faults ≡ t.write_faults → IsClean u → received.said.closes ≡ true → Stops settings writer pending s u a b d e LastAsked
 asked_last {rest = rest} {s = s} {u = u} x answers w all well flushed closing =
     let q = x.outcome.0 in
     let y = answers q.body q.head q.held in
@@ -197,8 +197,8 @@ asked_last {rest = rest} {s = s} {u = u} x answers w all well flushed closing =
     }
 
 -- the head was refused
-pub head_refused : {settings : Settings} {numbers : ℕ → ℕ} {pending rest : List ℕ} {why : Refusal} {T E : Type 0} {r : Result T E} {s t u : LinkState} {a : ℕ → Option (List ℕ)} {d : Logs}
-    → Takes s t pending rest (taken.Refuses why) → (w : Sends t u (refusal None (rule_of why)) r) → w.back ≡ [] → u.write_faults ≡ t.write_faults → IsClean u → Stops settings numbers pending s u a a d d BadHead
+pub head_refused : {settings : Settings} {writer : Writer} {pending rest : List ℕ} {why : Refusal} {T E : Type 0} {r : Result T E} {s t u : LinkState} {a : ℕ → Option (List ℕ)} {d : Logs}
+    → Takes s t pending rest (taken.Refuses why) → (w : Sends t u (refusal None (rule_of why)) r) → w.back ≡ [] → u.write_faults ≡ t.write_faults → IsClean u → Stops settings writer pending s u a a d d BadHead
 head_refused {rest = rest} {why = why} {s = s} {u = u} x w all well flushed =
     let moves = Moves-trans x.moves w.written.moves in
     record {
@@ -214,8 +214,8 @@ head_refused {rest = rest} {why = why} {s = s} {u = u} x w all well flushed =
     }
 
 -- the refusal of a head was not written whole
-pub refusal_cut : {settings : Settings} {numbers : ℕ → ℕ} {pending rest : List ℕ} {why : Refusal} {T E : Type 0} {r : Result T E} {s t u : LinkState} {a : ℕ → Option (List ℕ)} {d : Logs}
-    → Takes s t pending rest (taken.Refuses why) → Sends t u (refusal None (rule_of why)) r → Rose t.write_faults u.write_faults → Stops settings numbers pending s u a a d d WriteFault
+pub refusal_cut : {settings : Settings} {writer : Writer} {pending rest : List ℕ} {why : Refusal} {T E : Type 0} {r : Result T E} {s t u : LinkState} {a : ℕ → Option (List ℕ)} {d : Logs}
+    → Takes s t pending rest (taken.Refuses why) → Sends t u (refusal None (rule_of why)) r → Rose t.write_faults u.write_faults → Stops settings writer pending s u a a d d WriteFault
 refusal_cut {rest = rest} {why = why} {s = s} {u = u} x w rose =
     let moves = Moves-trans x.moves w.written.moves in
     record {
@@ -241,8 +241,8 @@ ends_of WriteFault rest s t x = absurd x
 ends_of Memory rest s t x = absurd x
 
 -- no request came
-pub taking_ended : {settings : Settings} {numbers : ℕ → ℕ} {pending rest : List ℕ} {s t : LinkState} {a : ℕ → Option (List ℕ)} {d : Logs} (ended : Ended)
-    → Takes s t pending rest (taken.Ends ended) → IsClean s → Stops settings numbers pending s t a a d d ended
+pub taking_ended : {settings : Settings} {writer : Writer} {pending rest : List ℕ} {s t : LinkState} {a : ℕ → Option (List ℕ)} {d : Logs} (ended : Ended)
+    → Takes s t pending rest (taken.Ends ended) → IsClean s → Stops settings writer pending s t a a d d ended
 taking_ended {pending = pending} {s = s} {t = t} ended x clean =
     let e = ends_of ended (pending ++ x.taken) s t x.outcome in
     record {
@@ -260,58 +260,58 @@ taking_ended {pending = pending} {s = s} {t = t} ended x clean =
 keeps_on : {most : ℕ} {d e f : DoorState} → KeepsDoor most d e → KeepsDoor 1 e f → KeepsDoor (most + 1) d f
 keeps_on x k = record {
   settings = k.settings ∙ x.settings;
-  numbers = k.numbers ∙ x.numbers;
+  writer = k.writer ∙ x.writer;
   faults = omega (arith, x.faults, k.faults);
   calls = omega (arith, x.calls, k.calls);
 }
 
 -- the connection so far
-pub record SoFar (settings : Settings) (numbers : ℕ → ℕ) (count : ℕ) (pending : List ℕ) (s t : LinkState) (a b : ℕ → Option (List ℕ)) (d e : DoorState) : Type 0 where
+pub record SoFar (settings : Settings) (writer : Writer) (count : ℕ) (pending : List ℕ) (s t : LinkState) (a b : ℕ → Option (List ℕ)) (d e : DoorState) : Type 0 where
   pub xs : List Exchange
-  pub serves : Serves settings numbers xs [] pending (replies xs) s t a b d.seen e.seen
+  pub serves : Serves settings writer xs [] pending (replies xs) s t a b d.seen e.seen
   pub counted : length xs ≡ count
   pub open_still : NoneCloses xs
   pub no_fault : NoFault s t
   pub clean : IsClean t
   pub settings_is : e.settings ≡ settings
-  pub numbers_are : e.numbers ≡ numbers
+  pub writer_is : e.writer ≡ writer
   pub keeps : KeepsDoor count d e
 
-pub begun : (settings : Settings) (s : LinkState) (a : ℕ → Option (List ℕ)) (d : DoorState) → IsClean s → d.settings ≡ settings → SoFar settings d.numbers 0 [] s s a a d d
+pub begun : (settings : Settings) (s : LinkState) (a : ℕ → Option (List ℕ)) (d : DoorState) → IsClean s → d.settings ≡ settings → SoFar settings d.writer 0 [] s s a a d d
 begun settings s a d clean same = record {
   xs = [];
-  serves = nothing_served settings d.numbers s a d.seen;
+  serves = nothing_served settings d.writer s a d.seen;
   counted = refl;
   open_still = tt;
   no_fault = NoFault-refl s;
   clean = clean;
   settings_is = same;
-  numbers_are = refl;
-  keeps = record { settings = refl; numbers = refl; faults = omega arith; calls = omega arith };
+  writer_is = refl;
+  keeps = record { settings = refl; writer = refl; faults = omega arith; calls = omega arith };
 }
 
-pub one_on : {settings : Settings} {numbers : ℕ → ℕ} {count : ℕ} {pending more : List ℕ} {s t u : LinkState} {a b c : ℕ → Option (List ℕ)} {d e f : DoorState}
-    → SoFar settings numbers count pending s t a b d e → GoesOn settings e.numbers pending more t u b c e.seen f.seen → KeepsDoor 1 e f
-    → SoFar settings numbers (count + 1) more s u a c d f
-one_on {settings = settings} {numbers = numbers} {pending = pending} {more = more} {s = s} {t = t} {u = u} {a = a} {b = b} {c = c} {d = d} {e = e} {f = f} x y k =
-    let step = subst (λ n. Serves settings n (y.x ∷ []) pending more (reply_of y.x) t u b c e.seen f.seen) x.numbers_are y.serves in
+pub one_on : {settings : Settings} {writer : Writer} {count : ℕ} {pending more : List ℕ} {s t u : LinkState} {a b c : ℕ → Option (List ℕ)} {d e f : DoorState}
+    → SoFar settings writer count pending s t a b d e → GoesOn settings e.writer pending more t u b c e.seen f.seen → KeepsDoor 1 e f
+    → SoFar settings writer (count + 1) more s u a c d f
+one_on {settings = settings} {writer = writer} {pending = pending} {more = more} {s = s} {t = t} {u = u} {a = a} {b = b} {c = c} {d = d} {e = e} {f = f} x y k =
+    let step = subst (λ n. Serves settings n (y.x ∷ []) pending more (reply_of y.x) t u b c e.seen f.seen) x.writer_is y.serves in
     record {
       xs = x.xs ++ y.x ∷ [];
-      serves = subst (λ l. Serves settings numbers (x.xs ++ y.x ∷ []) [] more l s u a c d.seen f.seen)
+      serves = subst (λ l. Serves settings writer (x.xs ++ y.x ∷ []) [] more l s u a c d.seen f.seen)
           (replies_after x.xs (y.x ∷ []) (reply_of y.x) (sym (append-nil (reply_of y.x)))) (Serves-trans x.serves step);
       no_fault = NoFault-trans x.no_fault y.no_fault;
       clean = y.clean;
       counted = omega (arith, length-append x.xs (y.x ∷ []), x.counted);
       open_still = none_close x.xs (y.x ∷ []) x.open_still (y.open_still, tt);
       settings_is = k.settings ∙ x.settings_is;
-      numbers_are = k.numbers ∙ x.numbers_are;
+      writer_is = k.writer ∙ x.writer_is;
       keeps = keeps_on x.keeps k;
     }
 
-pub ended_so : {settings : Settings} {numbers : ℕ → ℕ} {count : ℕ} {pending : List ℕ} {s t u : LinkState} {a b c : ℕ → Option (List ℕ)} {d e : DoorState} {new : Logs} {ended : Ended}
-    → SoFar settings numbers count pending s t a b d e → count < 65536 → Stops settings e.numbers pending t u b c e.seen new ended → IsAnswered settings numbers s u a c d.seen new ended
+pub ended_so : {settings : Settings} {writer : Writer} {count : ℕ} {pending : List ℕ} {s t u : LinkState} {a b c : ℕ → Option (List ℕ)} {d e : DoorState} {new : Logs} {ended : Ended}
+    → SoFar settings writer count pending s t a b d e → count < 65536 → Stops settings e.writer pending t u b c e.seen new ended → IsAnswered settings writer s u a c d.seen new ended
 ended_so {settings = settings} {pending = pending} {s = s} {t = t} {u = u} {b = b} {c = c} {e = e} {new = new} {ended = ended} x early y =
-    let step = subst (λ n. Serves settings n y.xs pending y.rest y.sent t u b c e.seen new) x.numbers_are y.serves in
+    let step = subst (λ n. Serves settings n y.xs pending y.rest y.sent t u b c e.seen new) x.writer_is y.serves in
     record {
       xs = x.xs ++ y.xs;
       rest = y.rest;
@@ -322,9 +322,9 @@ ended_so {settings = settings} {pending = pending} {s = s} {t = t} {u = u} {b = 
       faults = record { reads = λ n. y.faults.reads n ∙ x.no_fault.reads; writes = λ n. y.faults.writes n ∙ x.no_fault.writes; clean = y.faults.clean };
     }
 
-pub retired : {settings : Settings} {numbers : ℕ → ℕ} {pending : List ℕ} {s t : LinkState} {a b : ℕ → Option (List ℕ)} {d e : DoorState}
-    → SoFar settings numbers 65536 pending s t a b d e → IsAnswered settings numbers s t a b d.seen e.seen Retired
+pub retired : {settings : Settings} {writer : Writer} {pending : List ℕ} {s t : LinkState} {a b : ℕ → Option (List ℕ)} {d e : DoorState}
+    → SoFar settings writer 65536 pending s t a b d e → IsAnswered settings writer s t a b d.seen e.seen Retired
 retired {pending = pending} x = record { xs = x.xs; rest = pending; sent = replies x.xs; serves = x.serves; ends = (x.counted, refl, x.open_still); few = omega (arith, x.counted); faults = no_faults x.no_fault.reads x.no_fault.writes x.clean }
 
-pub no_memory : {settings : Settings} {numbers : ℕ → ℕ} {s : LinkState} {a : ℕ → Option (List ℕ)} {old : Logs} → IsClean s → IsAnswered settings numbers s s a a old old Memory
-no_memory {settings = settings} {numbers = numbers} {s = s} {a = a} {old = old} clean = record { xs = []; rest = []; sent = []; serves = nothing_served settings numbers s a old; ends = (refl, refl, refl); few = omega arith; faults = no_faults refl refl clean }
+pub no_memory : {settings : Settings} {writer : Writer} {s : LinkState} {a : ℕ → Option (List ℕ)} {old : Logs} → IsClean s → IsAnswered settings writer s s a a old old Memory
+no_memory {settings = settings} {writer = writer} {s = s} {a = a} {old = old} clean = record { xs = []; rest = []; sent = []; serves = nothing_served settings writer s a old; ends = (refl, refl, refl); few = omega arith; faults = no_faults refl refl clean }

@@ -12,7 +12,7 @@ use Rattle.request_head.specs.Says.{HeadRefusal, bad, length_required, too_large
 use Rattle.swarm_model.specs.declared.pool_settings.Settings.{Settings}
 use Rattle.swarm_model.specs.declared.rule.Rule.{Rule}
 use Rattle.swarm_model.specs.declared.rule.Rule.TheVariants as rule
-use Rattle.swarm_history.specs.Doors.{Logs, DoorState}
+use Rattle.swarm_history.specs.Doors.{Logs, DoorState, Writer}
 use Rattle.swarm_http.specs.declared.ended.Ended.{Ended}
 use Rattle.swarm_http.specs.declared.ended.Ended.TheVariants.{Closed, LastAsked, CutShort, BadHead, Retired, ReadFault, WriteFault, Memory}
 use Rattle.swarm_http.specs.Shown.{refusal}
@@ -24,12 +24,12 @@ replies xs = flat_map reply_of xs
 
 -- from the bytes that were pending on, these requests were read and answered, this rest is pending,
 -- and these bytes were written
-pub record Serves (settings : Settings) (numbers : ℕ → ℕ) (xs : List Exchange) (pending rest sent : List ℕ) (s t : LinkState) (a b : ℕ → Option (List ℕ)) (old new : Logs) : Type 0 where
+pub record Serves (settings : Settings) (writer : Writer) (xs : List Exchange) (pending rest sent : List ℕ) (s t : LinkState) (a b : ℕ → Option (List ℕ)) (old new : Logs) : Type 0 where
   pub taken : List ℕ
   pub moves : Moves s t taken sent
   pub input_is : pending ++ taken ≡ flat_map spelled xs ++ rest
   pub moments : HandsIn a b (flat_map moments_of xs)
-  pub chain : Chain settings numbers old xs new
+  pub chain : Chain settings writer old xs new
 
 -- an input that ends here is cut short: inside a head, or inside the body of one that isn't refused
 pub data IsPart (rest : List ℕ) : Type 0 where
@@ -92,11 +92,11 @@ pub record EndsAtFault (ended : Ended) (s t : LinkState) : Type 0 where
 
 -- The whole connection, with nothing pending at its begin: there are requests and a rest such that
 -- all that was read, asked of the clock and the door, and written is theirs, in order.
-pub record IsAnswered (settings : Settings) (numbers : ℕ → ℕ) (s t : LinkState) (a b : ℕ → Option (List ℕ)) (old new : Logs) (ended : Ended) : Type 0 where
+pub record IsAnswered (settings : Settings) (writer : Writer) (s t : LinkState) (a b : ℕ → Option (List ℕ)) (old new : Logs) (ended : Ended) : Type 0 where
   pub xs : List Exchange
   pub rest : List ℕ
   pub sent : List ℕ
-  pub serves : Serves settings numbers xs [] rest sent s t a b old new
+  pub serves : Serves settings writer xs [] rest sent s t a b old new
   pub ends : EndsAs 65536 ended xs rest sent s t
   pub few : length xs ≤ 65536
   pub faults : EndsAtFault ended s t
@@ -104,6 +104,6 @@ pub record IsAnswered (settings : Settings) (numbers : ℕ → ℕ) (s t : LinkS
 -- what a connection keeps of its door, on which it made so many calls at most
 pub record KeepsDoor (most : ℕ) (old new : DoorState) : Type 0 where
   pub settings : new.settings ≡ old.settings
-  pub numbers : new.numbers ≡ old.numbers
+  pub writer : new.writer ≡ old.writer
   pub faults : old.faults ≤ new.faults
   pub calls : new.calls ≤ old.calls + most

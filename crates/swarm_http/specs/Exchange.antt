@@ -5,7 +5,7 @@ use Rattle.link_reader.specs.Heads.{IsHeadEnd}
 use Rattle.request_head.specs.Heads.{IsHead}
 use Rattle.request_head.specs.Says.{head_refusal, size_of, closes_of}
 use Rattle.swarm_model.specs.declared.pool_settings.Settings.{Settings}
-use Rattle.swarm_history.specs.Doors.{Logs}
+use Rattle.swarm_history.specs.Doors.{Logs, Writer}
 use Rattle.swarm_http.specs.Outcomes.{Outcome, Acts, shows, uses}
 
 -- a request as it stood on the link, what its head is, and its outcome
@@ -39,12 +39,12 @@ pub record HeadSays (text : List ℕ) (head : RequestHead) : Type 0 where
   pub accepted : head_refusal head ≡ None
 
 -- the body has the size that the head tells, and the logs went from `old` to `new`
-pub record IsExchange (settings : Settings) (numbers : ℕ → ℕ) (x : Exchange) (old new : Logs) : Type 0 where
+pub record IsExchange (settings : Settings) (writer : Writer) (x : Exchange) (old new : Logs) : Type 0 where
   pub says : HeadSays x.text x.head
   pub size : size_of x.head ≡ length x.body
-  pub acts : Acts settings numbers x.head x.body x.outcome old new
+  pub acts : Acts settings writer x.head x.body x.outcome old new
 
 -- one exchange after another
-abbrev pub Chain : Settings → (ℕ → ℕ) → Logs → List Exchange → Logs → Type 0
-Chain settings numbers old [] new = new ≡ old
-Chain settings numbers old (x ∷ xs) new = (mid : Logs) × IsExchange settings numbers x old mid × Chain settings numbers mid xs new
+abbrev pub Chain : Settings → Writer → Logs → List Exchange → Logs → Type 0
+Chain settings writer old [] new = new ≡ old
+Chain settings writer old (x ∷ xs) new = (mid : Logs) × IsExchange settings writer x old mid × Chain settings writer mid xs new

@@ -8,7 +8,7 @@ use Rattle.swarm_model.specs.declared.rule.Rule.TheVariants as rule
 use Rattle.swarm_history.specs.declared.door.Answered.{Answered}
 use Rattle.swarm_history.specs.declared.door.CallFault.{CallFault}
 use Rattle.swarm_history.specs.declared.door.CallFault.TheVariants as stop
-use Rattle.swarm_history.specs.Doors.{Logs, Elsewhere, IsPoolCall}
+use Rattle.swarm_history.specs.Doors.{Logs, Elsewhere, IsPoolCall, Writer}
 use Rattle.swarm_http.specs.Meanings.{Meant, meaning, front_of}
 use Rattle.swarm_http.specs.Shown.{shown, refusal}
 
@@ -43,16 +43,16 @@ uses unheld = []
 uses (unshown meant moment answered) = moment ∷ []
 
 -- the request means this, its pool was called for it, and every other pool's log stays
-pub record IsCalled (settings : Settings) (numbers : ℕ → ℕ) (head : RequestHead) (body : List ℕ) (meant : Meant) (moment : ℕ) (result : Result Answered CallFault) (old new : Logs) : Type 0 where
+pub record IsCalled (settings : Settings) (writer : Writer) (head : RequestHead) (body : List ℕ) (meant : Meant) (moment : ℕ) (result : Result Answered CallFault) (old new : Logs) : Type 0 where
   pub means : meaning settings head body ≡ Ok meant
   pub call : IsSomeAnd (slice_get settings.pools meant.asked.place)
-      (λ pool. IsPoolCall pool (numbers meant.asked.place) (old meant.asked.place) (new meant.asked.place) meant.who moment (front_of (after_of head)) meant.asked.request result)
+      (λ pool. IsPoolCall pool writer meant.asked.place (old meant.asked.place) (new meant.asked.place) meant.who moment (front_of (after_of head)) meant.asked.request result)
   pub elsewhere : Elsewhere meant.asked.place old new
 
 -- what a request with this head and body did to the logs
-abbrev pub Acts : Settings → (ℕ → ℕ) → RequestHead → List ℕ → Outcome → Logs → Logs → Type 0
-Acts settings numbers head body (early why) old new = (meaning settings head body ≡ Err why) × (new ≡ old)
-Acts settings numbers head body (point meant moment answered) old new = IsCalled settings numbers head body meant moment (Ok answered) old new
-Acts settings numbers head body (stopped meant moment why) old new = IsCalled settings numbers head body meant moment (Err why) old new
-Acts settings numbers head body unheld old new = new ≡ old
-Acts settings numbers head body (unshown meant moment answered) old new = IsCalled settings numbers head body meant moment (Ok answered) old new
+abbrev pub Acts : Settings → Writer → RequestHead → List ℕ → Outcome → Logs → Logs → Type 0
+Acts settings writer head body (early why) old new = (meaning settings head body ≡ Err why) × (new ≡ old)
+Acts settings writer head body (point meant moment answered) old new = IsCalled settings writer head body meant moment (Ok answered) old new
+Acts settings writer head body (stopped meant moment why) old new = IsCalled settings writer head body meant moment (Err why) old new
+Acts settings writer head body unheld old new = new ≡ old
+Acts settings writer head body (unshown meant moment answered) old new = IsCalled settings writer head body meant moment (Ok answered) old new

@@ -7,7 +7,8 @@ use Rattle.swarm_model.specs.declared.rule.Rule.TheVariants as rule
 use Rattle.swarm_model.specs.Deadlines.{due_entry}
 use Rattle.swarm_model.specs.Effects.{opening}
 use Rattle.swarm_model.specs.History.{moment_of}
-use Rattle.swarm_model.specs.Points.{IsPoint, is_ahead}
+use Rattle.swarm_model.specs.Points.{is_ahead}
+use Rattle.swarm_history.specs.Settling.{IsOwnPoint}
 use Rattle.swarm_history.specs.Doors.{is_log_full}
 use Rattle.swarm_history.proofs.OwnPoints.{sound_history, early_point, due_next, own_next, settled_point, settled_stop}
 use Rattle.swarm_history.proofs.serving.serve.Goals as goal
@@ -29,7 +30,7 @@ pub returns-then-is_ahead-clause-point : goal.returns-then-is_ahead-clause-point
 returns-then-is_ahead-clause-point g c =
     let k = g.M.Machine.kept c.args.machine.now in
     let ahead = ahead_is (length k.log) c.length-length.result c.args.after c.is_ahead.result true c.length-length.ensures.length c.is_ahead.ensures c.if-is_ahead.true in
-    subst (λ (n : ℕ). IsPoint (opening k.pool.settings) c.args.pass k.log k.log c.args.who.now c.args.moment c.args.after c.args.request.now (reply.No (rule.FrontAhead n)))
+    subst (λ (n : ℕ). IsOwnPoint (opening k.pool.settings) c.args.pass k.log k.log c.args.who.now c.args.moment c.args.after c.args.request.now (reply.No (rule.FrontAhead n)))
     (sym c.length-length.ensures.length)
     (early_point (opening k.pool.settings) c.args.pass k.log c.args.who.now c.args.moment c.args.after c.args.request.now c.length-length.ensures.history.legal ahead)
 

@@ -11,7 +11,7 @@ returns-in-Ok-whole_reply-clause-answers g c = λ head body same means.
     let s = g.D.Door.state c.args.door.now in
     record {
       outcome = point (record { who = c.args.who.now; asked = c.args.asked.now }) c.now-moment.result c.in-Ok.answered;
-      acts = is_called s.settings s.numbers head body c.args.who.now c.args.asked.now c.now-moment.result c.args.after c.front_of.result (Ok c.in-Ok.answered) s.seen (g.D.Door.state c.call.new.self).seen
+      acts = is_called s.settings s.writer head body c.args.who.now c.args.asked.now c.now-moment.result c.args.after c.front_of.result (Ok c.in-Ok.answered) s.seen (g.D.Door.state c.call.new.self).seen
           same c.front_of.ensures means d.done d.elsewhere;
       moments = c.now-moment.ensures;
       shown = c.in-Ok-whole_reply.ensures;
@@ -23,7 +23,7 @@ returns-in-Ok-clause-answers g c = λ head body same means.
     let s = g.D.Door.state c.args.door.now in
     record {
       outcome = unshown (record { who = c.args.who.now; asked = c.args.asked.now }) c.now-moment.result c.in-Ok.answered;
-      acts = is_called s.settings s.numbers head body c.args.who.now c.args.asked.now c.now-moment.result c.args.after c.front_of.result (Ok c.in-Ok.answered) s.seen (g.D.Door.state c.call.new.self).seen
+      acts = is_called s.settings s.writer head body c.args.who.now c.args.asked.now c.now-moment.result c.args.after c.front_of.result (Ok c.in-Ok.answered) s.seen (g.D.Door.state c.call.new.self).seen
           same c.front_of.ensures means d.done d.elsewhere;
       moments = c.now-moment.ensures;
       shown = refl;
@@ -35,7 +35,7 @@ returns-clause-answers g c = λ head body same means.
     let s = g.D.Door.state c.args.door.now in
     record {
       outcome = stopped (record { who = c.args.who.now; asked = c.args.asked.now }) c.now-moment.result c.in-Err.why;
-      acts = is_called s.settings s.numbers head body c.args.who.now c.args.asked.now c.now-moment.result c.args.after c.front_of.result (Err c.in-Err.why) s.seen (g.D.Door.state c.call.new.self).seen
+      acts = is_called s.settings s.writer head body c.args.who.now c.args.asked.now c.now-moment.result c.args.after c.front_of.result (Err c.in-Err.why) s.seen (g.D.Door.state c.call.new.self).seen
           same c.front_of.ensures means d.done d.elsewhere;
       moments = c.now-moment.ensures;
       shown = ap (refusal None) c.stop_refusal.ensures;

@@ -7,7 +7,7 @@ requests-init g c =
     let s = g.L.Link.state c.args.link.now in
     let a = g.C.Clock.ahead c.args.clock.now in
     let d = g.D.Door.state c.args.door.now in
-    subst (λ p. SoFar c.args.settings.now d.numbers 0 p s s a a d d) (sym c.in-Ok.ensures) (begun c.args.settings.now s a d c.requires.clean c.requires.settings)
+    subst (λ p. SoFar c.args.settings.now d.writer 0 p s s a a d d) (sym c.in-Ok.ensures) (begun c.args.settings.now s a d c.requires.clean c.requires.settings)
 
 pub requests-preserved : goal.requests-preserved
 requests-preserved g c = one_on c.requests.invariant c.in-Next.ensures.step c.serve_one.ensures.door

@@ -1,0 +1,44 @@
+use Rattle.std.proofs.Common.{ℕ, List, Option, arith, refl, true, ap, ◌∷◌, [], Ok, Err}
+use Rattle.swarm_model.specs.declared.pool_settings.Settings.{Settings}
+use Rattle.swarm_model.specs.declared.pool_settings.PoolSettings.{PoolSettings}
+use Rattle.swarm_history.proofs.OwnPoints.{answered_call, stopped_call}
+use Rattle.swarm_history.specs.Doors.{Writer}
+use Rattle.swarm_history.proofs.OneDoor.{called, elsewhere}
+use Rattle.swarm_history.proofs.plain_door.PlainDoorDoor.call.Goals as goal
+
+abbrev one_pool : Option (List ℕ) → PoolSettings → Settings
+one_pool store pool = record { store = store; pools = pool ∷ [] }
+
+-- it writes alone
+abbrev own : Writer
+own = record { numbers = λ p. 0; alone = true }
+
+pub returns-in-Err : goal.returns-in-Err
+returns-in-Err g c =
+    let k = g.M.Machine.kept c.args.self.now.machine in
+    let n = g.M.Machine.kept c.serve.new.machine in
+    let x = c.in-Err.ensures in
+    record {
+      done = called k.pool.settings own k.log n.log c.args.who.now c.args.moment c.args.after c.args.request.now (Err c.in-Err.fault) c.args.place (omega (arith, c.requires.place))
+          (stopped_call {pool = k.pool.settings} {writer = own} {place = 0} x.stopped);
+      elsewhere = elsewhere c.args.place k.log n.log (omega (arith, c.requires.place));
+      settings = ap (one_pool c.args.self.now.store) x.settings;
+      writer = refl;
+      faults = omega arith;
+      calls = omega arith;
+    }
+
+pub returns : goal.returns
+returns g c =
+    let k = g.M.Machine.kept c.args.self.now.machine in
+    let n = g.M.Machine.kept c.serve.new.machine in
+    let x = c.in-Ok.ensures in
+    record {
+      done = called k.pool.settings own k.log n.log c.args.who.now c.args.moment c.args.after c.args.request.now (Ok (record { front = c.length.result; reply = c.in-Ok.reply; pieces = c.new.result })) c.args.place (omega (arith, c.requires.place))
+          (answered_call {pool = k.pool.settings} {writer = own} {place = 0} x.point c.length.ensures.length c.new.ensures);
+      elsewhere = elsewhere c.args.place k.log n.log (omega (arith, c.requires.place));
+      settings = ap (one_pool c.args.self.now.store) x.settings;
+      writer = refl;
+      faults = omega arith;
+      calls = omega arith;
+    }
