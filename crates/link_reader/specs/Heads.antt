@@ -24,9 +24,13 @@ pub record Fills {E : Type 0} (before after : LinkState) (old new : List ℕ) (r
   pub faults : CountsFault result before.read_faults after.read_faults
   pub outcome : MatchResult result (λ n. (length new ≡ length old + n) × (n ≡ 0 → IsAtEnd after.left)) (λ _. new ≡ old)
 
+-- what ends a head begins nowhere before this place
+abbrev pub HasNoEndBefore : List ℕ → ℕ → Type 0
+HasNoEndBefore bytes n = Nowhere (OccursAt bytes blank_line) 0 n
+
 -- no head ends in these bytes
 abbrev pub HasNoEnd : List ℕ → Type 0
-HasNoEnd bytes = Nowhere (OccursAt bytes blank_line) 0 (length bytes + 1)
+HasNoEnd bytes = HasNoEndBefore bytes (length bytes + 1)
 
 -- the first n bytes are those through the first CR LF CR LF
 pub record IsHeadEnd (bytes : List ℕ) (n : ℕ) : Type 0 where

@@ -21,12 +21,13 @@ pub fn read_head<L: Link>(pending: &mut Pending, link: &mut L) -> Result<HeadEnd
     requires { IsClean (L.state link.old) }
     ensures { ReadsHead (L.state link.old) (L.state link.new) pending.old pending.new result }
 {
+    let mut searched = 0;
     'reads: loop {
-        let is_full = pending.len() == HEAD_LIMIT;
-        if let Some(n) = pending.head_length() {
+        let length = pending.len();
+        if let Some(n) = pending.head_length(searched) {
             return Ok(HeadEnd::At(n));
         }
-        if is_full {
+        if length == HEAD_LIMIT {
             return Ok(HeadEnd::TooLong);
         }
         match pending.fill(link) {
@@ -34,5 +35,7 @@ pub fn read_head<L: Link>(pending: &mut Pending, link: &mut L) -> Result<HeadEnd
             Ok(_) => {}
             Err(failed) => return Err(failed),
         }
+        // The last three bytes may be the front of what ends a head.
+        searched = length.saturating_sub(3);
     }
 }

@@ -16,24 +16,25 @@ const BLANK_LINE: &[u8] = b"\r\n\r\n";
 #[derive(Drop)]
 pub struct Pending {
     bytes: Vec<u8>,
-    filled: usize,
+    start: usize,
+    end: usize,
 }
 
 impl Model for Pending {
-    ghost use Rattle.std.specs.Prelude.{◌≡◌, ◌≤◌, ℕ, List, length, take};
+    ghost use Rattle.std.specs.Prelude.{◌≡◌, ◌≤◌, ℕ, List, length, take, drop};
     ghost use Rattle.link_reader.specs.declared.pending.TheConstants.{HEAD_LIMIT};
 
     ghost Value = { List ℕ };
 
-    ghost view = { λ p. take p.filled p.bytes.items };
+    ghost view = { λ p. drop p.start (take p.end p.bytes.items) };
 
-    ghost invariant = { λ p. (length p.bytes.items ≡ HEAD_LIMIT) × (p.filled ≤ HEAD_LIMIT) };
+    ghost invariant = { λ p. (length p.bytes.items ≡ HEAD_LIMIT) × (p.start ≤ p.end) × (p.end ≤ HEAD_LIMIT) };
 }
 
 impl Pending {
     ghost use Rattle.std.specs.Prelude.{◌≡◌, ◌≤◌, ◌<◌, ◌↔◌, [], length, take, drop, IsTrue, IfOk, MatchOption};
     ghost use Rattle.link_reader.specs.declared.pending.TheConstants.{HEAD_LIMIT};
-    ghost use Rattle.link_reader.specs.Heads.{Fills, HasNoEnd, IsHeadEnd};
+    ghost use Rattle.link_reader.specs.Heads.{Fills, HasNoEnd, HasNoEndBefore, IsHeadEnd};
 
     /// Takes all its memory at once.
     pub fn new(alloc: Global) -> Result<Pending, AllocError>
@@ -41,7 +42,8 @@ impl Pending {
     {
         Ok(Pending {
             bytes: vec![in alloc; 0; HEAD_LIMIT]?,
-            filled: 0,
+            start: 0,
+            end: 0,
         })
     }
 
@@ -49,19 +51,19 @@ impl Pending {
         ensures length { result ≡ length self.now }
         ensures bound { length self.now ≤ HEAD_LIMIT }
     {
-        self.filled
+        self.end - self.start
     }
 
     pub fn is_empty(&self) -> bool
         ensures { IsTrue result ↔ (self.now ≡ []) }
     {
-        self.filled == 0
+        self.len() == 0
     }
 
     pub fn as_slice(&self) -> &[u8]
         ensures { result.now ≡ self.now }
     {
-        &self.bytes[..self.filled]
+        &self.bytes[self.start..self.end]
     }
 
     /// The first n bytes.
@@ -69,15 +71,18 @@ impl Pending {
         requires { n ≤ length self.now }
         ensures { result.now ≡ take n self.now }
     {
-        &self.bytes[..n]
+        &self.bytes[self.start..self.start + n]
     }
 
-    /// The length of the head at the front, where it ends in these bytes.
-    pub fn head_length(&self) -> Option<usize>
+    /// The length of the head at the front, where it ends in these bytes. Its last four bytes are
+    /// searched for from place `from` on: those before it were searched already.
+    pub fn head_length(&self, from: usize) -> Option<usize>
+        requires within { from ≤ length self.now }
+        requires searched { HasNoEndBefore self.now from }
         ensures { MatchOption result (HasNoEnd self.now) (λ n. IsHeadEnd self.now n) }
     {
-        match memmem::find(self.as_slice(), BLANK_LINE) {
-            Some(at) => Some(at + 4),
+        match memmem::find(&self.as_slice()[from..], BLANK_LINE) {
+            Some(at) => Some(from + at + 4),
             None => None,
         }
     }
@@ -88,8 +93,11 @@ impl Pending {
         requires clean { IsClean (L.state link.old) }
         ensures { Fills (L.state link.old) (L.state link.new) self.old self.new result }
     {
-        let n = read_at(&mut self.bytes, self.filled, link)?;
-        self.filled += n;
+        shift_front(&mut self.bytes, self.start, self.end);
+        self.end -= self.start;
+        self.start = 0;
+        let n = read_at(&mut self.bytes, self.end, link)?;
+        self.end += n;
         Ok(n)
     }
 
@@ -98,8 +106,7 @@ impl Pending {
         requires { n ≤ length self.old }
         ensures { self.new ≡ drop n self.old }
     {
-        shift_front(&mut self.bytes, n, self.filled);
-        self.filled -= n;
+        self.start += n;
     }
 }
 
@@ -113,11 +120,13 @@ fn read_at<L: Link>(bytes: &mut [u8], at: usize, link: &mut L) -> Result<usize, 
     link.read(&mut bytes[at..])
 }
 
-// Moves the bytes from n to `end` to the front.
+// Moves the bytes from n to `end` to the front, so that all room is behind them.
 fn shift_front(bytes: &mut [u8], n: usize, end: usize)
     requires order { n ≤ end }
     requires within { end ≤ length bytes.old }
     ensures { take (end - n) bytes.new ≡ drop n (take end bytes.old) }
 {
-    bytes.copy_within(n..end, 0);
+    if n > 0 {
+        bytes.copy_within(n..end, 0);
+    }
 }

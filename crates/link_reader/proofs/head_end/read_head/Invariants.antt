@@ -4,7 +4,7 @@ use Rattle.link_reader.proofs.HeadLemmas.{SoFar}
 use Rattle.link_reader.proofs.head_end.read_head.Given as goal
 
 abbrev pub invariant-reads : goal.invariant-reads
-invariant-reads g l = SoFar (g.L.Link.state l.fn.link) (g.L.Link.state l.link) l.fn.pending l.pending
+invariant-reads g l = SoFar (g.L.Link.state l.fn.link) (g.L.Link.state l.link) l.fn.pending l.pending l.searched
 
 abbrev pub decreases-reads : goal.decreases-reads
 decreases-reads g l = HEAD_LIMIT - length l.pending
