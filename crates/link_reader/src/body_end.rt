@@ -1,10 +1,10 @@
-ghost use Rattle.std.specs.Prelude.{◌≤◌, ◌<◌, length};
+ghost use Rattle.std.specs.Prelude.{◌≤◌, length};
 ghost use Rattle.sw_base.specs.Link.{IsClean};
 ghost use Rattle.link_reader.specs.Bodies.{ReadsBody};
-ghost use Rattle.link_reader.specs.Pieces.{TakesPiece, IsFinish};
+ghost use Rattle.link_reader.specs.Pieces.{IsFinish};
 
 use crate::Pending;
-use crate::kept::Kept;
+use crate::body_buffer::BodyBuffer;
 use std::alloc::Global;
 use sw_base::{Failed, Link};
 
@@ -18,29 +18,13 @@ pub enum BodyEnd {
     Ended,
 }
 
-// The most bytes that one read of a body takes.
-const PIECE_LIMIT: usize = 4096;
-
-fn finish(kept: Kept) -> BodyEnd
-    ensures { IsFinish kept result }
+fn finish(body: BodyBuffer) -> BodyEnd
+    ensures { IsFinish body result }
 {
-    match kept.into_bytes() {
+    match body.into_bytes() {
         Some(bytes) => BodyEnd::Whole(bytes),
         None => BodyEnd::Dropped,
     }
-}
-
-// Reads once, and keeps what came: `most` bytes at most.
-fn take_piece<L: Link>(kept: &mut Kept, link: &mut L, most: usize) -> Result<usize, Failed>
-    requires some { 0 < most }
-    requires clean { IsClean (L.state link.old) }
-    ensures { TakesPiece (L.state link.old) (L.state link.new) kept.old kept.new most result }
-{
-    let mut piece = [0u8; PIECE_LIMIT];
-    let room = most.min(PIECE_LIMIT);
-    let n = link.read(&mut piece[..room])?;
-    kept.push(&piece[..n]);
-    Ok(n)
 }
 
 /// Reads the `size` bytes of a body that stand behind a head of `head` bytes, and takes both from
@@ -57,14 +41,14 @@ pub fn read_body<L: Link>(
     ensures { ReadsBody (L.state link.old) (L.state link.new) pending.old pending.new head size result }
 {
     let mut got = size.min(pending.len() - head);
-    let mut kept = Kept::of(alloc, &pending.as_slice()[head..head + got]);
+    let mut body = BodyBuffer::new(alloc, size, &pending.as_slice()[head..head + got]);
     pending.remove_front(head + got);
     'pieces: while got < size {
-        match take_piece(&mut kept, link, size - got) {
+        match body.read(link, size - got) {
             Ok(0) => return Ok(BodyEnd::Ended),
             Ok(n) => got += n,
             Err(failed) => return Err(failed),
         }
     }
-    Ok(finish(kept))
+    Ok(finish(body))
 }

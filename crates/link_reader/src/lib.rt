@@ -10,9 +10,9 @@
 //! and a failure is told only where the link's count of failed reads rose.
 #![tactic(auto)]
 
+mod body_buffer;
 mod body_end;
 mod head_end;
-mod kept;
 mod pending;
 
 pub use body_end::{BodyEnd, read_body};

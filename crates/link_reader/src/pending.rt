@@ -111,7 +111,7 @@ impl Pending {
 }
 
 // Reads once into what stands behind the first `at` bytes.
-fn read_at<L: Link>(bytes: &mut [u8], at: usize, link: &mut L) -> Result<usize, Failed>
+pub(crate) fn read_at<L: Link>(bytes: &mut [u8], at: usize, link: &mut L) -> Result<usize, Failed>
     requires room { at < length bytes.old }
     requires clean { IsClean (L.state link.old) }
     ensures kept { take at bytes.new ≡ take at bytes.old }
