@@ -43,37 +43,6 @@ write_failed {s = s} {u = u} x m input rose =
       outcome = tt;
     }
 
--- one text after another
-pub after_sent : {T U E F : Type 0} {s t u : LinkState} {a b : List ℕ} {r : Result T E} {q : Result U F}
-    → (p : Sends s t a r) → p.back ≡ [] → t.write_faults ≡ s.write_faults → Sends t u b q → Sends s u (a ++ b) q
-after_sent {u = u} {b = b} {q = q} p all well r = record {
-  back = r.back;
-  written = record {
-    sent = p.written.sent ++ r.written.sent;
-    moves = Moves-trans p.written.moves r.written.moves;
-    input = SameInput-trans p.written.input r.written.input;
-    whole = ap (λ l. l ++ b) (p.written.whole ∙ ap (λ l. p.written.sent ++ l) all ∙ append-nil p.written.sent)
-        ∙ ap (λ l. p.written.sent ++ l) r.written.whole ∙ sym (append_assoc p.written.sent r.written.sent r.back);
-  };
-  faults = subst (λ n. CountsFault q n u.write_faults) well r.faults;
-  outcome = r.outcome;
-}
-
--- a text that failed, with more to come
-pub failed_before : {T U E F : Type 0} {s t : LinkState} {a : List ℕ} {r : Result T E} {e : F} (b : List ℕ)
-    → Sends s t a r → Rose s.write_faults t.write_faults → Sends {T = U} s t (a ++ b) (Err e)
-failed_before b p rose = record {
-  back = p.back ++ b;
-  written = record {
-    sent = p.written.sent;
-    moves = p.written.moves;
-    input = p.written.input;
-    whole = ap (λ l. l ++ b) p.written.whole ∙ append_assoc p.written.sent p.back b;
-  };
-  faults = rose;
-  outcome = tt;
-}
-
 on_ok : {T E P : Type 0} (r : Result T E) → P → OnOk r P
 on_ok (Ok v) p = p
 on_ok (Err e) p = tt

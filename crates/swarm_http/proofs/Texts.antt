@@ -1,15 +1,14 @@
 -- The replies that take no memory, written out.
-use Rattle.std.proofs.Common.{Option, ◌≡◌, ℕ, List, [], ◌++◌, length, refl, None, Some, append_assoc}
+use Rattle.std.proofs.Common.{◌≡◌, ℕ, List, [], ◌++◌, refl, None, Some, append_assoc}
 use Rattle.std.specs.Prelude.{codes, decimal}
 use Rattle.std.specs.Fmt.{digits}
 use Rattle.json.specs.Print.{escape_byte}
 use Rattle.swarm_model.specs.declared.rule.Rule.TheVariants as rule
 use Rattle.swarm_model.specs.declared.rule.Unbuilt.TheVariants as unbuilt
 use Rattle.reply_bodies.specs.Bodies.{body_of}
-use Rattle.swarm_model.specs.declared.reply.Reply.{Reply}
 use Rattle.swarm_model.specs.declared.reply.Reply.TheVariants as reply
 use Rattle.swarm_http.specs.Meanings.{broken_front}
-use Rattle.swarm_http.specs.Shown.{status_of, phrase_of, head_with, reply_text, shown, refusal}
+use Rattle.swarm_http.specs.Shown.{head_with, reply_text, shown, refusal}
 
 pub bad_head : refusal None rule.BadHead ≡ codes "HTTP/1.1 400 Bad Request\r\nContent-Length: 19\r\nContent-Type: application/json\r\n\r\n{\"code\":\"bad_head\"}"
 unfolding refusal shown reply_text head_with body_of digits escape_byte
@@ -83,14 +82,13 @@ size_25 : decimal 25 ≡ codes "25"
 unfolding digits
 size_25 = refl
 
-pub want_of_memory_at : (n : ℕ) → refusal (Some n) rule.WantOfMemory
+want_of_memory_at : (n : ℕ) → refusal (Some n) rule.WantOfMemory
     ≡ codes "HTTP/1.1 503 Service Unavailable\r\nContent-Length: 25\r\nContent-Type: application/json\r\nX-Swarming-Front: " ++ (decimal n ++ codes "\r\n\r\n{\"code\":\"want_of_memory\"}")
 unfolding refusal shown reply_text head_with
 want_of_memory_at n = rw (status_503, want_body, size_25) (simp append_assoc)
 
--- a reply that was put together
-pub reply_is : (place : ℕ) (front : Option ℕ) (reply : Reply) (pieces : List (List ℕ)) (head body : List ℕ)
-    → body ≡ body_of place reply pieces → head ≡ head_with (status_of reply) (phrase_of (status_of reply)) (length body) front
-    → head ++ body ≡ shown place front reply pieces
-unfolding shown reply_text
-reply_is place front reply pieces head body b h = rw (h, b)
+-- the same, put together piece by piece
+pub want_of_memory_is : (n : ℕ) {none first second third digits : List ℕ} → none ≡ [] → first ≡ none ++ codes "HTTP/1.1 503 Service Unavailable\r\nContent-Length: 25\r\nContent-Type: application/json\r\nX-Swarming-Front: "
+    → digits ≡ decimal n → second ≡ first ++ digits → third ≡ second ++ codes "\r\n\r\n{\"code\":\"want_of_memory\"}" → third ≡ refusal (Some n) rule.WantOfMemory
+want_of_memory_is n a b c d e = rw (e, d, c, b, a, want_of_memory_at n)
+    (append_assoc (codes "HTTP/1.1 503 Service Unavailable\r\nContent-Length: 25\r\nContent-Type: application/json\r\nX-Swarming-Front: ") (decimal n) (codes "\r\n\r\n{\"code\":\"want_of_memory\"}"))

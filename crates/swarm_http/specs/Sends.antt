@@ -1,5 +1,5 @@
 -- What is written of a text.
-use Rattle.std.specs.Prelude.{◌≡◌, ℕ, List, [], ◌++◌, Result, OnOk, Some, None, string_bytes}
+use Rattle.std.specs.Prelude.{◌≡◌, ℕ, List, [], ◌++◌, Result, OnOk, Some, None}
 use Rattle.sw_base.specs.Faults.{CountsFault}
 use Rattle.sw_base.specs.Link.{LinkState, Moves, SameInput}
 use Rattle.swarm_model.specs.declared.rule.Rule.{Rule}
@@ -47,5 +47,5 @@ rule_of WantOfMemory = rule.WantOfMemory
 -- the bytes of a reply that is ready to be written
 abbrev pub text_of : Shown → List ℕ
 text_of (shown.Refused why) = refusal None (rule_of why)
-text_of (shown.Whole head body) = string_bytes head ++ body
+text_of (shown.Whole text) = text.items
 text_of (shown.WantOfMemoryAt front) = refusal (Some front) rule.WantOfMemory

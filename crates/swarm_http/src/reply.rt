@@ -1,7 +1,7 @@
 //! The bytes of a reply.
-ghost use Rattle.std.specs.Prelude.{◌≡◌, ◌<◌, None, Some, IfOk, string_bytes};
+ghost use Rattle.std.specs.Prelude.{◌≡◌, ◌<◌, ◌++◌, None, Some, IfOk, OnOk, string_bytes};
 ghost use Rattle.http.specs.StatusCode.{IsStatusCode};
-ghost use Rattle.swarm_http.specs.Shown.{refusal_status as spec_refusal_status, status_of as spec_status_of, phrase_of as spec_phrase_of, head_with, shown, refusal};
+ghost use Rattle.swarm_http.specs.Shown.{refusal_status as spec_refusal_status, status_of as spec_status_of, phrase_of as spec_phrase_of, head_with, reply_text, shown, refusal};
 ghost use Rattle.swarm_http.specs.Sends.{text_of};
 
 use dimensions::{Seq, Text};
@@ -38,8 +38,8 @@ pub enum Refusal {
 #[derive(Drop)]
 pub enum Shown {
     Refused(Refusal),
-    /// Its head and its body.
-    Whole(String, Seq<u8>),
+    /// Its head, and its body behind it.
+    Whole(Vec<u8>),
     /// Its call answered with this front, and there was no memory for the reply.
     WantOfMemoryAt(u64),
 }
@@ -119,46 +119,76 @@ fn phrase_of(status: u16) -> &'static str
     }
 }
 
+// Room for the head of any reply. A longer one would only have the buffer grow.
+const HEAD_ROOM: usize = 256;
+
 #[tactic(auto, unfolding(crate::specs::Shown::head_with))]
-fn head_with_front(
-    alloc: Global,
+fn write_head_with_front(
+    text: &mut String,
     status: u16,
     phrase: &str,
     size: usize,
     front: u64,
-) -> Result<String, AllocError>
-    ensures { IfOk result (λ s. string_bytes s ≡ head_with status phrase.now size (Some front)) }
+) -> Result<(), AllocError>
+    ensures { OnOk result (string_bytes text.new ≡ string_bytes text.old ++ head_with status phrase.now size (Some front)) }
 {
-    format!(in alloc;
+    write!(
+        text,
         "HTTP/1.1 {status} {phrase}\r\nContent-Length: {size}\r\nContent-Type: application/json\r\nX-Swarming-Front: {front}\r\n\r\n"
     )
 }
 
 #[tactic(auto, unfolding(crate::specs::Shown::head_with))]
-fn head_alone(alloc: Global, status: u16, phrase: &str, size: usize) -> Result<String, AllocError>
-    ensures { IfOk result (λ s. string_bytes s ≡ head_with status phrase.now size None) }
+fn write_head_alone(
+    text: &mut String,
+    status: u16,
+    phrase: &str,
+    size: usize,
+) -> Result<(), AllocError>
+    ensures { OnOk result (string_bytes text.new ≡ string_bytes text.old ++ head_with status phrase.now size None) }
 {
-    format!(in alloc;
+    write!(
+        text,
         "HTTP/1.1 {status} {phrase}\r\nContent-Length: {size}\r\nContent-Type: application/json\r\n\r\n"
     )
 }
 
-fn head_text(
-    alloc: Global,
+fn write_head(
+    text: &mut String,
     status: u16,
     phrase: &str,
     size: usize,
     front: Option<u64>,
-) -> Result<String, AllocError>
-    ensures { IfOk result (λ s. string_bytes s ≡ head_with status phrase.now size front) }
+) -> Result<(), AllocError>
+    ensures { OnOk result (string_bytes text.new ≡ string_bytes text.old ++ head_with status phrase.now size front) }
 {
     match front {
-        None => head_alone(alloc, status, phrase, size),
-        Some(front) => head_with_front(alloc, status, phrase, size, front),
+        None => write_head_alone(text, status, phrase, size),
+        Some(front) => write_head_with_front(text, status, phrase, size, front),
     }
 }
 
+// A head and its body in one buffer, whose memory is taken once.
+#[tactic(auto, unfolding(crate::specs::Shown::reply_text))]
+fn reply_bytes(
+    alloc: Global,
+    status: u16,
+    front: Option<u64>,
+    body: &[u8],
+) -> Result<Vec<u8>, AllocError>
+    requires { IsStatusCode status }
+    ensures { IfOk result (λ v. v.items ≡ reply_text status front body.now) }
+{
+    let size = body.len();
+    let mut head = String::with_capacity(alloc, size.saturating_add(HEAD_ROOM))?;
+    write_head(&mut head, status, phrase_of(status), size, front)?;
+    let mut text = head.into_bytes();
+    text.extend_from_slice(body)?;
+    Ok(text)
+}
+
 /// A reply of the pool at a place, with the front of its call, if there was one.
+#[tactic(auto, unfolding(crate::specs::Shown::shown))]
 pub fn whole_reply(
     alloc: Global,
     place: u32,
@@ -170,10 +200,8 @@ pub fn whole_reply(
     ensures { IfOk result (λ s. text_of s ≡ shown place front reply.now pieces.now) }
 {
     let body = show_reply(alloc, place, reply, pieces)?;
-    let status = status_of(reply);
-    let size = body.as_slice().len();
-    let head = head_text(alloc, status, phrase_of(status), size, front)?;
-    Ok(Shown::Whole(head, body))
+    let text = reply_bytes(alloc, status_of(reply), front, body.as_slice())?;
+    Ok(Shown::Whole(text))
 }
 
 /// The refusal of a field.

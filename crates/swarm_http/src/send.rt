@@ -1,18 +1,19 @@
 //! Writing a reply.
-ghost use Rattle.std.specs.Prelude.{◌≡◌, ◌++◌, None, Some, decimal, codes, OnOk};
+ghost use Rattle.std.specs.Prelude.{◌≡◌, None, Some, OnOk};
 ghost use Rattle.sw_base.specs.Link.{IsClean};
 ghost use Rattle.swarm_model.specs.declared.rule.Rule.TheVariants as rule;
 ghost use Rattle.swarm_http.specs.Shown.{refusal};
 ghost use Rattle.swarm_http.specs.Sends.{Sends, rule_of, text_of};
 
 use crate::reply::{Refusal, Shown};
+use arrayvec::ArrayString;
 use itoa::Buffer;
 use sw_base::{Failed, Link};
 
-const FRONT_BEFORE: &[u8] =
-    b"HTTP/1.1 503 Service Unavailable\r\nContent-Length: 25\r\nContent-Type: application/json\r\nX-Swarming-Front: ";
+const FRONT_BEFORE: &str =
+    "HTTP/1.1 503 Service Unavailable\r\nContent-Length: 25\r\nContent-Type: application/json\r\nX-Swarming-Front: ";
 
-const FRONT_AFTER: &[u8] = b"\r\n\r\n{\"code\":\"want_of_memory\"}";
+const FRONT_AFTER: &str = "\r\n\r\n{\"code\":\"want_of_memory\"}";
 
 // Writes a text whole, unless a write fails. It doesn't flush.
 fn send_whole<L: Link>(link: &mut L, text: &[u8]) -> Result<(), Failed>
@@ -68,42 +69,16 @@ fn refusal_bytes(why: Refusal) -> &'static [u8]
     }
 }
 
-fn send_front<L: Link>(link: &mut L, front: u64) -> Result<(), Failed>
-    ensures { Sends (L.state link.old) (L.state link.new) (decimal front ++ codes "\r\n\r\n{\"code\":\"want_of_memory\"}") result }
+// The reply of a call that was carried out, where there was no memory for its own. It takes none.
+fn want_of_memory_bytes(front: u64) -> ArrayString<192>
+    ensures { result.bytes ≡ refusal (Some front) rule.WantOfMemory }
 {
     let mut digits = Buffer::new();
-    match send_whole(link, digits.format(front).as_bytes()) {
-        Ok(()) => send_whole(link, FRONT_AFTER),
-        Err(failed) => Err(failed),
-    }
-}
-
-fn send_want_of_memory<L: Link>(link: &mut L, front: u64) -> Result<(), Failed>
-    ensures { Sends (L.state link.old) (L.state link.new) (refusal (Some front) rule.WantOfMemory) result }
-{
-    match send_whole(link, FRONT_BEFORE) {
-        Ok(()) => send_front(link, front),
-        Err(failed) => Err(failed),
-    }
-}
-
-fn send_parts<L: Link>(link: &mut L, head: &[u8], body: &[u8]) -> Result<(), Failed>
-    ensures { Sends (L.state link.old) (L.state link.new) (head.now ++ body.now) result }
-{
-    match send_whole(link, head) {
-        Ok(()) => send_whole(link, body),
-        Err(failed) => Err(failed),
-    }
-}
-
-fn send_text<L: Link>(link: &mut L, shown: &Shown) -> Result<(), Failed>
-    ensures { Sends (L.state link.old) (L.state link.new) (text_of shown.now) result }
-{
-    match shown {
-        Shown::Refused(why) => send_whole(link, refusal_bytes(*why)),
-        Shown::Whole(head, body) => send_parts(link, head.as_bytes(), body.as_slice()),
-        Shown::WantOfMemoryAt(front) => send_want_of_memory(link, *front),
-    }
+    let mut text = ArrayString::new();
+    text.push_str(FRONT_BEFORE);
+    text.push_str(digits.format(front));
+    text.push_str(FRONT_AFTER);
+    text
 }
 
 /// Writes a text whole and flushes it, unless a write or the flush fails.
@@ -111,10 +86,10 @@ pub fn send_flushed<L: Link>(link: &mut L, text: &[u8]) -> Result<(), Failed>
     ensures flushed { OnOk result (IsClean (L.state link.new)) }
     ensures sends { Sends (L.state link.old) (L.state link.new) text.now result }
 {
-    if let Err(failed) = send_whole(link, text) {
-        return Err(failed);
+    match send_whole(link, text) {
+        Ok(()) => link.flush(),
+        Err(failed) => Err(failed),
     }
-    link.flush()
 }
 
 /// Writes a reply whole and flushes it, unless a write or the flush fails.
@@ -122,8 +97,12 @@ pub fn send_shown<L: Link>(link: &mut L, shown: &Shown) -> Result<(), Failed>
     ensures flushed { OnOk result (IsClean (L.state link.new)) }
     ensures sends { Sends (L.state link.old) (L.state link.new) (text_of shown.now) result }
 {
-    match send_text(link, shown) {
-        Ok(()) => link.flush(),
-        Err(failed) => Err(failed),
+    match shown {
+        Shown::Refused(why) => send_flushed(link, refusal_bytes(*why)),
+        Shown::Whole(text) => send_flushed(link, text),
+        Shown::WantOfMemoryAt(front) => {
+            let text = want_of_memory_bytes(*front);
+            send_flushed(link, text.as_str().as_bytes())
+        }
     }
 }
