@@ -72,67 +72,37 @@ fn number_of(alloc: Global, registry: &Registry, name: &str) -> Result<Option<u3
 }
 
 #[test]
-fn three_bots(rt: HostRuntime) -> Result<(), Fail> {
+fn a_bot_comes_and_is_found(rt: HostRuntime) -> Result<(), Fail> {
     let alloc = rt.alloc();
-    let linux = wanted(alloc, "Linux")?;
     let mut registry = Registry::new(alloc, 3, 600);
-    assert!(rt; registry.bot(1).is_none());
-    assert_eq!(rt; registry.first_silence(1000), None);
-    greet(&rt, alloc, &mut registry, 100, 1, "mini-2", "Mac")?;
-    greet(&rt, alloc, &mut registry, 160, 2, "box-1", "Linux")?;
-    greet(&rt, alloc, &mut registry, 130, 3, "mini-1", "Mac")?;
-    for (name, number) in [
-        ("mini-2", Some(1)),
-        ("box-1", Some(2)),
-        ("mini-1", Some(3)),
-        ("mini", None),
-    ] {
-        assert_eq!(rt; number_of(alloc, &registry, name)?, number, "{name}");
-    }
-    assert_eq!(rt; registry.first_silence(699), None);
-    assert_eq!(rt; registry.first_silence(700), Some((700, 1)));
-    assert!(rt; registry.capable(&linux));
-    assert!(rt; !registry.capable(&wanted(alloc, "Windows")?));
-    put(
-        &mut registry,
-        Entry {
-            moment: 200,
-            pass: 1,
-            kind: EntryKind::Claim {
-                b: 2,
-                t: 1,
-                claim: Text::from_str(alloc, "c")?,
-            },
-        },
-    )?;
-    assert!(rt; registry.capable(&linux));
-    put(
-        &mut registry,
-        Entry {
-            moment: 690,
-            pass: 1,
-            kind: EntryKind::Contact { b: 1 },
-        },
-    )?;
-    assert_eq!(rt; registry.first_silence(1000), Some((730, 3)));
-    put(
-        &mut registry,
-        Entry {
-            moment: 800,
-            pass: 1,
-            kind: EntryKind::Dead { b: 2 },
-        },
-    )?;
-    assert!(rt; !registry.capable(&linux));
-    assert_eq!(rt; registry.count(), 3);
+    greet(&rt, alloc, &mut registry, 100, 1, "box-1", "Linux")?;
+    greet(&rt, alloc, &mut registry, 160, 2, "a-mini", "Mac")?;
+    assert_eq!(rt; number_of(alloc, &registry, "box-1")?, Some(1));
+    assert_eq!(rt; number_of(alloc, &registry, "a-mini")?, Some(2));
+    assert!(rt; registry.capable(&wanted(alloc, "Linux")?));
     match registry.bot(2) {
-        Some(bot) => {
-            assert_eq!(rt; bot.name.as_str(), "box-1");
-            assert_eq!(rt; bot.contact, 200);
-            assert_eq!(rt; bot.task, Some(1));
-            assert!(rt; bot.dead);
-        }
+        Some(bot) => assert_eq!(rt; bot.name.as_str(), "a-mini"),
         None => panic!(rt; "bot 2"),
     }
+    Ok(())
+}
+
+#[test]
+fn a_bot_falls_silent_and_is_dead(rt: HostRuntime) -> Result<(), Fail> {
+    let alloc = rt.alloc();
+    let mut registry = Registry::new(alloc, 3, 600);
+    greet(&rt, alloc, &mut registry, 100, 1, "box-1", "Linux")?;
+    assert_eq!(rt; registry.first_silence(699), None);
+    assert_eq!(rt; registry.first_silence(700), Some((700, 1)));
+    let kind = EntryKind::Dead { b: 1 };
+    put(
+        &mut registry,
+        Entry {
+            moment: 700,
+            pass: 1,
+            kind,
+        },
+    )?;
+    assert!(rt; !registry.capable(&wanted(alloc, "Linux")?));
     Ok(())
 }
