@@ -45,6 +45,7 @@ EDGE = [
     "crates/sw_base/src/console_link.rt",
     "crates/sw_base/src/system_clock.rt",
     "swarm",
+    "scripts/build.py",
 ]
 
 
