@@ -13,8 +13,8 @@ others stay as they are.
 Minutes are those of a processor, user and system, of every run of the kit's `rattle` with all that
 it started; memory is the most that one process of them held. Each has one job.
 
-With --whole it runs `rt ci` over the whole repository from nothing, with the processors and memory
-that rt chooses, and writes the minutes of the clock.
+With --whole it runs `rt ci` over the whole repository from nothing once, with the processors and
+memory that rt chooses, and writes the rows of all crates from that run, and the minutes of the clock.
 
 It works on a copy of the tree in the folder --work, by default swarm-gate among the temporary files,
 with a store of kept proofs of its own, so that nothing counts that was proved before, and nothing is
@@ -169,6 +169,19 @@ def calls_in(path):
     return [json.loads(it) for it in text_of(path).splitlines()]
 
 
+def row_of(crate, calls, log):
+    """The cells of a crate by its calls of rattle: lines, functions, minutes of the proof, the tests and the edits, and memory."""
+    kinds = collections.defaultdict(list)
+    for it in calls:
+        if it["crate"] == crate.name:
+            is_edit = os.path.basename(it["folder"]).startswith("rt-edit")
+            kinds["edits" if is_edit else "tests" if it["is_test"] else "proof"].append(it)
+    minutes = [f"{sum(it['processor'] for it in kinds[kind]) / 60:.1f}" for kind in ("proof", "tests", "edits")]
+    said = re.search(rf"^== {crate.name}\n(?:.*\n)*?logic=proved functions=(\d+)", log, re.M)
+    most = max([it["memory"] for found in kinds.values() for it in found], default=0)
+    return [str(crate.lines), said[1] if said else "", *minutes, f"{most / 1e9:.1f}"]
+
+
 class Measure:
     """The runs that give a crate's row: `proof` with its tests, and `edits`."""
 
@@ -215,14 +228,8 @@ class Measure:
         return True
 
     def row(self, crate):
-        """The cells of a crate that was measured: lines, functions, minutes of the proof, the tests and the edits, and memory."""
-        found = {kind: [it for it in calls_in(self.place(crate, kind)) if it["crate"] == crate.name] for kind in ("proof", "edits")}
-        of_edits = [it for it in found["edits"] if os.path.basename(it["folder"]).startswith("rt-edit")] if crate.has_edits else []
-        minutes = lambda calls: f"{sum(it['processor'] for it in calls) / 60:.1f}"
-        proof = [[it for it in found["proof"] if it["is_test"] == is_test] for is_test in (False, True)]
-        said = re.search(rf"^== {crate.name}\n(?:.*\n)*?logic=proved functions=(\d+)", text_of(f"{self.place(crate, 'proof')}.log"), re.M)
-        most = max([it["memory"] for it in [*found["proof"], *of_edits]], default=0)
-        return [str(crate.lines), said[1] if said else "", minutes(proof[0]), minutes(proof[1]), minutes(of_edits), f"{most / 1e9:.1f}"]
+        calls = [it for kind in ("proof", "edits") if kind == "proof" or crate.has_edits for it in calls_in(self.place(crate, kind))]
+        return row_of(crate, calls, text_of(f"{self.place(crate, 'proof')}.log"))
 
     def run(self, wanted, at_once, tell):
         """Measures these crates, each once those below it that are wanted were measured, and calls tell after each. Returns whether all went well."""
@@ -313,6 +320,9 @@ def run_whole(work, page):
     print("".join(text_of(f"{calls}.log").splitlines(True)[-5:]), end="")
     if status:
         return status
+    crates = read_crates(f"{work}/whole/tree")
+    for crate in crates:
+        page.put(crates, crate.name, row_of(crate, calls_in(calls), text_of(f"{calls}.log")))
     taken = sum(it["processor"] for it in calls_in(calls)) / 60
     memory = int(re.search(r"MemTotal:\s+(\d+)", text_of("/proc/meminfo"))[1]) * 1024 / 1e9
     page.put_whole(
