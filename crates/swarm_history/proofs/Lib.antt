@@ -1,3 +1,4 @@
 mod Adding
 pub mod OwnPoints
 pub mod OneDoor
+mod Refusals

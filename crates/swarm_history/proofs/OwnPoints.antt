@@ -23,6 +23,7 @@ use Rattle.swarm_model.specs.declared.pool_settings.PoolSettings.{PoolSettings}
 use Rattle.swarm_history.specs.declared.door.Answered.{Answered}
 use Rattle.swarm_history.specs.declared.door.CallFault.{CallFault}
 use Rattle.swarm_history.specs.Doors.{Writer, ArePieces, is_log_full, IsAnsweredCall, IsStoppedCall}
+use Rattle.swarm_history.proofs.Refusals.{refused_adds_nothing}
 use Rattle.swarm_history.specs.Settling.{Settles, Responds, IsOwnPoint, IsOwnStop}
 
 -- what a machine keeps is sound
@@ -115,7 +116,7 @@ module _ (pass : ℕ) (who : List ℕ) (moment : ℕ) (ahead : Option ℕ) (requ
 pub answered_call : {pool : PoolSettings} {writer : Writer} {place : ℕ} {old new : List Entry} {who : List ℕ} {moment : ℕ} {ahead : Option ℕ} {request : Request} {answered : Answered}
     → IsOwnPoint (opening pool) (writer.numbers place) old new who moment ahead request answered.reply → answered.front ≡ length new → ArePieces answered.reply answered.pieces
     → IsAnsweredCall pool writer place old new who moment ahead request answered
-answered_call p front pieces = record { point = p.point; no_others = λ _. p.no_others; front = front; pieces = pieces }
+answered_call p front pieces = record { point = p.point; no_others = λ _. p.no_others; refused = λ r. refused_adds_nothing p.point r; front = front; pieces = pieces }
 
 pub stopped_call : {pool : PoolSettings} {writer : Writer} {place : ℕ} {old new : List Entry} {who : List ℕ} {moment : ℕ} {ahead : Option ℕ} {request : Request} {fault : CallFault}
     → IsOwnStop (opening pool) (writer.numbers place) old new who moment ahead request (is_log_full fault)

@@ -1,10 +1,12 @@
 -- What a door tells, and what a call does to it.
-use Rattle.std.specs.Prelude.{◌≡◌, ◌≢◌, ℕ, Bool, true, false, ◌+◌, ◌≤◌, List, [], length, slice_get, Option, Result, Ok, Err, IsSomeAnd, IsTrue}
+use Rattle.std.specs.Prelude.{◌≡◌, ◌≢◌, ℕ, Bool, true, false, ◌+◌, ◌≤◌, List, [], length, slice_get, Option, None, Result, Ok, Err, IsSomeAnd, IsTrue}
 use Rattle.swarm_model.specs.declared.pool_settings.Settings.{Settings}
 use Rattle.swarm_model.specs.declared.pool_settings.PoolSettings.{PoolSettings}
 use Rattle.swarm_model.specs.declared.entry.Entry.{Entry}
 use Rattle.swarm_model.specs.declared.request.Request.{Request}
 use Rattle.swarm_model.specs.declared.reply.Reply.{Reply}
+use Rattle.swarm_model.specs.declared.reply.Reply.TheVariants as reply
+use Rattle.swarm_model.specs.declared.rule.Rule.{Rule}
 use Rattle.swarm_model.specs.Effects.{opening}
 use Rattle.swarm_model.specs.Points.{IsPoint, IsStopped}
 use Rattle.swarm_history.specs.declared.door.CallFault.{CallFault}
@@ -41,10 +43,15 @@ abbrev pub is_log_full : CallFault → Bool
 is_log_full fault.Memory = false
 is_log_full fault.LogFull = true
 
--- a request was answered at its point of the log that grew from `old` to `new`, before which a door that writes alone adds nothing
+-- the request is refused
+abbrev pub IsRefusal : Reply → Type 0
+IsRefusal answered = (why : Rule) × (answered ≡ reply.No why)
+
+-- a request was answered at its point of the log that grew from `old` to `new`: a door that writes alone adds nothing before it, and a refusal no entry of its own
 pub record IsAnsweredCall (pool : PoolSettings) (writer : Writer) (place : ℕ) (old new : List Entry) (who : List ℕ) (moment : ℕ) (after : Option ℕ) (request : Request) (answered : Answered) : Type 0 where
   pub point : IsPoint (opening pool) (writer.numbers place) old new who moment after request answered.reply
   pub no_others : IsTrue writer.alone → point.others ≡ []
+  pub refused : IsRefusal answered.reply → point.own ≡ None
   pub front : answered.front ≡ length new
   pub pieces : ArePieces answered.reply answered.pieces
 
