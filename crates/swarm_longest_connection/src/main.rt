@@ -1,5 +1,5 @@
 //! The same as `swarm_transcripts`, for a connection of as many requests as are answered on one. It
-//! is a program of its own, since this run alone takes longer than all others together.
+//! is a program of its own, so that this run has the seconds of a program for itself.
 #![tactic(auto)]
 
 use std::process::ExitCode;
