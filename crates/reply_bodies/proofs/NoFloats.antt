@@ -4,8 +4,8 @@ use Rattle.std.specs.Prelude.{ℤ, pos, negsuc, map, Option, Some, None}
 use Rattle.serde_json.specs.Data.{Data, string}
 use Rattle.serde_json.specs.View.{items_of}
 use Rattle.serde_json.specs.Written.{has_float, items_have_float, members_have_float}
-use Rattle.properties.specs.declared.file.File.{File}
-use Rattle.properties.specs.declared.properties.Properties.{Properties}
+use Rattle.task_props.specs.declared.file.File.{File}
+use Rattle.task_props.specs.declared.properties.Properties.{Properties}
 use Rattle.swarm_model.specs.declared.task_view.TaskView.{TaskView}
 use Rattle.swarm_model.specs.declared.rule.Rule.{Rule}
 use Rattle.swarm_model.specs.declared.rule.Rule.TheVariants as rule

@@ -13,7 +13,7 @@ use Rattle.swarm_model.specs.declared.rule.Rule.{Rule}
 use Rattle.swarm_model.specs.declared.rule.Rule.TheVariants as rule
 use Rattle.swarm_model.specs.declared.reply.Reply.{Reply}
 use Rattle.swarm_model.specs.declared.reply.Reply.TheVariants as reply
-use Rattle.reply_bodies.specs.States.{state_name}
+use Rattle.swarm_model.specs.States.{state_name}
 use Rattle.reply_bodies.specs.Ids.{task_id}
 use Rattle.reply_bodies.specs.Views.{whole, run_data, task_data}
 use Rattle.reply_bodies.specs.Commands.{run_command}

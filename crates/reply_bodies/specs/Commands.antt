@@ -2,8 +2,8 @@
 use Rattle.std.specs.Prelude.{ℕ, List, map, codes}
 use Rattle.serde_json.specs.Data.{Data, boolean, string, array, object, Members, member, no_members}
 use Rattle.serde_json.specs.View.{items_of}
-use Rattle.properties.specs.declared.cache.Cache.{Cache}
-use Rattle.properties.specs.declared.properties.Properties.{Properties}
+use Rattle.task_props.specs.declared.cache.Cache.{Cache}
+use Rattle.task_props.specs.declared.properties.Properties.{Properties}
 use Rattle.reply_bodies.specs.Ids.{run_id}
 use Rattle.reply_bodies.specs.Views.{whole, files_data}
 

@@ -4,9 +4,9 @@ use Rattle.hex.specs.Hex.{encode_lower}
 use Rattle.serde_json.specs.Data.{Data, null, number, unsigned, string, array, object, Members, member, no_members}
 use Rattle.serde_json.specs.Find.{of_integer}
 use Rattle.serde_json.specs.View.{items_of}
-use Rattle.properties.specs.declared.file.File.{File}
+use Rattle.task_props.specs.declared.file.File.{File}
 use Rattle.swarm_model.specs.declared.task_view.TaskView.{TaskView}
-use Rattle.reply_bodies.specs.States.{state_name}
+use Rattle.swarm_model.specs.States.{state_name}
 use Rattle.reply_bodies.specs.Ids.{task_id, run_id}
 
 abbrev pub whole : ℕ → Data

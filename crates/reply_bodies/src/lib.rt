@@ -15,9 +15,7 @@
 mod commands;
 mod ids;
 mod reply;
-mod states;
 mod views;
 
 pub use ids::id_tells_its_parts;
 pub use reply::show_reply;
-pub use states::state_named;

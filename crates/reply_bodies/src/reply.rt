@@ -2,14 +2,13 @@ ghost use Rattle.std.specs.Prelude.{◌≡◌, ◌<◌, IfOk, codes};
 ghost use Rattle.serde_json.specs.Data.{boolean, string};
 ghost use Rattle.serde_json.specs.View.{view};
 ghost use Rattle.task_props.specs.RuleNames.{rule_name};
-ghost use Rattle.reply_bodies.specs.States.{state_name as spec_state_name};
+ghost use Rattle.swarm_model.specs.States.{state_name as spec_state_name};
 ghost use Rattle.reply_bodies.specs.Ids.{task_id as spec_task_id};
 ghost use Rattle.reply_bodies.specs.Views.{whole, run_data};
 ghost use Rattle.reply_bodies.specs.Bodies.{unbuilt_name as spec_unbuilt_name, unfit_name as spec_unfit_name, permission_name as spec_permission_name, one_member as spec_one_member, two_members as spec_two_members, three_members as spec_three_members, refusal_data, reply_data, body_of};
 
 use crate::commands::{command_alone, nothing_value, run_value, sleep_value};
 use crate::ids::{run_id, task_id};
-use crate::states::state_name;
 use crate::views::task_value;
 use dimensions::{Seq, Text};
 use serde_json::{Value, json};
@@ -108,7 +107,7 @@ fn over_value(
     ensures { IfOk result (λ value. view value ≡ spec_three_members (codes "code") (string (codes "claim_over")) (codes "run") (run_data place run) (codes "state") (string (spec_state_name state))) }
 {
     let id = run_id(alloc, place, run)?;
-    let name = state_name(state);
+    let name = state.name();
     json!(in alloc; {"code": "claim_over", "run": id, "state": name})
 }
 
@@ -130,7 +129,7 @@ fn claimant_value(alloc: Global, bot: &Text) -> Result<Value, AllocError>
 fn attempt_value(alloc: Global, state: TaskState) -> Result<Value, AllocError>
     ensures { IfOk result (λ value. view value ≡ spec_two_members (codes "code") (string (codes "attempt_over")) (codes "state") (string (spec_state_name state))) }
 {
-    let name = state_name(state);
+    let name = state.name();
     json!(in alloc; {"code": "attempt_over", "state": name})
 }
 
@@ -183,7 +182,7 @@ fn new_value(alloc: Global, place: u32, task: u32, state: TaskState) -> Result<V
     ensures { IfOk result (λ value. view value ≡ spec_two_members (codes "state") (string (spec_state_name state)) (codes "task_id") (string (spec_task_id place task))) }
 {
     let id = task_id(alloc, place, task)?;
-    let name = state_name(state);
+    let name = state.name();
     json!(in alloc; {"state": name, "task_id": id})
 }
 

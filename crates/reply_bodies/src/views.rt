@@ -5,7 +5,6 @@ ghost use Rattle.serde_json.specs.View.{view, members_view};
 ghost use Rattle.reply_bodies.specs.Views.{whole, signed, or_null, file_data, files_data, run_data, last_members as spec_last_members, task_data};
 
 use crate::ids::{run_id, task_id};
-use crate::states::state_name;
 use dimensions::Text;
 use serde_json::{Map, Value, json};
 use std::alloc::{AllocError, Global};
@@ -115,7 +114,7 @@ fn last_members(
     let members = with_text(alloc, members, "user", task.user.as_str())?;
     let id = Value::String(task_id(alloc, place, task.task_id)?);
     let members = with(alloc, members, "task_id", id)?;
-    let members = with_text(alloc, members, "state", state_name(task.state))?;
+    let members = with_text(alloc, members, "state", task.state.name())?;
     let members = with(alloc, members, "started_ts", whole_or_null(task.started_ts))?;
     let run = run_or_null(alloc, place, task.run_id)?;
     let members = with(alloc, members, "run_id", run)?;

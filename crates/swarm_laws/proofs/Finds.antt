@@ -11,7 +11,7 @@ use Rattle.dimensions.specs.declared.bot_dims.BotDims.{BotDims}
 use Rattle.dimensions.specs.Alike.{same}
 use Rattle.dimensions.specs.Choosing.{when}
 use Rattle.dimensions.specs.Rules.{is_empty}
-use Rattle.properties.specs.Canonical.{hash}
+use Rattle.task_props.specs.Canonical.{hash}
 use Rattle.task_props.specs.declared.new_task.NewTask.{NewTask}
 use Rattle.task_props.specs.declared.slice.Slice.{Slice}
 use Rattle.task_props.specs.Alike.{same_task}

@@ -3,7 +3,7 @@ use Rattle.std.proofs.Common.{◌≡◌, ℕ, ◌<◌, true, false, List, [], �
 use Rattle.std.specs.Option.{option_map_or}
 use Rattle.std.proofs.lemmas.Bool.{and_parts}
 use Rattle.std.proofs.lemmas.Option.{same_Some}
-use Rattle.properties.specs.Canonical.{hash}
+use Rattle.task_props.specs.Canonical.{hash}
 use Rattle.task_props.specs.declared.slice.Slice.{Slice}
 use Rattle.swarm_model.specs.declared.task_state.TaskState.{TaskState}
 use Rattle.swarm_model.specs.declared.task_state.TaskState.TheVariants.{Completed}

@@ -1,6 +1,6 @@
 -- The worked logs, entry by entry.
 use Rattle.std.proofs.Common.{refl, lit≤}
-use Rattle.properties.specs.Canonical.{hash}
+use Rattle.task_props.specs.Canonical.{hash}
 use Rattle.swarm_laws.specs.Worked.{ItHappens, RunsEnd, OutcomeIsTaken, repeatable}
 use Rattle.swarm_laws.proofs.Alike.{same_self}
 

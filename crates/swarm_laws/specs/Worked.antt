@@ -1,7 +1,7 @@
 -- Logs that a pool may have.
 use Rattle.std.specs.Prelude.{true, List, [], ◌∷◌, Some, None, pos, codes}
 use Rattle.dimensions.specs.declared.bot_dims.BotDims.{BotDims}
-use Rattle.properties.specs.declared.properties.Properties.{Properties}
+use Rattle.task_props.specs.declared.properties.Properties.{Properties}
 use Rattle.task_props.specs.declared.new_task.NewTask.{NewTask}
 use Rattle.swarm_model.specs.declared.task_state.TaskState.TheVariants.{Pending, Completed}
 use Rattle.swarm_model.specs.declared.entry.Entry.{Entry}

@@ -4,7 +4,7 @@ use Rattle.std.specs.Bool.{beq}
 use Rattle.std.specs.Ordering.{int_eq}
 use Rattle.std.specs.Cmp.Lexicographic.{pointwise}
 use Rattle.dimensions.specs.Alike.{same}
-use Rattle.properties.specs.Alike.{same_file, ◌also◌}
+use Rattle.task_props.specs.Alike.{same_file, ◌also◌}
 use Rattle.swarm_model.specs.declared.attempt.Chunk.{Chunk}
 use Rattle.swarm_model.specs.declared.attempt.Last.{Last}
 

@@ -1,7 +1,7 @@
 -- Small tasks, and what a new pool does with them.
 use Rattle.std.specs.Prelude.{ℕ, Bool, true, false, List, [], ◌∷◌, Option, codes}
 use Rattle.task_props.specs.declared.slice.Slice.{Slice}
-use Rattle.properties.specs.declared.properties.Properties.{Properties}
+use Rattle.task_props.specs.declared.properties.Properties.{Properties}
 use Rattle.task_props.specs.declared.new_task.NewTask.{NewTask}
 use Rattle.swarm_model.specs.declared.pool_settings.PoolSettings.{PoolSettings}
 use Rattle.swarm_model.specs.declared.pool_state.PoolState.{PoolState}

@@ -13,6 +13,7 @@ pub mod Region
 pub mod Effects
 pub mod Deadlines
 pub mod History
+pub mod States
 pub mod Soundness
 pub mod Claims
 pub mod Repeats

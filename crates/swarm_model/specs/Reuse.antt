@@ -6,7 +6,7 @@ use Rattle.std.specs.Ordering.{int_eq}
 use Rattle.dimensions.specs.Alike.{same}
 use Rattle.dimensions.specs.Choosing.{◌or_else◌}
 use Rattle.dimensions.specs.Rules.{is_empty}
-use Rattle.properties.specs.Canonical.{hash}
+use Rattle.task_props.specs.Canonical.{hash}
 use Rattle.task_props.specs.declared.slice.Slice.{Slice}
 use Rattle.swarm_model.specs.declared.task_state.TaskState.TheVariants.{Completed}
 use Rattle.swarm_model.specs.declared.task_row.TaskRow.{TaskRow}

@@ -1,6 +1,6 @@
 -- Tasks that are sent again, and outcomes that are taken over.
 use Rattle.std.specs.Prelude.{ℕ, ℤ, Bool, true, List, [], ◌∷◌, ◌++◌, drop, Some, codes}
-use Rattle.properties.specs.declared.properties.Properties.{Properties}
+use Rattle.task_props.specs.declared.properties.Properties.{Properties}
 use Rattle.task_props.specs.declared.new_task.NewTask.{NewTask}
 use Rattle.swarm_model.specs.declared.pool_settings.PoolSettings.{PoolSettings}
 use Rattle.swarm_model.specs.declared.request.Request.{Request}

@@ -1,6 +1,6 @@
 -- What holds of a task that took the outcome of another.
 use Rattle.std.specs.Prelude.{◌≡◌, ℕ, ◌<◌, IsTrue, List, Some, None}
-use Rattle.properties.specs.Canonical.{hash}
+use Rattle.task_props.specs.Canonical.{hash}
 use Rattle.task_props.specs.declared.slice.Slice.{Slice}
 use Rattle.swarm_model.specs.declared.task_state.TaskState.TheVariants.{Completed}
 use Rattle.swarm_model.specs.declared.pool_settings.PoolSettings.{PoolSettings}

@@ -2,7 +2,7 @@
 use Rattle.std.specs.Prelude.{ℕ, ℤ, pos, List, [], Option, Some, None}
 use Rattle.std.specs.Option.{option_map, option_map_or, option_and_then}
 use Rattle.dimensions.specs.declared.text.Text.{Text}
-use Rattle.properties.specs.declared.file.File.{File}
+use Rattle.task_props.specs.declared.file.File.{File}
 use Rattle.swarm_model.specs.declared.attempt.Attempt.{Attempt}
 use Rattle.swarm_model.specs.declared.attempt.Last.{Last}
 use Rattle.swarm_model.specs.declared.task_row.TaskRow.{TaskRow}

@@ -18,7 +18,6 @@ mod deadline;
 pub mod end_examples;
 mod entry;
 mod examples;
-mod fitting;
 mod machine;
 mod pool_settings;
 mod pool_state;
@@ -47,7 +46,6 @@ pub use examples::{
     begins_with_an_open_slice, no_resource_after_a_slice, no_resource_at_once, one_task_is_pending,
     one_task_weighs_18, slices_run_out_in_turn, two_tasks_in_a_row,
 };
-pub use fitting::{fits, is_name};
 pub use machine::{Machine, ReserveFault};
 pub use pool_settings::{Grant, Permission, PoolSettings, Settings};
 pub use pool_state::PoolState;

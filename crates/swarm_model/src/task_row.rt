@@ -1,6 +1,6 @@
 use crate::{Attempt, TaskState};
 use dimensions::Text;
-use task_props::NewTask;
+use task_props::{NewTask, Slice};
 
 /// What a pool knows of a task. Tasks are numbered from 1 in the order of their acceptance.
 #[derive(Drop)]
@@ -20,4 +20,24 @@ pub struct TaskRow {
     pub source: Option<u32>,
     /// The moment at which the task ended.
     pub ended: Option<u64>,
+}
+
+impl TaskRow {
+    ghost use Rattle.std.specs.Prelude.{◌≡◌};
+    ghost use Rattle.std.specs.Option.{option_copied};
+    ghost use Rattle.swarm_model.specs.Finding.{has_state};
+    ghost use Rattle.swarm_model.specs.Slices.{current_slice};
+
+    pub fn has_state(&self, state: TaskState) -> bool
+        ensures { result ≡ has_state state self.now }
+    {
+        self.state.is(state)
+    }
+
+    /// The slice that the task has come to.
+    pub fn current_slice(&self) -> Option<&Slice>
+        ensures { option_copied result ≡ current_slice self.now }
+    {
+        self.request.task_slices.as_slice().get(self.slice as usize)
+    }
 }

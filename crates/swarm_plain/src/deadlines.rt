@@ -9,7 +9,6 @@ ghost use Rattle.swarm_plain.specs.Inside.{state_of, IsEarly, IsHeard};
 
 use crate::rows::Rows;
 use crate::scans;
-use crate::scans::{current_slice, has_state};
 use swarm_model::{BotRow, Cause, Deadline, TaskRow, TaskState};
 use task_props::Slice;
 
@@ -81,8 +80,8 @@ fn slice_end(task: &TaskRow) -> Option<Deadline>
     requires { IsEarly task.now }
     ensures { result ≡ slice_end task.now }
 {
-    if has_state(TaskState::Pending, task) {
-        limit_of(task, current_slice(task))
+    if task.has_state(TaskState::Pending) {
+        limit_of(task, task.current_slice())
     } else {
         None
     }
@@ -123,7 +122,7 @@ fn silence_end(rows: &Rows, task: &TaskRow) -> Option<Deadline>
     requires { All IsHeard rows.now.bots.items }
     ensures { result ≡ silence_end (state_of rows.now) task.now }
 {
-    if !has_state(TaskState::Running, task) {
+    if !task.has_state(TaskState::Running) {
         return None;
     }
     match runner_of(rows, task) {

@@ -2,8 +2,8 @@ ghost use Rattle.std.specs.Prelude.{◌≡◌, map, None, if◌then◌else◌};
 ghost use Rattle.swarm_model.specs.History.{states};
 ghost use Rattle.std.specs.List.{find, filter, fold, count_by, list_any};
 ghost use Rattle.std.specs.Option.{option_copied};
-ghost use Rattle.swarm_model.specs.Finding.{place_of, is_task, is_bot, is_called, has_state, is_wanted};
-ghost use Rattle.swarm_model.specs.Slices.{is_fit, could_run, current_slice, takes_slice, waits_for, goes_before, foremost};
+ghost use Rattle.swarm_model.specs.Finding.{is_task, is_bot, is_called, has_state, is_wanted};
+ghost use Rattle.swarm_model.specs.Slices.{is_fit, could_run, takes_slice, waits_for, goes_before, foremost};
 ghost use Rattle.swarm_model.specs.Answers.{is_claim, is_claimed};
 ghost use Rattle.swarm_model.specs.Reuse.{is_sent};
 ghost use Rattle.dimensions.specs.Rules.{is_empty};
@@ -25,34 +25,12 @@ pub(crate) fn task_of(tasks: &[TaskRow], number: u32) -> Option<&TaskRow>
     tasks.iter().find(|task| is_task(number, task))
 }
 
-fn place_of(state: TaskState) -> u8
-    ensures { result ≡ place_of state }
-{
-    match state {
-        TaskState::Pending => 0,
-        TaskState::Running => 1,
-        TaskState::Expired => 2,
-        TaskState::TimedOut => 3,
-        TaskState::BotDied => 4,
-        TaskState::Canceled => 5,
-        TaskState::Completed => 6,
-        TaskState::Killed => 7,
-        TaskState::NoResource => 8,
-    }
-}
-
-pub(crate) fn has_state(state: TaskState, task: &TaskRow) -> bool
-    ensures { result ≡ has_state state task.now }
-{
-    place_of(task.state) == place_of(state)
-}
-
 fn is_wanted(wanted: Option<TaskState>, task: &TaskRow) -> bool
     ensures { result ≡ is_wanted wanted task.now }
 {
     match wanted {
         None => true,
-        Some(state) => has_state(state, task),
+        Some(state) => task.has_state(state),
     }
 }
 
@@ -67,7 +45,7 @@ pub(crate) fn count_wanted(tasks: &[TaskRow], wanted: Option<TaskState>) -> u64
 fn count_in(tasks: &[TaskRow], state: TaskState) -> u64
     ensures { result ≡ count_by (has_state state) tasks.now }
 {
-    tasks.iter().filter(|task| has_state(state, task)).count() as u64
+    tasks.iter().filter(|task| task.has_state(state)).count() as u64
 }
 
 /// How many tasks are in each state, in the order of the states.
@@ -146,13 +124,6 @@ pub(crate) fn sent<'a>(tasks: &'a [TaskRow], who: &Text, uuid: &Text) -> Option<
     }
 }
 
-/// The slice that a task has come to.
-pub(crate) fn current_slice(task: &TaskRow) -> Option<&Slice>
-    ensures { option_copied result ≡ current_slice task.now }
-{
-    task.request.task_slices.as_slice().get(task.slice as usize)
-}
-
 fn takes_slice(dims: &BotDims, slice: Option<&Slice>) -> bool
     ensures { result ≡ takes_slice dims.now (option_copied slice.entry) }
 {
@@ -165,7 +136,7 @@ fn takes_slice(dims: &BotDims, slice: Option<&Slice>) -> bool
 fn waits_for(dims: &BotDims, task: &TaskRow) -> bool
     ensures { result ≡ waits_for dims.now task.now }
 {
-    has_state(TaskState::Pending, task) && takes_slice(dims, current_slice(task))
+    task.has_state(TaskState::Pending) && takes_slice(dims, task.current_slice())
 }
 
 fn goes_before(one: &TaskRow, other: &TaskRow) -> bool

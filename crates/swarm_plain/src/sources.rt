@@ -5,7 +5,6 @@ ghost use Rattle.std.specs.Option.{option_copied};
 ghost use Rattle.swarm_model.specs.Views.{last_of};
 ghost use Rattle.swarm_model.specs.Reuse.{ended_well, is_young, has_hash, ran_hash, is_source, newer};
 
-use crate::scans::{current_slice, has_state};
 use std::alloc::{AllocError, Global};
 use swarm_model::{Last, TaskRow, TaskState};
 use task_props::{Digest, Slice};
@@ -24,7 +23,7 @@ fn last_of(task: &TaskRow) -> Option<&Last>
 fn ended_well(task: &TaskRow) -> bool
     ensures { result ≡ ended_well task.now }
 {
-    has_state(TaskState::Completed, task)
+    task.has_state(TaskState::Completed)
         && match last_of(task) {
             None => false,
             Some(last) => last.exit_code == 0,
@@ -53,7 +52,7 @@ fn has_hash(alloc: Global, digest: &Digest, slice: &Slice) -> Result<bool, Alloc
 fn ran_hash(alloc: Global, digest: &Digest, task: &TaskRow) -> Result<bool, AllocError>
     ensures { IfOk result (λ ran. ran ≡ ran_hash digest.now task.now) }
 {
-    match current_slice(task) {
+    match task.current_slice() {
         None => Ok(false),
         Some(slice) => has_hash(alloc, digest, slice),
     }

@@ -5,7 +5,6 @@ ghost use Rattle.swarm_model.specs.Answers.{may, denied, cancels, is_killed, sto
 use crate::LookUps;
 use crate::reading::named_task;
 use crate::replies::refuses;
-use crate::rows::has_state;
 use dimensions::{Text, TryCopy};
 use std::alloc::{AllocError, Global};
 use std::sync::ledger::Ledger;
@@ -64,9 +63,9 @@ fn stop(kill: bool, task: &TaskRow) -> Told
 fn cancel_row(kill: bool, task: &TaskRow) -> Told
     ensures { result ≡ cancel_row kill task.now }
 {
-    if has_state(TaskState::Pending, task) {
+    if task.has_state(TaskState::Pending) {
         cancels(true, false, Some(EntryKind::Cancel { t: task.no }))
-    } else if has_state(TaskState::Running, task) {
+    } else if task.has_state(TaskState::Running) {
         stop(kill, task)
     } else {
         cancels(false, false, None)

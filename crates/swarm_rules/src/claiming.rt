@@ -5,7 +5,7 @@ ghost use Rattle.swarm_model.specs.Answers.{with, claim_again, unfit_of, claims,
 
 use crate::LookUps;
 use crate::replies::{answers, refuses, unfit_told};
-use crate::rows::{is_empty, is_final, try_of};
+use crate::rows::{is_empty, try_of};
 use crate::runs::{busy_told, run};
 use dimensions::{Text, TryCopy};
 use std::alloc::{AllocError, Global};
@@ -16,7 +16,7 @@ use swarm_model::{BotRow, EntryKind, Reply, Rule, Steps, TaskRow, Told, Unfit};
 fn claim_again(alloc: Global, bot: &BotRow, task: &TaskRow) -> Result<Told, AllocError>
     ensures { IfOk result (λ told. told ≡ claim_again bot.now task.now) }
 {
-    if is_final(task.state) {
+    if task.state.is_final() {
         Ok(refuses(Rule::ClaimOver {
             task: task.no,
             try_no: try_of(task),

@@ -5,7 +5,7 @@ ghost use Rattle.swarm_model.specs.Answers.{run_on, busy, run_from, run};
 
 use crate::LookUps;
 use crate::replies::refuses;
-use crate::rows::{current_slice, try_of};
+use crate::rows::try_of;
 use dimensions::TryCopy;
 use std::alloc::{AllocError, Global};
 use std::sync::ledger::Ledger;
@@ -65,7 +65,7 @@ fn run_from(alloc: Global, task: &TaskRow, slice: &Slice) -> Result<Reply, Alloc
 pub(crate) fn run(alloc: Global, task: &TaskRow) -> Result<Reply, AllocError>
     ensures { IfOk result (λ reply. reply ≡ run task.now) }
 {
-    match current_slice(task) {
+    match task.current_slice() {
         None => Ok(Reply::Skip),
         Some(slice) => run_from(alloc, task, slice),
     }

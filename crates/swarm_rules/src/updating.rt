@@ -6,7 +6,6 @@ ghost use Rattle.swarm_model.specs.Answers.{is_kept, updates, report_again, repo
 use crate::LookUps;
 use crate::reading::named_task;
 use crate::replies::{answers, refuses};
-use crate::rows::is_final;
 use dimensions::{Text, TryCopy};
 use std::alloc::{AllocError, Global};
 use std::sync::ledger::Ledger;
@@ -58,7 +57,7 @@ fn report(
 ) -> Result<Told, AllocError>
     ensures { IfOk result (λ told. told ≡ report bot.now task.now chunk last.now attempt.now) }
 {
-    if is_final(task.state) {
+    if task.state.is_final() {
         return Ok(report_again(bot, task, chunk, last, attempt));
     }
     if last.is_none() {

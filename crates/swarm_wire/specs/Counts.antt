@@ -8,7 +8,7 @@ use Rattle.task_props.specs.declared.prop_fault.PropFault.{PropFault}
 use Rattle.swarm_model.specs.declared.task_state.TaskState.{TaskState}
 use Rattle.json_fields.specs.Readings.{at, ◌>>=◌}
 use Rattle.json_fields.specs.Fields.{text_of, or_absent, present, required_text_at}
-use Rattle.reply_bodies.specs.States.{state_named}
+use Rattle.swarm_model.specs.States.{state_named}
 
 -- an absent state is any
 unfoldable pub state_text_in : Data → Result (List ℕ) PropRule

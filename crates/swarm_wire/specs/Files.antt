@@ -4,7 +4,7 @@ use Rattle.std.specs.List.{list_all}
 use Rattle.hex.specs.declared.error.FromHexError.{FromHexError}
 use Rattle.hex.specs.Hex.{decode_sized}
 use Rattle.serde_json.specs.Data.{Data}
-use Rattle.properties.specs.declared.file.File.{File}
+use Rattle.task_props.specs.declared.file.File.{File}
 use Rattle.task_props.specs.declared.prop_rule.PropRule.{PropRule}
 use Rattle.task_props.specs.declared.prop_rule.PropRule.TheVariants.{Count, Grammar}
 use Rattle.task_props.specs.declared.prop_fault.PropFault.{PropFault}

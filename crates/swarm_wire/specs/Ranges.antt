@@ -3,7 +3,7 @@ use Rattle.std.specs.Prelude.{ℕ, ℤ, pos, negsuc, int_le, Bool, ◌&&◌, Lis
 use Rattle.task_props.specs.declared.prop_rule.PropRule.{PropRule}
 use Rattle.task_props.specs.declared.prop_rule.PropRule.TheVariants.{Range}
 use Rattle.task_props.specs.declared.prop_fault.PropFault.{PropFault}
-use Rattle.task_props.specs.Reading.{natural}
+use Rattle.task_checks.specs.Reading.{natural}
 use Rattle.json_fields.specs.Readings.{at}
 
 abbrev pub is_within : ℤ → ℤ → ℤ → Bool

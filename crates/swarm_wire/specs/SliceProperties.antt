@@ -1,9 +1,9 @@
 -- The properties of a slice in a body: their fields, in the order of their rules.
 use Rattle.std.specs.Prelude.{ℕ, ℤ, pos, Bool, List, [], ◌∷◌, decimal, unwrap_or, Result, Ok, codes}
 use Rattle.serde_json.specs.Data.{Data}
-use Rattle.properties.specs.declared.cache.Cache.{Cache}
+use Rattle.task_props.specs.declared.cache.Cache.{Cache}
 use Rattle.task_props.specs.declared.prop_fault.PropFault.{PropFault}
-use Rattle.task_props.specs.declared.raw_task.RawProperties.{RawProperties}
+use Rattle.task_checks.specs.declared.raw_task.RawProperties.{RawProperties}
 use Rattle.swarm_wire.specs.declared.slice_properties.RawLists.{RawLists}
 use Rattle.swarm_wire.specs.declared.slice_properties.RawTimes.{RawTimes}
 use Rattle.json_fields.specs.Readings.{at, inside, ◌>>=◌}

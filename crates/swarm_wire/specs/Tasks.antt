@@ -6,11 +6,11 @@ use Rattle.serde_json.specs.Data.{Data}
 use Rattle.task_props.specs.declared.prop_rule.PropRule.{PropRule}
 use Rattle.task_props.specs.declared.prop_fault.PropFault.{PropFault}
 use Rattle.task_props.specs.declared.prop_fault.PropFault.TheVariants.{Broken}
-use Rattle.task_props.specs.declared.raw_task.RawTask.{RawTask}
-use Rattle.task_props.specs.declared.raw_task.RawSlice.{RawSlice}
+use Rattle.task_checks.specs.declared.raw_task.RawTask.{RawTask}
+use Rattle.task_checks.specs.declared.raw_task.RawSlice.{RawSlice}
 use Rattle.task_props.specs.declared.new_task.NewTask.{NewTask}
-use Rattle.task_props.specs.Broken.{first_broken_task}
-use Rattle.task_props.specs.Reading.{task_of}
+use Rattle.task_checks.specs.Broken.{first_broken_task}
+use Rattle.task_checks.specs.Reading.{task_of}
 use Rattle.json_fields.specs.Readings.{at, inside, ◌>>=◌}
 use Rattle.json_fields.specs.Fields.{object_of, values_of, present, text_at, number_at, flag_at, list_in, each_at}
 use Rattle.swarm_wire.specs.SliceProperties.{properties_at}

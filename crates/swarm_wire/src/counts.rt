@@ -9,7 +9,6 @@ use crate::pools::place_of;
 use crate::{Asked, WireFault};
 use dimensions::Seq;
 use json_fields::{broken, present, read_required_text};
-use reply_bodies::state_named;
 use serde_json::Value;
 use std::alloc::Global;
 use swarm_model::{PoolSettings, Request, TaskState};
@@ -41,7 +40,7 @@ fn state_of(name: &str) -> Result<Option<TaskState>, PropRule>
     if name == "ALL" {
         return Ok(None);
     }
-    match state_named(name) {
+    match TaskState::from_name(name) {
         Some(state) => Ok(Some(state)),
         None => Err(PropRule::Grammar),
     }

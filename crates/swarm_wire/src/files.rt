@@ -16,7 +16,8 @@ use json_fields::{
 };
 use serde_json::Value;
 use std::alloc::Global;
-use task_props::{Digest, File, PropFault, PropRule, path_rule};
+use task_checks::path_rule;
+use task_props::{Digest, File, PropFault, PropRule};
 
 /// A file, as it was read.
 #[derive(Drop)]

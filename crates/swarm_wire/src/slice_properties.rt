@@ -12,7 +12,8 @@ use json_fields::{
 };
 use serde_json::Value;
 use std::alloc::Global;
-use task_props::{Cache, PropFault, PropRule, RawProperties};
+use task_checks::RawProperties;
+use task_props::{Cache, PropFault, PropRule};
 
 /// The keys of properties.
 const PROPERTY_KEYS: [&str; 10] = [

@@ -13,7 +13,8 @@ use json_fields::{
 };
 use serde_json::Value;
 use std::alloc::Global;
-use task_props::{NewTask, PropFault, RawSlice, RawTask};
+use task_checks::{RawSlice, RawTask, check_task};
+use task_props::{NewTask, PropFault};
 
 #[tactic(auto, unfolding(crate::specs::Tasks::terms_in))]
 fn read_terms(alloc: Global, slice: &Value) -> Result<(i128, bool), PropFault>
@@ -93,7 +94,7 @@ fn check(alloc: Global, raw: RawTask) -> Result<NewTask, PropFault>
     ensures exact { Reads result (checked raw) }
     ensures checked { IfOk result (λ task. is_checked task ≡ true) }
 {
-    NewTask::check(alloc, raw)
+    check_task(alloc, raw)
 }
 
 /// The task that a body asks for, or the first broken rule: all fields are read before the other

@@ -1,7 +1,6 @@
 pub mod Checked
-mod Items
-mod Lists
-pub mod Rising
-mod SliceParts
+pub mod Computed
+pub mod NoFloats
+mod Outlines
+pub mod Telling
 pub mod Texts
-mod Unbroken

@@ -4,9 +4,9 @@ use Rattle.std.specs.Prelude.{pos, nat_le, is_none}
 use Rattle.std.specs.List.{All}
 use Rattle.std.proofs.lemmas.Bool.{and_parts}
 use Rattle.dimensions.specs.Choosing.{when}
-use Rattle.properties.specs.declared.properties.Properties.{Properties}
-use Rattle.properties.specs.Canonical.{canonical, HasByteDigests, HasWords}
-use Rattle.properties.proofs.Telling.{canonical_tells}
+use Rattle.task_props.specs.declared.properties.Properties.{Properties}
+use Rattle.task_props.specs.Canonical.{canonical, HasByteDigests, HasWords}
+use Rattle.task_props.proofs.Telling.{canonical_tells}
 use Rattle.task_props.specs.declared.prop_rule.PropRule.TheVariants as prop_rule
 use Rattle.task_props.specs.FieldRules.{range_rule, timeout_rule}
 use Rattle.task_props.specs.Checked.{is_env, are_caches, is_empty, has_lists, has_times, are_sound}

@@ -4,8 +4,8 @@ use Rattle.std.specs.List.{list_all}
 use Rattle.dimensions.specs.declared.text.Text.{Text}
 use Rattle.dimensions.specs.Order.{is_rising_by, is_text_below}
 use Rattle.dimensions.specs.Rules.{are_checked}
-use Rattle.properties.specs.declared.cache.Cache.{Cache}
-use Rattle.properties.specs.declared.properties.Properties.{Properties}
+use Rattle.task_props.specs.declared.cache.Cache.{Cache}
+use Rattle.task_props.specs.declared.properties.Properties.{Properties}
 use Rattle.task_props.specs.declared.slice.Slice.{Slice}
 use Rattle.task_props.specs.declared.new_task.NewTask.{NewTask}
 use Rattle.task_props.specs.FieldRules.{name_rule, priority_rule, tolerance_rule, uuid_rule, expiration_rule, timeout_rule, grace_rule, count_rule, broken_command}

@@ -7,7 +7,7 @@ use Rattle.dimensions.specs.declared.text.Text.{Text}
 use Rattle.dimensions.specs.Alike.{same}
 use Rattle.dimensions.specs.Choosing.{when, ◌or_else◌}
 use Rattle.dimensions.specs.Rules.{has_length_to, begins_with_digit}
-use Rattle.properties.specs.declared.cache.Cache.{Cache}
+use Rattle.task_props.specs.declared.cache.Cache.{Cache}
 use Rattle.task_props.specs.declared.prop_rule.PropRule.{PropRule}
 use Rattle.task_props.specs.declared.prop_rule.PropRule.TheVariants as prop_rule
 use Rattle.task_props.specs.declared.task_field.SliceField.{SliceField}

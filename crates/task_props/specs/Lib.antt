@@ -1,11 +1,11 @@
 pub mod Alike
-pub mod Broken
+pub mod Canonical
 pub mod Checked
+pub mod Examples
 pub mod FieldRules
 pub mod Fields
 pub mod ItemRules
 pub mod Paths
-pub mod Reading
 pub mod RuleNames
 pub mod Slices
 pub mod Sorted

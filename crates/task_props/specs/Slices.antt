@@ -8,7 +8,7 @@ use Rattle.dimensions.specs.Rules.{pool_of}
 use Rattle.task_props.specs.declared.prop_rule.PropRule.{PropRule}
 use Rattle.task_props.specs.declared.prop_rule.PropRule.TheVariants.{Repeated, Pool}
 use Rattle.task_props.specs.declared.slice.Slice.{Slice}
-use Rattle.properties.specs.Alike.{same_properties}
+use Rattle.task_props.specs.Alike.{same_properties}
 
 -- whatever their expirations, and whether they wait
 abbrev pub is_like : Slice → Slice → Bool

@@ -5,7 +5,7 @@ use Rattle.std.specs.Ordering.{ordering_then, is_lt}
 use Rattle.std.specs.declared.cmp.Ordering.{Ordering}
 use Rattle.dimensions.specs.declared.text.Text.{Text}
 use Rattle.dimensions.specs.Order.{text_cmp, is_text_below}
-use Rattle.properties.specs.declared.cache.Cache.{Cache}
+use Rattle.task_props.specs.declared.cache.Cache.{Cache}
 use Rattle.task_props.specs.ItemRules.{env_key_rule, env_value_rule, cache_name_rule, has_path}
 use Rattle.task_props.specs.Paths.{path_rule}
 

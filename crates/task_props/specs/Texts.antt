@@ -1,7 +1,7 @@
 -- What the canonical text of checked properties tells.
 use Rattle.std.specs.Prelude.{◌≡◌, ◌↔◌, true}
-use Rattle.properties.specs.declared.properties.Properties.{Properties}
-use Rattle.properties.specs.Canonical.{canonical}
+use Rattle.task_props.specs.declared.properties.Properties.{Properties}
+use Rattle.task_props.specs.Canonical.{canonical}
 use Rattle.task_props.specs.Checked.{are_sound}
 
 -- two checked properties have one canonical text exactly where they are equal

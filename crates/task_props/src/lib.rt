@@ -1,33 +1,34 @@
-//! What a task is: its properties, its slices and the request for it.
+//! What a task is: its properties, its slices, the request for it, and the rules on their fields.
 //!
-//! Every type here is plain data that contracts see field by field. A [`NewTask`] is a request
-//! that has been checked; `is_checked` of `specs/Checked.antt` says which those are.
-//! The crate stands on `properties` and `dimensions`, and hands on the types of `properties`.
+//! Every type here is plain data that contracts see field by field. [`Properties::canonical`] is
+//! the compact JSON of `specs/Canonical.antt`, and [`Properties::hash`] its SHA-256 (FIPS 180-4),
+//! by which a run is known again. `is_checked` of `specs/Checked.antt` says which tasks keep the
+//! rules (`FieldRules`, `ItemRules`, `Paths` and `Slices`): the texts of checked properties are
+//! equal exactly where the properties are. `task_checks` reads a request by these rules.
+//! The crate stands on `dimensions`.
 #![tactic(auto)]
 
-mod broken;
-mod broken_items;
-mod checking;
-mod field_rules;
-mod item_rule;
-mod item_rules;
+mod cache;
+mod canonical;
+mod digest;
+mod examples;
+mod file;
 mod laws;
 mod new_task;
-mod paths;
 mod prop_fault;
 mod prop_rule;
-mod raw_task;
-mod reading;
+mod properties;
 mod slice;
-mod slices;
 mod task_field;
 
-pub use laws::checked_properties_have_one_text_each;
+pub use cache::Cache;
+pub use digest::Digest;
+pub use examples::{hash_of_a_small_task, text_of_a_small_task};
+pub use file::File;
+pub use laws::{a_canonical_text_is_of_one_properties, checked_properties_have_one_text_each};
 pub use new_task::NewTask;
-pub use paths::path_rule;
 pub use prop_fault::PropFault;
 pub use prop_rule::PropRule;
-pub use properties::{Cache, Digest, File, Properties};
-pub use raw_task::{RawProperties, RawSlice, RawTask};
+pub use properties::Properties;
 pub use slice::Slice;
 pub use task_field::{SliceField, TaskField};

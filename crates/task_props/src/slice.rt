@@ -1,7 +1,5 @@
-use crate::checking::are_sound;
-use crate::field_rules::expiration_rule;
+use crate::Properties;
 use dimensions::TryCopy;
-use properties::Properties;
 use std::alloc::{AllocError, Global};
 
 /// One way to run a task, tried for `expiration_secs` before the next.
@@ -15,24 +13,9 @@ pub struct Slice {
 impl Slice {
     ghost use Rattle.std.specs.Prelude.{◌≡◌};
     ghost use Rattle.dimensions.specs.Rules.{pool_of};
-    ghost use Rattle.task_props.specs.Checked.{is_sound_slice};
-    ghost use Rattle.task_props.specs.Slices.{is_like};
 
-    /// Whether no rule on a field is broken.
-    pub(crate) fn is_sound(&self) -> bool
-        ensures { result ≡ is_sound_slice self.now }
-    {
-        expiration_rule(self.expiration_secs as i128).is_none() && are_sound(&self.properties)
-    }
-
-    /// Whether both run the same, on the same bots.
-    pub(crate) fn is_like(&self, other: &Slice) -> bool
-        ensures { result ≡ is_like self.now other.now }
-    {
-        self.properties == other.properties
-    }
-
-    pub(crate) fn pool(&self) -> &str
+    /// The pool of its dimensions.
+    pub fn pool(&self) -> &str
         ensures { result.now ≡ pool_of self.now.properties.dimensions }
     {
         self.properties.dimensions.pool()

@@ -1,7 +1,7 @@
 //! Lists that several of the tests begin with.
 
 use dimensions::{Seq, Text};
-use properties::Cache;
+use task_props::Cache;
 use std::alloc::{AllocError, Global};
 
 mod canonical_texts;

@@ -3,7 +3,7 @@
 
 use crate::tests::{caches, pairs, texts};
 use dimensions::{DimSet, Seq, Text};
-use properties::{File, Properties};
+use task_props::{File, Properties};
 use sha2::{Digest, Sha256};
 use std::alloc::{AllocError, Global};
 use std::test::Fail;

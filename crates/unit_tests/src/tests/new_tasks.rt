@@ -2,9 +2,10 @@
 
 use crate::tests::{caches, pairs, texts};
 use dimensions::{Seq, Text, TryCopy};
+use request_fits::is_checked;
 use std::alloc::{AllocError, Global};
 use std::test::Fail;
-use task_props::{NewTask, RawProperties, RawSlice, RawTask};
+use task_checks::{RawProperties, RawSlice, RawTask, check_task};
 
 /// A slice for this os that breaks no rule.
 fn slice(alloc: Global, os: &str) -> Result<RawSlice, AllocError> {
@@ -36,8 +37,8 @@ fn a_task_is_checked_and_copied(rt: HostRuntime) -> Result<(), Fail> {
         request_uuid: Text::new(alloc),
         task_slices: Seq::from_vec(slices),
     };
-    let task = NewTask::check(alloc, raw)?;
-    assert!(rt; task.is_checked());
+    let task = check_task(alloc, raw)?;
+    assert!(rt; is_checked(&task));
     assert_eq!(rt; task.priority, 255);
     assert_eq!(rt; task.bot_ping_tolerance_secs, 1200);
     assert_eq!(rt; task.pool(), "default");

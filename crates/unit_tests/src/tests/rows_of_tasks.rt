@@ -7,7 +7,7 @@ ghost use Rattle.task_rows.specs.Acting.{AddsRow, EndsSlice, HasFewSlices, Stays
 
 use crate::tests::{bot_pairs, pairs};
 use dimensions::{BotDims, DimSet, Seq, Text};
-use properties::Properties;
+use task_props::Properties;
 use std::alloc::{AllocError, Global};
 use std::marker::Brand;
 use std::process::Abort;

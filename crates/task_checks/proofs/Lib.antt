@@ -1,0 +1,4 @@
+mod Items
+mod Lists
+mod SliceParts
+mod Unbroken

@@ -1,6 +1,0 @@
-use Rattle.std.proofs.Common.{rules}
-use Rattle.task_props.proofs.Lists.{sorted_caches-is}
-use Rattle.task_props.proofs.reading.sorted_caches.Goals as goal
-
-pub returns : goal.returns
-returns c = sorted_caches-is c.args.caches c.in_ok-sorted.sorted (search rules) (search rules)
