@@ -1,5 +1,5 @@
 mod Numbered
 mod Lent
-mod Becoming
+mod RowEffects
 mod Folding
 mod Named

@@ -8,7 +8,7 @@ use Rattle.swarm_model.specs.declared.entry.EntryKind.{EntryKind}
 use Rattle.swarm_model.specs.declared.entry.EntryKind.TheVariants as kind
 use Rattle.swarm_model.specs.Finding.{is_bot, is_called}
 use Rattle.swarm_model.specs.Effects.{after}
-use Rattle.bot_registry.specs.Plain.{Kept}
+use Rattle.bot_registry.specs.Plain.{RegistryState}
 
 -- the row of a number
 abbrev pub row_of : List BotRow → ℕ → Option BotRow
@@ -23,16 +23,16 @@ abbrev pub IsAfter : List BotRow → Entry → List BotRow → Type 0
 IsAfter old entry new = (s : PoolState) → s.bots ≡ old → new ≡ (after s entry).bots
 
 -- a bot that comes for the first time has the next number and a new name, and may come
-pub record IsNewBot (kept : Kept) (number : ℕ) (name : List ℕ) : Type 0 where
+pub record IsNewBot (kept : RegistryState) (number : ℕ) (name : List ℕ) : Type 0 where
   pub next : number ≡ length kept.rows + 1
   pub fresh : row_named kept.rows name ≡ None
   pub few : length kept.rows < kept.most
 
 -- the bot of the number has the name, or there is none, and it is new
-abbrev pub Greets : Kept → ℕ → List ℕ → Type 0
+abbrev pub Greets : RegistryState → ℕ → List ℕ → Type 0
 Greets kept number name = MatchOption (row_of kept.rows number) (IsNewBot kept number name) (λ bot. bot.name ≡ name)
 
 -- what an entry needs of the rows: a handshake greets, and any other needs nothing
-abbrev pub Follows : Kept → EntryKind → Type 0
+abbrev pub Follows : RegistryState → EntryKind → Type 0
 Follows kept (kind.Handshake b id session dims q) = Greets kept b id
 Follows kept entry = ⊤

@@ -9,13 +9,13 @@ use Rattle.swarm_model.specs.declared.deadline.Deadline.{Deadline}
 use Rattle.swarm_model.specs.declared.entry.EntryKind.{EntryKind}
 use Rattle.swarm_model.specs.declared.entry.EntryKind.TheVariants as kind
 use Rattle.swarm_model.specs.Numbers.{AreNumbered, change_at}
-use Rattle.swarm_model.specs.Effects.{no_of_bot, runs_task, hushed, bot_after, greeted}
+use Rattle.swarm_model.specs.Effects.{no_of_bot, runs_task, silent_bot, bot_after, session_row}
 use Rattle.bot_registry.specs.declared.registry.Registry.TheInside.{Inside}
-use Rattle.bot_registry.specs.Plain.{Kept}
+use Rattle.bot_registry.specs.Plain.{RegistryState}
 use Rattle.bot_registry.specs.Acting.{row_of, row_named}
 use Rattle.bot_registry.specs.Names.{name_of, AreByName}
 
-abbrev pub kept_of : Inside → Kept
+abbrev pub kept_of : Inside → RegistryState
 kept_of registry =
     record { rows = registry.rows.items; ready = registry.ready; most = registry.most; death_timeout = registry.death_timeout }
 
@@ -43,8 +43,8 @@ pub record IsKept (registry : Inside) : Type 0 where
   pub prepared : IfSome registry.ready (λ entry.
       HasPlaces (length registry.rows.items) registry.most (vec_len registry.rows) (vec_capacity registry.rows) (vec_len registry.by_name) (vec_capacity registry.by_name))
 
-abbrev pub hushed_if : ℕ → BotRow → BotRow
-hushed_if number bot = if runs_task number bot then hushed bot else bot
+abbrev pub silent_bot_if : ℕ → BotRow → BotRow
+silent_bot_if number bot = if runs_task number bot then silent_bot bot else bot
 
 -- the rows with the row of a bot that comes
 abbrev pub with_bot : BotRow → List BotRow → List BotRow
@@ -52,7 +52,7 @@ with_bot row rows = map (change_at no_of_bot row.no (λ old. row)) rows ++ optio
 
 -- the rows after an entry of this kind
 abbrev pub rows_after : ℕ → EntryKind → List BotRow → List BotRow
-rows_after moment (kind.Handshake b id session dims q) rows = with_bot (greeted moment b id session dims q) rows
+rows_after moment (kind.Handshake b id session dims q) rows = with_bot (session_row moment b id session dims q) rows
 rows_after moment entry rows = map (bot_after moment entry) rows
 
 -- there is room for a bot that comes for the first time

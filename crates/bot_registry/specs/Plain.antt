@@ -5,7 +5,7 @@ use Rattle.swarm_model.specs.declared.entry.Entry.{Entry}
 
 -- the rows, the entry that is made ready, how many bots there may be, and the seconds after which
 -- a silent one counts as dead
-pub record Kept : Type 0 where
+pub record RegistryState : Type 0 where
   pub rows : List BotRow
   pub ready : Option Entry
   pub most : ℕ

@@ -6,7 +6,7 @@ use Rattle.swarm_model.specs.declared.pool_state.PoolState.{PoolState}
 use Rattle.swarm_model.specs.declared.deadline.Cause.TheVariants as cause
 use Rattle.swarm_model.specs.declared.deadline.Deadline.{Deadline}
 use Rattle.swarm_model.specs.Deadlines.{bot_end, sooner, if_come}
-use Rattle.bot_registry.specs.Plain.{Kept}
+use Rattle.bot_registry.specs.Plain.{RegistryState}
 
 -- the deadline at a moment, of the bot of a number
 abbrev pub death : ℕ × ℕ → Deadline
@@ -17,6 +17,6 @@ abbrev pub due_death : PoolState → ℕ → Option Deadline
 due_death s moment = option_and_then (if_come moment) (fold sooner None (filter_map (bot_end s) s.bots))
 
 -- the moment and the number are those of every pool that has these bots, and as much patience
-abbrev pub IsDueDeath : Kept → ℕ → Option (ℕ × ℕ) → Type 0
+abbrev pub IsDueDeath : RegistryState → ℕ → Option (ℕ × ℕ) → Type 0
 IsDueDeath kept moment end =
     (s : PoolState) → s.bots ≡ kept.rows → s.settings.death_timeout_secs ≡ kept.death_timeout → option_map death end ≡ due_death s moment

@@ -3,27 +3,27 @@ ghost use Rattle.std.specs.Prelude.{◌≡◌, ◌<◌, [], map, vec_len, vec_ca
 ghost use Rattle.std.specs.List.{All};
 ghost use Rattle.swarm_model.specs.declared.entry.EntryKind.TheVariants as kind;
 ghost use Rattle.swarm_model.specs.Numbers.{AreNumbered, change_at};
-ghost use Rattle.swarm_model.specs.Effects.{no_of_bot, runs_task, bot_after, if_some, freed_at, bot_at, heard};
+ghost use Rattle.swarm_model.specs.Effects.{no_of_bot, runs_task, bot_after, if_some, idle_bot_at, bot_at, heard};
 ghost use Rattle.bot_registry.specs.Acting.{row_of};
-ghost use Rattle.bot_registry.specs.Inside.{hushed_if, with_bot, rows_after, HasRoom};
+ghost use Rattle.bot_registry.specs.Inside.{silent_bot_if, with_bot, rows_after, HasRoom};
 
 use crate::scans::row_of;
 use dimensions::{BotDims, Text};
 use std::alloc::Global;
 use swarm_model::{
-    BotRow, Change, Die, Entry, EntryKind, Hear, Last, MarkTerminating, Note, Poll, Renew, TakeOn,
-    change_row, hush,
+    ApplyEvent, AssignTask, BotRow, Change, Entry, EntryKind, Last, MarkDead, MarkTerminating,
+    Poll, RecordContact, ReplaceSession, change_row, mark_silent,
 };
 
 /// The bot is done with its task.
 #[derive(Drop)]
-struct Free;
+struct ReleaseTask;
 
-impl Change<BotRow> for Free {
+impl Change<BotRow> for ReleaseTask {
     ghost use Rattle.std.specs.Prelude.{⊤};
-    ghost use Rattle.swarm_model.specs.Effects.{freed};
+    ghost use Rattle.swarm_model.specs.Effects.{idle_bot};
 
-    ghost change = { λ c. freed };
+    ghost change = { λ c. idle_bot };
 
     ghost fits = { λ bot. ⊤ };
 
@@ -50,38 +50,38 @@ fn runs_task(number: u32, bot: &BotRow) -> bool
     }
 }
 
-fn hush_if(number: u32, bot: &mut BotRow)
-    ensures { bot.new ≡ hushed_if number bot.old }
+fn mark_silent_if(number: u32, bot: &mut BotRow)
+    ensures { bot.new ≡ silent_bot_if number bot.old }
 {
     if runs_task(number, bot) {
-        hush(bot);
+        mark_silent(bot);
     }
 }
 
-fn hush_all(rows: &mut [BotRow], number: u32)
-    ensures { rows.new ≡ map (hushed_if number) rows.old }
+fn mark_silent_all(rows: &mut [BotRow], number: u32)
+    ensures { rows.new ≡ map (silent_bot_if number) rows.old }
 {
     for bot in rows.iter_mut() {
-        hush_if(number, bot);
+        mark_silent_if(number, bot);
     }
 }
 
 /// The bot that runs the task is silent.
-fn hush_runner(rows: &mut Vec<BotRow>, number: u32)
-    ensures { rows.new.items ≡ map (hushed_if number) rows.old.items }
+fn mark_silent_runner(rows: &mut Vec<BotRow>, number: u32)
+    ensures { rows.new.items ≡ map (silent_bot_if number) rows.old.items }
 {
-    hush_all(rows.as_mut_slice(), number);
+    mark_silent_all(rows.as_mut_slice(), number);
 }
 
 /// A bot reported of its run, which may end with that.
 fn report(rows: &mut Vec<BotRow>, moment: u64, number: u32, last: Option<Last>)
     requires { AreNumbered no_of_bot 1 rows.old.items }
-    ensures { rows.new.items ≡ map (λ bot. if_some (freed_at number) last (bot_at number (heard moment) bot)) rows.old.items }
+    ensures { rows.new.items ≡ map (λ bot. if_some (idle_bot_at number) last (bot_at number (heard moment) bot)) rows.old.items }
 {
-    change(rows, number, Hear { moment });
+    change(rows, number, RecordContact { moment });
     if let Some(last) = last {
         drop(last);
-        change(rows, number, Free);
+        change(rows, number, ReleaseTask);
     }
 }
 
@@ -92,7 +92,7 @@ fn greet(rows: &mut Vec<BotRow>, row: BotRow)
     ensures { rows.new.items ≡ with_bot row rows.old.items }
 {
     if row_of(rows, row.no).is_some() {
-        change(rows, row.no, Renew { row });
+        change(rows, row.no, ReplaceSession { row });
     } else {
         rows.push_reserved(row);
     }
@@ -105,8 +105,8 @@ pub(crate) fn act(rows: &mut Vec<BotRow>, alloc: Global, moment: u64, kind: Entr
     ensures { rows.new.items ≡ rows_after moment kind rows.old.items }
 {
     match kind {
-        EntryKind::Silence { t } => hush_runner(rows, t),
-        EntryKind::Dead { b } => change(rows, b, Die),
+        EntryKind::Silence { t } => mark_silent_runner(rows, t),
+        EntryKind::Dead { b } => change(rows, b, MarkDead),
         EntryKind::Handshake {
             b,
             id,
@@ -140,13 +140,13 @@ pub(crate) fn act(rows: &mut Vec<BotRow>, alloc: Global, moment: u64, kind: Entr
         ),
         EntryKind::Claim { b, t, claim } => {
             drop(claim);
-            change(rows, b, TakeOn { moment, task: t });
+            change(rows, b, AssignTask { moment, task: t });
         }
-        EntryKind::Contact { b } => change(rows, b, Hear { moment }),
+        EntryKind::Contact { b } => change(rows, b, RecordContact { moment }),
         EntryKind::Event { b, e, text } => change(
             rows,
             b,
-            Note {
+            ApplyEvent {
                 moment,
                 which: e,
                 message: text,

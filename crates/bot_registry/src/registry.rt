@@ -29,9 +29,9 @@ pub struct Registry {
 }
 
 impl Model for Registry {
-    ghost use Rattle.bot_registry.specs.Plain.{Kept};
+    ghost use Rattle.bot_registry.specs.Plain.{RegistryState};
 
-    ghost Value = { Kept };
+    ghost Value = { RegistryState };
 
     ghost use Rattle.bot_registry.specs.Inside.{kept_of, IsKept};
 

@@ -4,8 +4,8 @@ ghost use Rattle.task_props.specs.Checked.{is_sound_slice, is_checked as spec_is
 
 use crate::checking::are_sound;
 use task_checks::{
-    MOST_SLICES, count_rule, expiration_rule, name_rule, priority_rule, slices_rule, tolerance_rule,
-    uuid_rule,
+    MOST_SLICES, count_rule, expiration_rule, name_rule, priority_rule, slices_rule,
+    tolerance_rule, uuid_rule,
 };
 use task_props::{NewTask, Slice};
 

@@ -26,10 +26,10 @@ use Rattle.request_head.specs.declared.method.Method.{Method}
 use Rattle.request_head.specs.declared.number.Number.{Number}
 use Rattle.request_head.specs.Fields.{named, if_named, lacks}
 use Rattle.request_head.specs.Numbers.{value_or_zero}
-use Rattle.request_head.specs.Says.{is_visible, is_caller, is_closing, method_named, length_told, limit_at, closes, caller_told, after_told, fields_of, method_of, size_of, closes_of, caller_of, after_of, HeadRefusal, refusal, head_refusal}
+use Rattle.request_head.specs.HeadFields.{is_visible, is_caller, is_closing, method_named, length_told, limit_at, closes, caller_told, after_told, fields_of, method_of, size_of, closes_of, caller_of, after_of, HeadRefusal, refusal, head_refusal}
 use Rattle.request_head.specs.Judging.{Covers, Says, IsWholeHead, IsJudged, IsJudgedHead, IsDue, Refuses}
-use Rattle.request_head.specs.declared.judged.Judged.{Judged}
-use Rattle.request_head.specs.declared.judged.Judged.TheVariants.{Bad, LengthRequired, TooLarge, Good}
+use Rattle.request_head.specs.declared.head_check.HeadCheck.{HeadCheck}
+use Rattle.request_head.specs.declared.head_check.HeadCheck.TheVariants.{Bad, LengthRequired, TooLarge, Good}
 use Rattle.request_head.specs.declared.head.Head.{Head}
 
 abbrev pub no_header : HeaderSpan
@@ -138,14 +138,14 @@ pub covers_whole : (text : List ℕ) (headers : List HeaderSpan) (r : RequestSpa
 covers_whole text headers r w = record { method = w.at.method; target = w.at.path; minor = w.at.version; fields = w.at.fields }
 
 -- an answer that is due to a head is due to its text
-pub judged_head : (text : List ℕ) (answer : Judged) → IsJudgedHead text answer → IsJudged text answer
-judged_head text Bad judged = inr judged
-judged_head text LengthRequired judged = judged
-judged_head text (TooLarge limit) judged = judged
-judged_head text (Good head) judged = judged
+pub judged_head : (text : List ℕ) (answer : HeadCheck) → IsJudgedHead text answer → IsJudged text answer
+judged_head text Bad head_check = inr head_check
+judged_head text LengthRequired head_check = head_check
+judged_head text (TooLarge limit) head_check = head_check
+judged_head text (Good head) head_check = head_check
 
 -- a refusal is due where it is the head's
-pub due_refused : (h : RequestHead) (why : Option HeadRefusal) (answer : Judged) → head_refusal h ≡ why → Refuses why answer → IsDue h answer
+pub due_refused : (h : RequestHead) (why : Option HeadRefusal) (answer : HeadCheck) → head_refusal h ≡ why → Refuses why answer → IsDue h answer
 due_refused h why Bad same refuses = same ∙ refuses
 due_refused h why LengthRequired same refuses = same ∙ refuses
 due_refused h why (TooLarge limit) same refuses = same ∙ refuses

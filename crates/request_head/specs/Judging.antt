@@ -7,10 +7,10 @@ use Rattle.httparse.specs.declared.spans.RequestSpans.{RequestSpans}
 use Rattle.request_head.specs.declared.found.Found.{Found}
 use Rattle.request_head.specs.declared.found.Found.TheVariants.{Absent, Once, Repeated}
 use Rattle.request_head.specs.declared.head.Head.{Head}
-use Rattle.request_head.specs.declared.judged.Judged.{Judged}
-use Rattle.request_head.specs.declared.judged.Judged.TheVariants.{Bad, LengthRequired, TooLarge, Good}
+use Rattle.request_head.specs.declared.head_check.HeadCheck.{HeadCheck}
+use Rattle.request_head.specs.declared.head_check.HeadCheck.TheVariants.{Bad, LengthRequired, TooLarge, Good}
 use Rattle.request_head.specs.Heads.{IsHead, IsNoHead}
-use Rattle.request_head.specs.Says.{HeadRefusal, bad, length_required, too_large, head_refusal, fields_of, method_of, size_of, closes_of, caller_of, after_of}
+use Rattle.request_head.specs.HeadFields.{HeadRefusal, bad, length_required, too_large, head_refusal, fields_of, method_of, size_of, closes_of, caller_of, after_of}
 
 -- a field was looked for among these values
 abbrev pub IsFound : List ℕ → List (List ℕ) → Found → Type 0
@@ -28,27 +28,27 @@ pub record Says (h : RequestHead) (head : Head) : Type 0 where
   pub after : head.after ≡ after_of h
 
 -- the answer is a refusal, and this one
-abbrev pub Refuses : Option HeadRefusal → Judged → Type 0
+abbrev pub Refuses : Option HeadRefusal → HeadCheck → Type 0
 Refuses why Bad = why ≡ Some bad
 Refuses why LengthRequired = why ≡ Some length_required
 Refuses why (TooLarge limit) = why ≡ Some (too_large limit)
 Refuses why (Good head) = ⊥
 
 -- the answer that is due to a head
-abbrev pub IsDue : RequestHead → Judged → Type 0
+abbrev pub IsDue : RequestHead → HeadCheck → Type 0
 IsDue h Bad = Refuses (head_refusal h) Bad
 IsDue h LengthRequired = Refuses (head_refusal h) LengthRequired
 IsDue h (TooLarge limit) = Refuses (head_refusal h) (TooLarge limit)
 IsDue h (Good head) = (head_refusal h ≡ None) × Says h head
 
 -- the text is a head, and the answer is due to it; the head is one alone, by the grammar's law `request_unique`
-pub record IsJudgedHead (text : List ℕ) (answer : Judged) : Type 0 where
+pub record IsJudgedHead (text : List ℕ) (answer : HeadCheck) : Type 0 where
   pub head : RequestHead
   pub is_head : IsHead text head
   pub due : IsDue head answer
 
 -- each answer where it is due
-abbrev pub IsJudged : List ℕ → Judged → Type 0
+abbrev pub IsJudged : List ℕ → HeadCheck → Type 0
 IsJudged text Bad = IsNoHead text ⊎ IsJudgedHead text Bad
 IsJudged text LengthRequired = IsJudgedHead text LengthRequired
 IsJudged text (TooLarge limit) = IsJudgedHead text (TooLarge limit)

@@ -1,5 +1,5 @@
 pub mod Fields
 pub mod Heads
 pub mod Numbers
-pub mod Says
+pub mod HeadFields
 pub mod Judging

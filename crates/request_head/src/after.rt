@@ -1,5 +1,5 @@
 ghost use Rattle.std.specs.Prelude.{◌≡◌};
-ghost use Rattle.request_head.specs.Says.{after_number};
+ghost use Rattle.request_head.specs.HeadFields.{after_number};
 
 use crate::number::Number;
 

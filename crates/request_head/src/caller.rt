@@ -1,7 +1,7 @@
 //! The name of a caller, as its field tells it.
 ghost use Rattle.std.specs.Prelude.{◌≡◌, option_map};
 ghost use Rattle.std.specs.List.{list_all};
-ghost use Rattle.request_head.specs.Says.{is_visible, caller, is_caller as spec_is_caller};
+ghost use Rattle.request_head.specs.HeadFields.{is_visible, caller, is_caller as spec_is_caller};
 
 fn are_visible(text: &[u8]) -> bool
     ensures { result ≡ list_all is_visible text.now }

@@ -15,11 +15,11 @@ mod connection;
 mod fields;
 mod found;
 mod head;
-mod judged;
+mod head_check;
 mod method;
 mod number;
 
 pub use after::After;
 pub use head::Head;
-pub use judged::{Judged, judge};
+pub use head_check::{HeadCheck, check_head};
 pub use method::Method;

@@ -1,5 +1,5 @@
 ghost use Rattle.std.specs.Prelude.{◌≡◌};
-ghost use Rattle.request_head.specs.Says.{method_named, has_body as spec_has_body};
+ghost use Rattle.request_head.specs.HeadFields.{method_named, has_body as spec_has_body};
 
 /// The method of a request (RFC 9110, section 9), in the case of letters that it stands in.
 #[derive(Clone, Copy, Debug, PartialEq, Eq)]

@@ -2,11 +2,11 @@
 use Rattle.std.proofs.Common.{◌≡◌, ◌++◌, [], ◌∷◌, None, Some, ap, ◌∙◌}
 use Rattle.swarm_model.specs.declared.entry.Entry.{Entry}
 use Rattle.swarm_model.specs.Effects.{after}
-use Rattle.swarm_model.specs.Kept.{Kept, IsHistory}
+use Rattle.swarm_model.specs.MachineState.{MachineState, IsHistory}
 use Rattle.swarm_laws.proofs.Bots.{settings_same}
 use Rattle.swarm_history.specs.Settling.{Adds}
 
-pub adds_from : (old ready new : Kept) (entry : Entry)
+pub adds_from : (old ready new : MachineState) (entry : Entry)
     → ready ≡ record old { ready = Some entry }
     → new ≡ record ready { pool = after ready.pool entry; log = ready.log ++ entry ∷ []; ready = None }
     → IsHistory new → Adds old new entry

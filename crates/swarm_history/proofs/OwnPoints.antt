@@ -16,7 +16,7 @@ use Rattle.swarm_model.specs.Deadlines.{due_entry}
 use Rattle.swarm_model.specs.Effects.{opening, after}
 use Rattle.swarm_model.specs.History.{replay, IsLegal, moment_of}
 use Rattle.swarm_model.specs.Points.{is_ahead, IsPoint, LacksRoom, next_entry}
-use Rattle.swarm_model.specs.Kept.{Kept, IsHistory}
+use Rattle.swarm_model.specs.MachineState.{MachineState, IsHistory}
 use Rattle.swarm_model.specs.Soundness.{IsSound}
 use Rattle.swarm_laws.proofs.Sound.{sound_always}
 use Rattle.swarm_model.specs.declared.pool_settings.PoolSettings.{PoolSettings}
@@ -27,7 +27,7 @@ use Rattle.swarm_history.proofs.Refusals.{refused_adds_nothing}
 use Rattle.swarm_history.specs.Settling.{Settles, Responds, IsOwnPoint, IsOwnStop}
 
 -- what a machine keeps is sound
-pub sound_history : (kept : Kept) → IsHistory kept → IsSound kept.pool
+pub sound_history : (kept : MachineState) → IsHistory kept → IsSound kept.pool
 sound_history kept h = subst IsSound (sym h.replayed) (sound_always kept.pool.settings kept.log h.legal.caused)
 
 -- a call of one who has seen more than there is
@@ -58,7 +58,7 @@ pub own_next : (full : Bool) (P : Entry → Type 0) (due own : Option Entry) →
 own_next full P due own none h = rw none h
 
 -- A call that settled what was due by a moment, in part or whole.
-module _ (pass : ℕ) (who : List ℕ) (moment : ℕ) (ahead : Option ℕ) (request : Request) (at : ℕ) (old mid : Kept) (history : IsHistory old)
+module _ (pass : ℕ) (who : List ℕ) (moment : ℕ) (ahead : Option ℕ) (request : Request) (at : ℕ) (old mid : MachineState) (history : IsHistory old)
     (behind : is_ahead (length old.log) ahead ≡ false) (reckoned : at ≡ moment_of old.pool moment) (s : Settles pass at old mid) where
   abbrev start : PoolState
   start = opening old.pool.settings
@@ -73,7 +73,7 @@ module _ (pass : ℕ) (who : List ℕ) (moment : ℕ) (ahead : Option ℕ) (requ
   rows_settled : mid.pool ≡ replay (replay start old.log) s.settled
   rows_settled = rows ∙ ap (replay start) s.log ∙ fold-append after start old.log s.settled
 
-  pub settled_point : (new : Kept) → due_entry mid.pool at pass ≡ None → (answered : Reply) → Responds pass who at request mid new answered →
+  pub settled_point : (new : MachineState) → due_entry mid.pool at pass ≡ None → (answered : Reply) → Responds pass who at request mid new answered →
       IsOwnPoint start pass old.log new.log who moment ahead request answered
   settled_point new none answered a =
       record {

@@ -4,7 +4,7 @@ ghost use Rattle.swarm_model.specs.Fits.{fits};
 ghost use Rattle.swarm_model.specs.Answers.{answer};
 ghost use Rattle.swarm_model.specs.Deadlines.{due_entry};
 ghost use Rattle.swarm_model.specs.Effects.{opening};
-ghost use Rattle.swarm_model.specs.Kept.{IsHistory};
+ghost use Rattle.swarm_model.specs.MachineState.{IsHistory};
 ghost use Rattle.swarm_model.specs.Points.{LacksRoom, is_ahead};
 ghost use Rattle.swarm_history.specs.Doors.{is_log_full};
 ghost use Rattle.swarm_history.specs.Settling.{Stays, Responds, IsOwnPoint, IsOwnStop};

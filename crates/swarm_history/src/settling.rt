@@ -2,7 +2,7 @@ ghost use Rattle.std.specs.Prelude.{◌≡◌, ◌≤◌, ◌<◌, ◌^◌, ◌�
 ghost use Rattle.std.specs.Bool.{OnTrue};
 ghost use Rattle.swarm_model.specs.Deadlines.{due_entry};
 ghost use Rattle.swarm_model.specs.History.{MayFollow, has_room};
-ghost use Rattle.swarm_model.specs.Kept.{IsHistory};
+ghost use Rattle.swarm_model.specs.MachineState.{IsHistory};
 ghost use Rattle.swarm_model.specs.Points.{LacksRoom};
 ghost use Rattle.swarm_history.specs.Doors.{is_log_full};
 ghost use Rattle.swarm_history.specs.Settling.{Stays, Adds, Settles};

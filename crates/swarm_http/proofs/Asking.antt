@@ -3,7 +3,7 @@ use Rattle.std.proofs.Common.{◌≡◌, ℕ, true, false, List, refl, ap, ◌�
 use Rattle.httparse.specs.Grammar.{RequestHead}
 use Rattle.request_head.specs.declared.method.Method.{Method}
 use Rattle.request_head.specs.declared.method.Method.TheVariants.{Get, Post, Put, Other}
-use Rattle.request_head.specs.Says.{method_of, caller_of, after_of}
+use Rattle.request_head.specs.HeadFields.{method_of, caller_of, after_of}
 use Rattle.swarm_model.specs.declared.pool_settings.Settings.{Settings}
 use Rattle.swarm_model.specs.declared.rule.Rule.{Rule}
 use Rattle.swarm_model.specs.declared.rule.Rule.TheVariants as rule
@@ -16,15 +16,15 @@ use Rattle.swarm_history.specs.declared.door.CallFault.{CallFault}
 use Rattle.swarm_history.specs.Doors.{Logs, Elsewhere, IsPoolCall, Writer}
 use Rattle.request_head.specs.declared.after.After.{After}
 use Rattle.std.specs.Prelude.{IsSomeAnd, slice_get}
-use Rattle.swarm_http.specs.declared.reply.Shown.{Shown}
-use Rattle.swarm_http.specs.Meanings.{then, routed, with_front, meant_by, meaning, is_post, front_of}
-use Rattle.swarm_http.specs.Outcomes.{early, unheld, IsCalled}
-use Rattle.swarm_http.specs.Shown.{refusal}
+use Rattle.swarm_http.specs.declared.reply.ReplyBytes.{ReplyBytes}
+use Rattle.swarm_http.specs.Requests.{then, routed, with_front, caller_request_of, request_of, is_post, front_of}
+use Rattle.swarm_http.specs.Outcomes.{rejected, no_body_memory, IsCalled}
+use Rattle.swarm_http.specs.Replies.{refusal}
 use Rattle.swarm_http.specs.Sends.{text_of}
 use Rattle.swarm_http.specs.Steps.{Answers, IsEarly, told, untold}
 use Rattle.swarm_http.proofs.Serving.{HandsIn-nil}
 
-pub no_route : (settings : Settings) (head : RequestHead) (body : List ℕ) → route_of head.target ≡ None → meaning settings head body ≡ Err rule.NoRoute
+pub no_route : (settings : Settings) (head : RequestHead) (body : List ℕ) → route_of head.target ≡ None → request_of settings head body ≡ Err rule.NoRoute
 no_route settings head body e = rw e refl
 
 not_posted : (route : Route) (method : Method) → is_post method ≡ false → routed (Some route) method ≡ Err rule.BadMethod
@@ -40,45 +40,45 @@ posted route Put e = absurd (cc)
 posted route Other e = absurd (cc)
 
 pub bad_method : (settings : Settings) (head : RequestHead) (body : List ℕ) (route : Route) → route_of head.target ≡ Some route → is_post (method_of head) ≡ false
-    → meaning settings head body ≡ Err rule.BadMethod
+    → request_of settings head body ≡ Err rule.BadMethod
 bad_method settings head body route e m = rw (e, not_posted route (method_of head) m) refl
 
 pub no_caller : (settings : Settings) (head : RequestHead) (body : List ℕ) (route : Route) → route_of head.target ≡ Some route → is_post (method_of head) ≡ true
-    → caller_of head ≡ None → meaning settings head body ≡ Err rule.NoCaller
+    → caller_of head ≡ None → request_of settings head body ≡ Err rule.NoCaller
 no_caller settings head body route e m c = rw (e, posted route (method_of head) m, c) refl
 
 -- the body is what is left to look at
 pub body_left : (settings : Settings) (head : RequestHead) (body : List ℕ) (route : Route) (who : List ℕ) → route_of head.target ≡ Some route → is_post (method_of head) ≡ true
-    → caller_of head ≡ Some who → meaning settings head body ≡ then (with_front (after_of head) (asked_of settings route body)) (meant_by who)
+    → caller_of head ≡ Some who → request_of settings head body ≡ then (with_front (after_of head) (asked_of settings route body)) (caller_request_of who)
 body_left settings head body route who e m c = rw (e, posted route (method_of head) m, c) refl
 
 -- a body that asks something
 pub body_asks : (settings : Settings) (head : RequestHead) (body items : List ℕ) (route : Route) (who : List ℕ) (after : After) (asked : Asked) → route_of head.target ≡ Some route → is_post (method_of head) ≡ true
-    → caller_of head ≡ Some who → after ≡ after_of head → items ≡ body → with_front after (asked_of settings route items) ≡ Ok asked → meaning settings head body ≡ meant_by who asked
+    → caller_of head ≡ Some who → after ≡ after_of head → items ≡ body → with_front after (asked_of settings route items) ≡ Ok asked → request_of settings head body ≡ caller_request_of who asked
 body_asks settings head body items route who after asked e m c same is asks =
-    body_left settings head body route who e m c ∙ ap (λ (r : Result Asked Rule). then r (meant_by who)) (rw (same, is) at asks)
+    body_left settings head body route who e m c ∙ ap (λ (r : Result Asked Rule). then r (caller_request_of who)) (rw (same, is) at asks)
 
 -- a request that was refused before any call
-pub refused_early : (settings : Settings) (writer : Writer) (head : RequestHead) (body : List ℕ) (a : ℕ → Option (List ℕ)) (old : Logs) (shown : Shown) (why : Rule)
-    → meaning settings head body ≡ Err why → text_of shown ≡ refusal None why → Answers settings writer head body a a old old shown
+pub refused_early : (settings : Settings) (writer : Writer) (head : RequestHead) (body : List ℕ) (a : ℕ → Option (List ℕ)) (old : Logs) (shown : ReplyBytes) (why : Rule)
+    → request_of settings head body ≡ Err why → text_of shown ≡ refusal None why → Answers settings writer head body a a old old shown
 refused_early settings writer head body a old shown why means text =
-    record { outcome = early why; acts = (means, refl); moments = HandsIn-nil a; shown = text }
+    record { outcome = rejected why; acts = (means, refl); moments = HandsIn-nil a; shown = text }
 
 -- a request for which there was no memory
-pub not_held : (settings : Settings) (writer : Writer) (head : RequestHead) (body : List ℕ) (a : ℕ → Option (List ℕ)) (old : Logs) (shown : Shown)
+pub not_held : (settings : Settings) (writer : Writer) (head : RequestHead) (body : List ℕ) (a : ℕ → Option (List ℕ)) (old : Logs) (shown : ReplyBytes)
     → text_of shown ≡ refusal None rule.WantOfMemory → Answers settings writer head body a a old old shown
-not_held settings writer head body a old shown text = record { outcome = unheld; acts = refl; moments = HandsIn-nil a; shown = text }
+not_held settings writer head body a old shown text = record { outcome = no_body_memory; acts = refl; moments = HandsIn-nil a; shown = text }
 
 -- a body that was refused
-pub body_refused : (settings : Settings) (writer : Writer) (head : RequestHead) (body who : List ℕ) (a : ℕ → Option (List ℕ)) (old : Logs) (shown : Shown) (asked : Result Asked Rule)
-    → meaning settings head body ≡ then asked (meant_by who) → IsEarly shown asked → Answers settings writer head body a a old old shown
+pub body_refused : (settings : Settings) (writer : Writer) (head : RequestHead) (body who : List ℕ) (a : ℕ → Option (List ℕ)) (old : Logs) (shown : ReplyBytes) (asked : Result Asked Rule)
+    → request_of settings head body ≡ then asked (caller_request_of who) → IsEarly shown asked → Answers settings writer head body a a old old shown
 body_refused settings writer head body who a old shown asked means (told why e text) =
-    refused_early settings writer head body a old shown why (means ∙ ap (λ (r : Result Asked Rule). then r (meant_by who)) e) text
+    refused_early settings writer head body a old shown why (means ∙ ap (λ (r : Result Asked Rule). then r (caller_request_of who)) e) text
 body_refused settings writer head body who a old shown asked means (untold text) = not_held settings writer head body a old shown text
 
 -- the pool of a request was called for it
 pub is_called : (settings : Settings) (writer : Writer) (head : RequestHead) (body who : List ℕ) (asked : Asked) (moment : ℕ) (after : After) (front : Option ℕ) (result : Result Answered CallFault) (old new : Logs)
-    → after ≡ after_of head → front ≡ front_of after → meaning settings head body ≡ meant_by who asked
+    → after ≡ after_of head → front ≡ front_of after → request_of settings head body ≡ caller_request_of who asked
     → IsSomeAnd (slice_get settings.pools asked.place) (λ pool. IsPoolCall pool writer asked.place (old asked.place) (new asked.place) who moment front asked.request result)
     → Elsewhere asked.place old new → IsCalled settings writer head body (record { who = who; asked = asked }) moment result old new
 is_called settings writer head body who asked moment after front result old new same seen means call elsewhere = record {

@@ -13,20 +13,20 @@ use Rattle.link_reader.specs.Bodies.{IsWhole, IsCut}
 use Rattle.request_head.specs.Heads.{IsHead, IsNoHead}
 use Rattle.request_head.specs.Fields.{lacks}
 use Rattle.request_head.specs.Numbers.{is_broken, value_or_zero}
-use Rattle.request_head.specs.Says.{bad, length_required, too_large, head_refusal, size_of, limit_at, fields_of, length_told, wants_length, method_named}
+use Rattle.request_head.specs.HeadFields.{bad, length_required, too_large, head_refusal, size_of, limit_at, fields_of, length_told, wants_length, method_named}
 use Rattle.request_head.specs.Judging.{IsJudgedHead}
-use Rattle.request_head.specs.declared.judged.Judged.TheVariants as judged
+use Rattle.request_head.specs.declared.head_check.HeadCheck.TheVariants as head_check
 use Rattle.swarm_model.specs.declared.rule.Rule.TheVariants as rule
 use Rattle.swarm_http.specs.declared.ended.Ended.{Ended}
 use Rattle.swarm_http.specs.declared.ended.Ended.TheVariants.{Closed, LastAsked, CutShort, BadHead, Retired, ReadFault, WriteFault, Memory}
 use Rattle.swarm_http.specs.declared.reply.Refusal.{Refusal}
 use Rattle.swarm_http.specs.declared.request.Received.{Received}
-use Rattle.swarm_http.specs.declared.request.Taken.{Taken}
-use Rattle.swarm_http.specs.declared.request.Taken.TheVariants as taken
+use Rattle.swarm_http.specs.declared.request.Incoming.{Incoming}
+use Rattle.swarm_http.specs.declared.request.Incoming.TheVariants as taken
 use Rattle.swarm_http.specs.Exchange.{HeadSays}
 use Rattle.swarm_http.specs.Answered.{IsPart, in_body, IsRefused, no_head, by_head}
 use Rattle.swarm_http.specs.Sends.{rule_of}
-use Rattle.swarm_http.specs.Takes.{IsLimit, IsHeld, IsReceived, StopsAs, IsTaken, Takes}
+use Rattle.swarm_http.specs.Takes.{IsLimit, IsHeld, IsReceived, StopsAs, IsIncoming, Takes}
 
 occurs_in_front : (bytes : List ℕ) (n k : ℕ) → n ≤ length bytes → k + 4 ≤ n → OccursAt bytes blank_line k → OccursAt (take n bytes) blank_line k
 occurs_in_front bytes n k le fits at = record {
@@ -84,14 +84,14 @@ part_cut {text = text} {size = size} {head = head} says told cut =
     in_body text cut.front head says cut.input_is (let short : length cut.front < size = cut.short in omega (arith, told))
 
 -- the bytes through the first blank line are no head, or one that says so
-pub bad_refused : (pending : List ℕ) (n : ℕ) → IsHeadEnd pending n → IsNoHead (take n pending) ⊎ IsJudgedHead (take n pending) judged.Bad → IsRefused pending rule.BadHead
+pub bad_refused : (pending : List ℕ) (n : ℕ) → IsHeadEnd pending n → IsNoHead (take n pending) ⊎ IsJudgedHead (take n pending) head_check.Bad → IsRefused pending rule.BadHead
 bad_refused pending n end (inl none) = no_head n refl end none
 bad_refused pending n end (inr h) = by_head n h.head bad refl end h.is_head h.due
 
-pub length_refused : (pending : List ℕ) (n : ℕ) → IsHeadEnd pending n → IsJudgedHead (take n pending) judged.LengthRequired → IsRefused pending rule.LengthRequired
+pub length_refused : (pending : List ℕ) (n : ℕ) → IsHeadEnd pending n → IsJudgedHead (take n pending) head_check.LengthRequired → IsRefused pending rule.LengthRequired
 length_refused pending n end h = by_head n h.head length_required refl end h.is_head h.due
 
-pub size_refused : (pending : List ℕ) (n limit : ℕ) → IsHeadEnd pending n → IsJudgedHead (take n pending) (judged.TooLarge limit) → IsRefused pending (rule.TooLarge limit)
+pub size_refused : (pending : List ℕ) (n limit : ℕ) → IsHeadEnd pending n → IsJudgedHead (take n pending) (head_check.TooLarge limit) → IsRefused pending (rule.TooLarge limit)
 size_refused pending n limit end h = by_head n h.head (too_large limit) refl end h.is_head h.due
 
 refusal_limit : (broken wants fits : Bool) (at limit : ℕ)
@@ -128,18 +128,18 @@ stops_after Retired rest s t u le x = x
 stops_after WriteFault rest s t u le x = x
 stops_after Memory rest s t u le x = x
 
-taken_after : (s t u : LinkState) (input new : List ℕ) (r : Taken) → t.read_faults ≡ s.read_faults → IsTaken t u input new r → IsTaken s u input new r
+taken_after : (s t u : LinkState) (input new : List ℕ) (r : Incoming) → t.read_faults ≡ s.read_faults → IsIncoming t u input new r → IsIncoming s u input new r
 taken_after s t u input new (taken.Asks received) le x = (x.0, x.1 ∙ le)
 taken_after s t u input new (taken.Refuses why) le x = (x.0, x.1, x.2 ∙ le)
 taken_after s t u input new (taken.Ends ended) le x = stops_after ended input s t u le x
 
 -- a request was taken after reads, none of which failed
-pub takes_after : {s t u : LinkState} {a b c : List ℕ} {r : Taken} → Grows s t a b → t.read_faults ≡ s.read_faults → Takes t u b c r → Takes s u a c r
+pub takes_after : {s t u : LinkState} {a b c : List ℕ} {r : Incoming} → Grows s t a b → t.read_faults ≡ s.read_faults → Takes t u b c r → Takes s u a c r
 takes_after {s = s} {t = t} {u = u} {a = a} {b = b} {c = c} {r = r} x well y =
     let same : b ++ y.taken ≡ a ++ (x.taken ++ y.taken) = ap (λ l. l ++ y.taken) x.grown ∙ append_assoc a x.taken y.taken in
     record {
       taken = x.taken ++ y.taken;
       moves = Moves-trans x.moves y.moves;
       output = SameOutput-trans x.output y.output;
-      outcome = subst (λ input. IsTaken s u input c r) same (taken_after s t u (b ++ y.taken) c r well y.outcome);
+      outcome = subst (λ input. IsIncoming s u input c r) same (taken_after s t u (b ++ y.taken) c r well y.outcome);
     }

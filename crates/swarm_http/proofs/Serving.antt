@@ -6,7 +6,7 @@ use Rattle.std.specs.Io.KnownBytes.{Consumes}
 use Rattle.std.proofs.KnownBytes.{Consumes-nil, Consumes-trans}
 use Rattle.std.proofs.lemmas.List.Concat.{flat_map-append}
 use Rattle.httparse.specs.Grammar.{RequestHead}
-use Rattle.request_head.specs.Says.{size_of}
+use Rattle.request_head.specs.HeadFields.{size_of}
 use Rattle.sw_base.specs.Clock.{HandsIn}
 use Rattle.sw_base.specs.Faults.{Rose}
 use Rattle.sw_base.specs.Link.{LinkState, IsClean, Moves, NoFault}
@@ -16,12 +16,12 @@ use Rattle.swarm_history.specs.Doors.{Logs, DoorState, Writer}
 use Rattle.swarm_http.specs.declared.ended.Ended.{Ended}
 use Rattle.swarm_http.specs.declared.ended.Ended.TheVariants.{Closed, LastAsked, CutShort, BadHead, Retired, ReadFault, WriteFault, Memory}
 use Rattle.swarm_http.specs.declared.reply.Refusal.{Refusal}
-use Rattle.swarm_http.specs.declared.reply.Shown.{Shown}
+use Rattle.swarm_http.specs.declared.reply.ReplyBytes.{ReplyBytes}
 use Rattle.swarm_http.specs.declared.request.Received.{Received}
-use Rattle.swarm_http.specs.declared.request.Taken.TheVariants as taken
-use Rattle.swarm_http.specs.Shown.{refusal}
+use Rattle.swarm_http.specs.declared.request.Incoming.TheVariants as taken
+use Rattle.swarm_http.specs.Replies.{refusal}
 use Rattle.swarm_http.specs.Outcomes.{Outcome, Acts, shows, uses}
-use Rattle.swarm_http.specs.Exchange.{Exchange, HeadSays, spelled, reply_of, moments_of, Chain}
+use Rattle.swarm_http.specs.Exchange.{Exchange, HeadSays, request_bytes, reply_of, moments_of, Chain}
 use Rattle.swarm_http.specs.Answered.{replies, Serves, NoneCloses, IsOpenStill, IsCutReply, last_reply, refused_head, EndsAs, EndsAtFault, IsAnswered, KeepsDoor}
 use Rattle.swarm_http.specs.Sends.{Sends, rule_of, text_of}
 use Rattle.swarm_http.specs.Takes.{IsHeld, StopsAs, Takes, ReadsWell}
@@ -51,9 +51,9 @@ Serves-trans {settings = settings} {writer = writer} {xs = xs} {ys = ys} {pendin
   taken = x.taken ++ y.taken;
   moves = Moves-trans x.moves y.moves;
   input_is =
-      sym (append_assoc pending x.taken y.taken) ∙ ap (λ l. l ++ y.taken) x.input_is ∙ append_assoc (flat_map spelled xs) mid y.taken
-      ∙ ap (λ l. flat_map spelled xs ++ l) y.input_is ∙ sym (append_assoc (flat_map spelled xs) (flat_map spelled ys) rest)
-      ∙ ap (λ l. l ++ rest) (sym (flat_map-append spelled xs ys));
+      sym (append_assoc pending x.taken y.taken) ∙ ap (λ l. l ++ y.taken) x.input_is ∙ append_assoc (flat_map request_bytes xs) mid y.taken
+      ∙ ap (λ l. flat_map request_bytes xs ++ l) y.input_is ∙ sym (append_assoc (flat_map request_bytes xs) (flat_map request_bytes ys) rest)
+      ∙ ap (λ l. l ++ rest) (sym (flat_map-append request_bytes xs ys));
   moments = subst (HandsIn a c) (sym (flat_map-append moments_of xs ys)) (HandsIn-trans a b c (flat_map moments_of xs) (flat_map moments_of ys) x.moments y.moments);
   chain = Chain-append settings writer d e f xs ys x.chain y.chain;
 }
@@ -134,10 +134,10 @@ no_faults : {ended : Ended} {s t : LinkState} → t.read_faults ≡ s.read_fault
 no_faults reads writes clean = record { reads = λ n. reads; writes = λ n. writes; clean = λ n. clean }
 
 -- a request was taken, answered and its reply written
-pub goes_on : {settings : Settings} {writer : Writer} {pending rest : List ℕ} {received : Received} {shown : Shown} {T E : Type 0} {r : Result T E} {s t u : LinkState} {a b : ℕ → Option (List ℕ)} {d e : Logs}
+pub goes_on : {settings : Settings} {writer : Writer} {pending rest : List ℕ} {received : Received} {shown : ReplyBytes} {T E : Type 0} {r : Result T E} {s t u : LinkState} {a b : ℕ → Option (List ℕ)} {d e : Logs}
     → Takes s t pending rest (taken.Asks received)
     → ((body : List ℕ) (head : RequestHead) → IsHeld received body head → Answers settings writer head body a b d e shown)
-    → (w : Sends t u (text_of shown) r) → w.back ≡ [] → u.write_faults ≡ t.write_faults → IsClean u → received.said.closes ≡ false → GoesOn settings writer pending rest s u a b d e
+    → (w : Sends t u (text_of shown) r) → w.back ≡ [] → u.write_faults ≡ t.write_faults → IsClean u → received.line.closes ≡ false → GoesOn settings writer pending rest s u a b d e
 goes_on {s = s} {u = u} x answers w all well flushed still =
     let q = x.outcome.0 in
     let y = answers q.body q.head q.held in
@@ -147,12 +147,12 @@ goes_on {s = s} {u = u} x answers w all well flushed still =
       x = record { text = q.text; body = q.body; head = q.head; outcome = y.outcome };
       no_fault = record { reads = w.written.input.read_faults ∙ x.outcome.1; writes = well ∙ x.output.write_faults };
       clean = flushed;
-      open_still = sym q.held.said.closes ∙ still;
+      open_still = sym q.held.line.closes ∙ still;
       serves = one_served (subst (Moves s u x.taken) sent (subst (λ l. Moves s u l w.written.sent) (append-nil x.taken) moves)) q.input_is q.says q.size y.acts y.moments;
     }
 
 -- its reply was not written whole
-pub reply_cut : {settings : Settings} {writer : Writer} {pending rest : List ℕ} {received : Received} {shown : Shown} {T E : Type 0} {r : Result T E} {s t u : LinkState} {a b : ℕ → Option (List ℕ)} {d e : Logs}
+pub reply_cut : {settings : Settings} {writer : Writer} {pending rest : List ℕ} {received : Received} {shown : ReplyBytes} {T E : Type 0} {r : Result T E} {s t u : LinkState} {a b : ℕ → Option (List ℕ)} {d e : Logs}
     → Takes s t pending rest (taken.Asks received)
     → ((body : List ℕ) (head : RequestHead) → IsHeld received body head → Answers settings writer head body a b d e shown)
     → Sends t u (text_of shown) r → Rose t.write_faults u.write_faults → Stops settings writer pending s u a b d e WriteFault
@@ -174,10 +174,10 @@ reply_cut {rest = rest} {s = s} {u = u} x answers w rose =
     }
 
 -- its reply was the last
-pub asked_last : {settings : Settings} {writer : Writer} {pending rest : List ℕ} {received : Received} {shown : Shown} {T E : Type 0} {r : Result T E} {s t u : LinkState} {a b : ℕ → Option (List ℕ)} {d e : Logs}
+pub asked_last : {settings : Settings} {writer : Writer} {pending rest : List ℕ} {received : Received} {shown : ReplyBytes} {T E : Type 0} {r : Result T E} {s t u : LinkState} {a b : ℕ → Option (List ℕ)} {d e : Logs}
     → Takes s t pending rest (taken.Asks received)
     → ((body : List ℕ) (head : RequestHead) → IsHeld received body head → Answers settings writer head body a b d e shown)
-    → (w : Sends t u (text_of shown) r) → w.back ≡ [] → u.write_faults ≡ t.write_faults → IsClean u → received.said.closes ≡ true → Stops settings writer pending s u a b d e LastAsked
+    → (w : Sends t u (text_of shown) r) → w.back ≡ [] → u.write_faults ≡ t.write_faults → IsClean u → received.line.closes ≡ true → Stops settings writer pending s u a b d e LastAsked
 asked_last {rest = rest} {s = s} {u = u} x answers w all well flushed closing =
     let q = x.outcome.0 in
     let y = answers q.body q.head q.held in
@@ -189,7 +189,7 @@ asked_last {rest = rest} {s = s} {u = u} x answers w all well flushed closing =
       rest = rest;
       sent = w.written.sent;
       serves = one_served (subst (λ l. Moves s u l w.written.sent) (append-nil x.taken) moves) q.input_is q.says q.size y.acts y.moments;
-      ends = (record { earlier = []; last = one; are = refl; open_before = tt; closing = sym q.held.said.closes ∙ closing }, sent ∙ sym (append-nil (shows y.outcome)));
+      ends = (record { earlier = []; last = one; are = refl; open_before = tt; closing = sym q.held.line.closes ∙ closing }, sent ∙ sym (append-nil (shows y.outcome)));
       few = omega arith;
       faults = no_faults (w.written.input.read_faults ∙ x.outcome.1) (well ∙ x.output.write_faults) flushed;
       not_retired = λ h. cc;

@@ -7,8 +7,8 @@ use Rattle.swarm_model.specs.declared.rule.Rule.TheVariants as rule
 use Rattle.swarm_model.specs.declared.rule.Unbuilt.TheVariants as unbuilt
 use Rattle.reply_bodies.specs.Bodies.{body_of}
 use Rattle.swarm_model.specs.declared.reply.Reply.TheVariants as reply
-use Rattle.swarm_http.specs.Meanings.{broken_front}
-use Rattle.swarm_http.specs.Shown.{head_with, reply_text, shown, refusal}
+use Rattle.swarm_http.specs.Requests.{broken_front}
+use Rattle.swarm_http.specs.Replies.{head_with, reply_text, shown, refusal}
 
 pub bad_head : refusal None rule.BadHead ≡ codes "HTTP/1.1 400 Bad Request\r\nContent-Length: 19\r\nContent-Type: application/json\r\n\r\n{\"code\":\"bad_head\"}"
 unfolding refusal shown reply_text head_with body_of digits escape_byte

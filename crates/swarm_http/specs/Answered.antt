@@ -8,15 +8,15 @@ use Rattle.sw_base.specs.Faults.{Rose}
 use Rattle.sw_base.specs.Link.{LinkState, IsClean, Moves}
 use Rattle.link_reader.specs.Heads.{IsHeadEnd, IsOpen, IsTooLong}
 use Rattle.request_head.specs.Heads.{IsHead, IsNoHead}
-use Rattle.request_head.specs.Says.{HeadRefusal, bad, length_required, too_large, head_refusal, size_of}
+use Rattle.request_head.specs.HeadFields.{HeadRefusal, bad, length_required, too_large, head_refusal, size_of}
 use Rattle.swarm_model.specs.declared.pool_settings.Settings.{Settings}
 use Rattle.swarm_model.specs.declared.rule.Rule.{Rule}
 use Rattle.swarm_model.specs.declared.rule.Rule.TheVariants as rule
 use Rattle.swarm_history.specs.Doors.{Logs, DoorState, Writer}
 use Rattle.swarm_http.specs.declared.ended.Ended.{Ended}
 use Rattle.swarm_http.specs.declared.ended.Ended.TheVariants.{Closed, LastAsked, CutShort, BadHead, Retired, ReadFault, WriteFault, Memory}
-use Rattle.swarm_http.specs.Shown.{refusal}
-use Rattle.swarm_http.specs.Exchange.{Exchange, spelled, reply_of, moments_of, closes, HeadSays, Chain}
+use Rattle.swarm_http.specs.Replies.{refusal}
+use Rattle.swarm_http.specs.Exchange.{Exchange, request_bytes, reply_of, moments_of, closes, HeadSays, Chain}
 
 -- the replies, one after another
 abbrev pub replies : List Exchange → List ℕ
@@ -27,7 +27,7 @@ replies xs = flat_map reply_of xs
 pub record Serves (settings : Settings) (writer : Writer) (xs : List Exchange) (pending rest sent : List ℕ) (s t : LinkState) (a b : ℕ → Option (List ℕ)) (old new : Logs) : Type 0 where
   pub taken : List ℕ
   pub moves : Moves s t taken sent
-  pub input_is : pending ++ taken ≡ flat_map spelled xs ++ rest
+  pub input_is : pending ++ taken ≡ flat_map request_bytes xs ++ rest
   pub moments : HandsIn a b (flat_map moments_of xs)
   pub chain : Chain settings writer old xs new
 

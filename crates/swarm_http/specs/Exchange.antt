@@ -3,7 +3,7 @@ use Rattle.std.specs.Prelude.{◌≡◌, ℕ, Bool, ◌≤◌, List, [], ◌∷�
 use Rattle.httparse.specs.Grammar.{RequestHead}
 use Rattle.link_reader.specs.Heads.{IsHeadEnd}
 use Rattle.request_head.specs.Heads.{IsHead}
-use Rattle.request_head.specs.Says.{head_refusal, size_of, closes_of}
+use Rattle.request_head.specs.HeadFields.{head_refusal, size_of, closes_of}
 use Rattle.swarm_model.specs.declared.pool_settings.Settings.{Settings}
 use Rattle.swarm_history.specs.Doors.{Logs, Writer}
 use Rattle.swarm_http.specs.Outcomes.{Outcome, Acts, shows, uses}
@@ -16,8 +16,8 @@ pub record Exchange : Type 0 where
   pub outcome : Outcome
 
 -- the bytes of the request
-abbrev pub spelled : Exchange → List ℕ
-spelled x = x.text ++ x.body
+abbrev pub request_bytes : Exchange → List ℕ
+request_bytes x = x.text ++ x.body
 
 -- the bytes of its reply
 abbrev pub reply_of : Exchange → List ℕ

@@ -1,5 +1,5 @@
-pub mod Shown
-pub mod Meanings
+pub mod Replies
+pub mod Requests
 pub mod Outcomes
 pub mod Exchange
 pub mod Answered

@@ -7,10 +7,10 @@ use Rattle.swarm_model.specs.declared.rule.Rule.TheVariants as rule
 use Rattle.swarm_model.specs.declared.rule.Unbuilt.TheVariants as unbuilt
 use Rattle.swarm_http.specs.declared.reply.Refusal.{Refusal}
 use Rattle.swarm_http.specs.declared.reply.Refusal.TheVariants.{BadHead, LengthRequired, BodyTooLarge, BlobTooLarge, NoRoute, BadMethod, BadJson, FrontBroken, NoCaller, NoPool, NoTask, TaskNotBuilt, UpdateNotBuilt, LogFull, WantOfMemory}
-use Rattle.swarm_http.specs.declared.reply.Shown.{Shown}
-use Rattle.swarm_http.specs.declared.reply.Shown.TheVariants as shown
-use Rattle.swarm_http.specs.Meanings.{broken_front}
-use Rattle.swarm_http.specs.Shown.{refusal}
+use Rattle.swarm_http.specs.declared.reply.ReplyBytes.{ReplyBytes}
+use Rattle.swarm_http.specs.declared.reply.ReplyBytes.TheVariants as shown
+use Rattle.swarm_http.specs.Requests.{broken_front}
+use Rattle.swarm_http.specs.Replies.{refusal}
 
 -- so much of the text was written, and this is left
 pub record Written (s t : LinkState) (text back : List ℕ) : Type 0 where
@@ -45,7 +45,7 @@ rule_of LogFull = rule.LogFull
 rule_of WantOfMemory = rule.WantOfMemory
 
 -- the bytes of a reply that is ready to be written
-abbrev pub text_of : Shown → List ℕ
+abbrev pub text_of : ReplyBytes → List ℕ
 text_of (shown.Refused why) = refusal None (rule_of why)
 text_of (shown.Whole text) = text.items
 text_of (shown.WantOfMemoryAt front) = refusal (Some front) rule.WantOfMemory

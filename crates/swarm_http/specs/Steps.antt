@@ -8,26 +8,26 @@ use Rattle.swarm_http.specs.declared.ended.Ended.{Ended}
 use Rattle.swarm_http.specs.declared.ended.Ended.TheVariants.{Retired, Memory}
 use Rattle.swarm_http.specs.declared.connection.Step.{Step}
 use Rattle.swarm_http.specs.declared.connection.Step.TheVariants.{Next, End}
-use Rattle.swarm_http.specs.declared.reply.Shown.{Shown}
+use Rattle.swarm_http.specs.declared.reply.ReplyBytes.{ReplyBytes}
 use Rattle.swarm_http.specs.Outcomes.{Outcome, Acts, shows, uses}
 use Rattle.swarm_http.specs.Exchange.{Exchange, reply_of, closes}
 use Rattle.httparse.specs.Grammar.{RequestHead}
 use Rattle.swarm_http.specs.Answered.{Serves, EndsAs, EndsAtFault}
-use Rattle.swarm_http.specs.Shown.{refusal}
+use Rattle.swarm_http.specs.Replies.{refusal}
 use Rattle.swarm_http.specs.Sends.{text_of}
 use Rattle.swarm_wire.specs.declared.asked.Asked.{Asked}
 use Rattle.swarm_model.specs.declared.rule.Rule.{Rule}
 use Rattle.swarm_model.specs.declared.rule.Rule.TheVariants as rule
 
 -- a request with this head and body has the reply
-pub record Answers (settings : Settings) (writer : Writer) (head : RequestHead) (body : List ℕ) (a b : ℕ → Option (List ℕ)) (old new : Logs) (result : Shown) : Type 0 where
+pub record Answers (settings : Settings) (writer : Writer) (head : RequestHead) (body : List ℕ) (a b : ℕ → Option (List ℕ)) (old new : Logs) (result : ReplyBytes) : Type 0 where
   pub outcome : Outcome
   pub acts : Acts settings writer head body outcome old new
   pub moments : HandsIn a b (uses outcome)
   pub shown : text_of result ≡ shows outcome
 
 -- the refusal is written that was to be told, or that of want of memory
-pub data IsEarly (shown : Shown) (asked : Result Asked Rule) : Type 0 where
+pub data IsEarly (shown : ReplyBytes) (asked : Result Asked Rule) : Type 0 where
   told : (why : Rule) → asked ≡ Err why → text_of shown ≡ refusal None why → IsEarly shown asked
   untold : text_of shown ≡ refusal None rule.WantOfMemory → IsEarly shown asked
 

@@ -6,14 +6,14 @@ use Rattle.sw_base.specs.Link.{LinkState, Moves, SameOutput}
 use Rattle.swarm_http.specs.declared.ended.Ended.{Ended}
 use Rattle.swarm_http.specs.declared.ended.Ended.TheVariants.{Closed, LastAsked, CutShort, BadHead, Retired, ReadFault, WriteFault, Memory}
 use Rattle.httparse.specs.Grammar.{RequestHead}
-use Rattle.request_head.specs.Says.{method_of, size_of, closes_of, caller_of, after_of}
+use Rattle.request_head.specs.HeadFields.{method_of, size_of, closes_of, caller_of, after_of}
 use Rattle.swarm_wire.specs.Routes.{route_of}
-use Rattle.swarm_http.specs.declared.request.Who.{Who}
-use Rattle.swarm_http.specs.declared.request.Who.TheVariants.{Unnamed, Named, Unheld}
-use Rattle.swarm_http.specs.declared.request.Said.{Said}
+use Rattle.swarm_http.specs.declared.request.Caller.{Caller}
+use Rattle.swarm_http.specs.declared.request.Caller.TheVariants.{Unnamed, Named, NoMemory}
+use Rattle.swarm_http.specs.declared.request.RequestLine.{RequestLine}
 use Rattle.swarm_http.specs.declared.request.Received.{Received}
-use Rattle.swarm_http.specs.declared.request.Taken.{Taken}
-use Rattle.swarm_http.specs.declared.request.Taken.TheVariants as taken
+use Rattle.swarm_http.specs.declared.request.Incoming.{Incoming}
+use Rattle.swarm_http.specs.declared.request.Incoming.TheVariants as taken
 use Rattle.swarm_http.specs.Exchange.{HeadSays}
 use Rattle.swarm_http.specs.Answered.{IsPart, IsRefused}
 use Rattle.swarm_http.specs.Sends.{rule_of}
@@ -34,18 +34,18 @@ StopsAs WriteFault rest s t = ⊥
 StopsAs Memory rest s t = ⊥
 
 -- the caller that is held, as far as there was memory for it
-abbrev pub IsWho : Who → Option (List ℕ) → Type 0
-IsWho Unnamed who = who ≡ None
-IsWho (Named text) who = who ≡ Some text
-IsWho Unheld who = ⊤
+abbrev pub IsCaller : Caller → Option (List ℕ) → Type 0
+IsCaller Unnamed who = who ≡ None
+IsCaller (Named text) who = who ≡ Some text
+IsCaller NoMemory who = ⊤
 
 -- what is held of a head is what it says
-pub record IsSaid (said : Said) (head : RequestHead) : Type 0 where
-  pub route : said.route ≡ route_of head.target
-  pub method : said.method ≡ method_of head
-  pub who : IsWho said.who (caller_of head)
-  pub after : said.after ≡ after_of head
-  pub closes : said.closes ≡ closes_of head
+pub record IsRequestLine (line : RequestLine) (head : RequestHead) : Type 0 where
+  pub route : line.route ≡ route_of head.target
+  pub method : line.method ≡ method_of head
+  pub who : IsCaller line.who (caller_of head)
+  pub after : line.after ≡ after_of head
+  pub closes : line.closes ≡ closes_of head
 
 -- a limit on the size of a body
 abbrev pub IsLimit : ℕ → Type 0
@@ -53,7 +53,7 @@ IsLimit limit = (limit ≡ 65536) ⊎ (limit ≡ 16777216)
 
 -- what is held of a request is what its head says, and its body
 pub record IsHeld (received : Received) (body : List ℕ) (head : RequestHead) : Type 0 where
-  pub said : IsSaid received.said head
+  pub line : IsRequestLine received.line head
   pub body_is : IfSome received.body (λ v. v.items ≡ body)
 
 -- the input is one request and a rest
@@ -67,14 +67,14 @@ pub record IsReceived (received : Received) (input rest : List ℕ) : Type 0 whe
   pub held : IsHeld received body head
 
 -- what came of it, with `new` pending after it
-abbrev pub IsTaken : LinkState → LinkState → List ℕ → List ℕ → Taken → Type 0
-IsTaken s t input new (taken.Asks received) = IsReceived received input new × ReadsWell s t
-IsTaken s t input new (taken.Refuses why) = IsRefused new (rule_of why) × (input ≡ new) × ReadsWell s t
-IsTaken s t input new (taken.Ends ended) = StopsAs ended input s t
+abbrev pub IsIncoming : LinkState → LinkState → List ℕ → List ℕ → Incoming → Type 0
+IsIncoming s t input new (taken.Asks received) = IsReceived received input new × ReadsWell s t
+IsIncoming s t input new (taken.Refuses why) = IsRefused new (rule_of why) × (input ≡ new) × ReadsWell s t
+IsIncoming s t input new (taken.Ends ended) = StopsAs ended input s t
 
 -- what was pending and what was taken from the link is the input
-pub record Takes (s t : LinkState) (old new : List ℕ) (result : Taken) : Type 0 where
+pub record Takes (s t : LinkState) (old new : List ℕ) (result : Incoming) : Type 0 where
   pub taken : List ℕ
   pub moves : Moves s t taken []
   pub output : SameOutput s t
-  pub outcome : IsTaken s t (old ++ taken) new result
+  pub outcome : IsIncoming s t (old ++ taken) new result

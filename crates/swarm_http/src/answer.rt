@@ -1,22 +1,22 @@
 //! Answering a request.
 ghost use Rattle.std.specs.Prelude.{◌≡◌, ◌≢◌, ◌<◌, ◌^◌, ℕ, List, Result, Ok, Err, IsTrue, IsSomeAnd, IfOk, IfErr, length, slice_get};
 ghost use Rattle.httparse.specs.Grammar.{RequestHead};
-ghost use Rattle.request_head.specs.Says.{after_of};
+ghost use Rattle.request_head.specs.HeadFields.{after_of};
 ghost use Rattle.swarm_model.specs.declared.rule.Rule.TheVariants as Rule;
 ghost use Rattle.swarm_model.specs.Fits.{fits};
 ghost use Rattle.swarm_model.specs.Settings.{AreOpen};
 ghost use Rattle.swarm_wire.specs.declared.asked.Asked.{Asked};
 ghost use Rattle.swarm_wire.specs.declared.asked.WireFault.{WireFault};
 ghost use Rattle.swarm_wire.specs.Asking.{asked_of};
-ghost use Rattle.swarm_http.specs.Meanings.{front_of, unless_broken, with_front, meant_by, meaning, is_post};
+ghost use Rattle.swarm_http.specs.Requests.{front_of, unless_broken, with_front, caller_request_of, request_of, is_post};
 ghost use Rattle.swarm_http.specs.Outcomes.{stop_rule};
 ghost use Rattle.swarm_http.specs.Sends.{rule_of};
 ghost use Rattle.swarm_http.specs.Takes.{IsHeld};
 ghost use Rattle.swarm_http.specs.Answered.{KeepsDoor};
 ghost use Rattle.swarm_http.specs.Steps.{Answers, IsEarly};
 
-use crate::reply::{Refusal, Shown, field_refusal, whole_reply};
-use crate::request::{Received, Said, Who};
+use crate::reply::{Refusal, ReplyBytes, field_refusal, whole_reply};
+use crate::request::{Caller, Received, RequestLine};
 use dimensions::Text;
 use request_head::{After, Method};
 use std::alloc::Global;
@@ -59,12 +59,12 @@ fn call_door<D: Door, C: Clock>(
     asked: &Asked,
     door: &mut D,
     clock: &mut C,
-) -> Shown
+) -> ReplyBytes
     requires low { asked.now.place < 4 }
     requires place { asked.now.place < length (D.state door.old).settings.pools }
     requires fits { IsSomeAnd (slice_get (D.state door.old).settings.pools asked.now.place) (λ pool. IsTrue (fits pool asked.now.request)) }
     requires calls { (D.state door.old).calls < 2 ^ 40 }
-    ensures answers { (head : RequestHead) (body : List ℕ) → after ≡ after_of head → meaning (D.state door.old).settings head body ≡ meant_by who.now asked.now →
+    ensures answers { (head : RequestHead) (body : List ℕ) → after ≡ after_of head → request_of (D.state door.old).settings head body ≡ caller_request_of who.now asked.now →
         Answers (D.state door.old).settings (D.state door.old).writer head body (C.ahead clock.old) (C.ahead clock.new) (D.state door.old).seen (D.state door.new).seen result }
     ensures door { KeepsDoor 1 (D.state door.old) (D.state door.new) }
 {
@@ -85,9 +85,9 @@ fn call_door<D: Door, C: Clock>(
             &answered.pieces,
         ) {
             Ok(shown) => shown,
-            Err(_) => Shown::WantOfMemoryAt(answered.front),
+            Err(_) => ReplyBytes::WantOfMemoryAt(answered.front),
         },
-        Err(why) => Shown::Refused(stop_refusal(why)),
+        Err(why) => ReplyBytes::Refused(stop_refusal(why)),
     }
 }
 
@@ -110,19 +110,19 @@ fn not_built(what: Unbuilt) -> Refusal
     }
 }
 
-fn shown_fault(alloc: Global, after: After, fault: WireFault) -> Shown
+fn shown_fault(alloc: Global, after: After, fault: WireFault) -> ReplyBytes
     ensures { (asked : Result Asked WireFault) → (fault ≢ WireFault.Memory → asked ≡ Err fault) → IsEarly result (with_front after asked) }
 {
     match fault {
-        WireFault::Memory => Shown::Refused(Refusal::WantOfMemory),
-        WireFault::BadJson => Shown::Refused(Refusal::BadJson),
+        WireFault::Memory => ReplyBytes::Refused(Refusal::WantOfMemory),
+        WireFault::BadJson => ReplyBytes::Refused(Refusal::BadJson),
         WireFault::BadField { field, rule } => match field_refusal(alloc, field, rule) {
             Ok(shown) => shown,
-            Err(_) => Shown::Refused(Refusal::WantOfMemory),
+            Err(_) => ReplyBytes::Refused(Refusal::WantOfMemory),
         },
-        WireFault::NoPool => Shown::Refused(unless_broken(after, Refusal::NoPool)),
-        WireFault::NoTask => Shown::Refused(unless_broken(after, Refusal::NoTask)),
-        WireFault::NotBuilt { what } => Shown::Refused(unless_broken(after, not_built(what))),
+        WireFault::NoPool => ReplyBytes::Refused(unless_broken(after, Refusal::NoPool)),
+        WireFault::NoTask => ReplyBytes::Refused(unless_broken(after, Refusal::NoTask)),
+        WireFault::NotBuilt { what } => ReplyBytes::Refused(unless_broken(after, not_built(what))),
     }
 }
 
@@ -133,7 +133,7 @@ fn read_asked(
     route: Route,
     after: After,
     body: &[u8],
-) -> Result<Asked, Shown>
+) -> Result<Asked, ReplyBytes>
     requires { AreOpen settings.now }
     ensures asks { IfOk result (λ asked. with_front after (asked_of settings.now route body.now) ≡ Ok asked) }
     ensures refused { IfErr result (λ shown. IsEarly shown (with_front after (asked_of settings.now route body.now))) }
@@ -142,7 +142,7 @@ fn read_asked(
 {
     match read_request(alloc, settings, route, body) {
         Ok(asked) => match after {
-            After::Broken => Err(Shown::Refused(Refusal::FrontBroken)),
+            After::Broken => Err(ReplyBytes::Refused(Refusal::FrontBroken)),
             After::Absent | After::Front(_) => Ok(asked),
         },
         Err(fault) => Err(shown_fault(alloc, after, fault)),
@@ -156,7 +156,7 @@ pub fn answer_request<D: Door, C: Clock>(
     received: Received,
     door: &mut D,
     clock: &mut C,
-) -> Shown
+) -> ReplyBytes
     requires settings { (D.state door.old).settings ≡ settings.now }
     requires open { AreOpen settings.now }
     requires calls { (D.state door.old).calls < 2 ^ 40 }
@@ -164,27 +164,27 @@ pub fn answer_request<D: Door, C: Clock>(
         Answers settings.now (D.state door.old).writer head body (C.ahead clock.old) (C.ahead clock.new) (D.state door.old).seen (D.state door.new).seen result }
     ensures door { KeepsDoor 1 (D.state door.old) (D.state door.new) }
 {
-    let Received { said, body } = received;
-    let Said {
+    let Received { line, body } = received;
+    let RequestLine {
         route,
         method,
         who,
         after,
         closes: _,
-    } = said;
+    } = line;
     let Some(route) = route else {
-        return Shown::Refused(Refusal::NoRoute);
+        return ReplyBytes::Refused(Refusal::NoRoute);
     };
     if !is_post(method) {
-        return Shown::Refused(Refusal::BadMethod);
+        return ReplyBytes::Refused(Refusal::BadMethod);
     }
     let who = match who {
-        Who::Named(who) => who,
-        Who::Unnamed => return Shown::Refused(Refusal::NoCaller),
-        Who::Unheld => return Shown::Refused(Refusal::WantOfMemory),
+        Caller::Named(who) => who,
+        Caller::Unnamed => return ReplyBytes::Refused(Refusal::NoCaller),
+        Caller::NoMemory => return ReplyBytes::Refused(Refusal::WantOfMemory),
     };
     let Some(body) = body else {
-        return Shown::Refused(Refusal::WantOfMemory);
+        return ReplyBytes::Refused(Refusal::WantOfMemory);
     };
     match read_asked(alloc, settings, route, after, &body) {
         Ok(asked) => call_door(alloc, &who, after, &asked, door, clock),

@@ -7,8 +7,8 @@ ghost use Rattle.swarm_http.specs.Steps.{IsStep};
 
 use crate::Ended;
 use crate::answer::answer_request;
-use crate::reply::Shown;
-use crate::request::{Taken, take_request};
+use crate::reply::ReplyBytes;
+use crate::request::{Incoming, take_request};
 use crate::send::send_shown;
 use link_reader::Pending;
 use std::alloc::Global;
@@ -42,8 +42,8 @@ fn serve_one<D: Door, L: Link, C: Clock>(
     ensures door { KeepsDoor 1 (D.state door.old) (D.state door.new) }
 {
     match take_request(alloc, pending, link) {
-        Taken::Asks(received) => {
-            let closes = received.said.closes;
+        Incoming::Asks(received) => {
+            let closes = received.line.closes;
             let shown = answer_request(alloc, settings, received, door, clock);
             match send_shown(link, &shown) {
                 Ok(()) if closes => Step::End(Ended::LastAsked),
@@ -51,11 +51,11 @@ fn serve_one<D: Door, L: Link, C: Clock>(
                 Err(_) => Step::End(Ended::WriteFault),
             }
         }
-        Taken::Refuses(why) => match send_shown(link, &Shown::Refused(why)) {
+        Incoming::Refuses(why) => match send_shown(link, &ReplyBytes::Refused(why)) {
             Ok(()) => Step::End(Ended::BadHead),
             Err(_) => Step::End(Ended::WriteFault),
         },
-        Taken::Ends(ended) => Step::End(ended),
+        Incoming::Ends(ended) => Step::End(ended),
     }
 }
 

@@ -1,7 +1,7 @@
 //! The bytes of a reply.
 ghost use Rattle.std.specs.Prelude.{◌≡◌, ◌<◌, ◌++◌, None, Some, IfOk, OnOk, string_bytes};
 ghost use Rattle.http.specs.StatusCode.{IsStatusCode};
-ghost use Rattle.swarm_http.specs.Shown.{refusal_status as spec_refusal_status, status_of as spec_status_of, phrase_of as spec_phrase_of, head_with, reply_text, shown, refusal};
+ghost use Rattle.swarm_http.specs.Replies.{refusal_status as spec_refusal_status, status_of as spec_status_of, phrase_of as spec_phrase_of, head_with, reply_text, shown, refusal};
 ghost use Rattle.swarm_http.specs.Sends.{text_of};
 
 use dimensions::{Seq, Text};
@@ -36,7 +36,7 @@ pub enum Refusal {
 
 /// A reply that is ready to be written.
 #[derive(Drop)]
-pub enum Shown {
+pub enum ReplyBytes {
     Refused(Refusal),
     /// Its head, and its body behind it.
     Whole(Vec<u8>),
@@ -122,7 +122,7 @@ fn phrase_of(status: u16) -> &'static str
 // Room for the head of any reply. A longer one would only have the buffer grow.
 const HEAD_ROOM: usize = 256;
 
-#[tactic(auto, unfolding(crate::specs::Shown::head_with))]
+#[tactic(auto, unfolding(crate::specs::Replies::head_with))]
 fn write_head_with_front(
     text: &mut String,
     status: u16,
@@ -138,7 +138,7 @@ fn write_head_with_front(
     )
 }
 
-#[tactic(auto, unfolding(crate::specs::Shown::head_with))]
+#[tactic(auto, unfolding(crate::specs::Replies::head_with))]
 fn write_head_alone(
     text: &mut String,
     status: u16,
@@ -169,7 +169,7 @@ fn write_head(
 }
 
 // A head and its body in one buffer, whose memory is taken once.
-#[tactic(auto, unfolding(crate::specs::Shown::reply_text))]
+#[tactic(auto, unfolding(crate::specs::Replies::reply_text))]
 fn reply_bytes(
     alloc: Global,
     status: u16,
@@ -188,25 +188,25 @@ fn reply_bytes(
 }
 
 /// A reply of the pool at a place, with the front of its call, if there was one.
-#[tactic(auto, unfolding(crate::specs::Shown::shown))]
+#[tactic(auto, unfolding(crate::specs::Replies::shown))]
 pub fn whole_reply(
     alloc: Global,
     place: u32,
     front: Option<u64>,
     reply: &Reply,
     pieces: &Seq<Seq<u8>>,
-) -> Result<Shown, AllocError>
+) -> Result<ReplyBytes, AllocError>
     requires { place < 4 }
     ensures { IfOk result (λ s. text_of s ≡ shown place front reply.now pieces.now) }
 {
     let body = show_reply(alloc, place, reply, pieces)?;
     let text = reply_bytes(alloc, status_of(reply), front, body.as_slice())?;
-    Ok(Shown::Whole(text))
+    Ok(ReplyBytes::Whole(text))
 }
 
 /// The refusal of a field.
-#[tactic(auto, unfolding(crate::specs::Shown::refusal))]
-pub fn field_refusal(alloc: Global, field: Text, rule: PropRule) -> Result<Shown, AllocError>
+#[tactic(auto, unfolding(crate::specs::Replies::refusal))]
+pub fn field_refusal(alloc: Global, field: Text, rule: PropRule) -> Result<ReplyBytes, AllocError>
     ensures { IfOk result (λ s. text_of s ≡ refusal None (Rule.BadField field rule)) }
 {
     let reply = Reply::No(Rule::BadField { field, rule });

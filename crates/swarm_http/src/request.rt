@@ -3,38 +3,38 @@ ghost use Rattle.std.specs.Prelude.{◌≡◌, ◌≤◌, ℕ, List, length, tak
 ghost use Rattle.httparse.specs.Grammar.{RequestHead};
 ghost use Rattle.sw_base.specs.Link.{IsClean};
 ghost use Rattle.link_reader.specs.Heads.{IsHeadEnd};
-ghost use Rattle.request_head.specs.Says.{size_of};
+ghost use Rattle.request_head.specs.HeadFields.{size_of};
 ghost use Rattle.request_head.specs.Judging.{Says};
 ghost use Rattle.swarm_model.specs.declared.rule.Rule.TheVariants as Rule;
 ghost use Rattle.swarm_http.specs.Sends.{rule_of};
 ghost use Rattle.swarm_http.specs.Exchange.{HeadSays};
-ghost use Rattle.swarm_http.specs.Takes.{IsWho, IsSaid, IsLimit, Takes};
+ghost use Rattle.swarm_http.specs.Takes.{IsCaller, IsRequestLine, IsLimit, Takes};
 
 use crate::Ended;
 use crate::reply::Refusal;
 use dimensions::Text;
 use link_reader::{BodyEnd, HeadEnd, Pending, read_body, read_head};
-use request_head::{After, Head, Judged, Method, judge};
+use request_head::{After, Head, HeadCheck, Method, check_head};
 use std::alloc::Global;
 use sw_base::Link;
 use swarm_wire::{Route, route_of};
 
 /// The caller of a request.
 #[derive(Drop)]
-pub enum Who {
+pub enum Caller {
     /// The head names none, or not just one.
     Unnamed,
     Named(Text),
     /// There was no memory to hold it.
-    Unheld,
+    NoMemory,
 }
 
 /// What a head says that its request's answer needs.
 #[derive(Drop)]
-pub struct Said {
+pub struct RequestLine {
     pub route: Option<Route>,
     pub method: Method,
-    pub who: Who,
+    pub who: Caller,
     pub after: After,
     pub closes: bool,
 }
@@ -42,35 +42,35 @@ pub struct Said {
 /// A request, its body as far as there was memory to hold it.
 #[derive(Drop)]
 pub struct Received {
-    pub said: Said,
+    pub line: RequestLine,
     pub body: Option<Vec<u8>>,
 }
 
 /// What came of taking a request.
 #[derive(Drop)]
-pub enum Taken {
+pub enum Incoming {
     Asks(Received),
     /// Its head is refused.
     Refuses(Refusal),
     Ends(Ended),
 }
 
-fn held_caller(alloc: Global, caller: Option<&str>) -> Who
-    ensures { IsWho result (option_map (λ c. c.now) caller.entry) }
+fn held_caller(alloc: Global, caller: Option<&str>) -> Caller
+    ensures { IsCaller result (option_map (λ c. c.now) caller.entry) }
 {
     match caller {
-        None => Who::Unnamed,
+        None => Caller::Unnamed,
         Some(who) => match Text::from_str(alloc, who) {
-            Ok(text) => Who::Named(text),
-            Err(_) => Who::Unheld,
+            Ok(text) => Caller::Named(text),
+            Err(_) => Caller::NoMemory,
         },
     }
 }
 
-fn said_of(alloc: Global, head: &Head) -> Said
-    ensures { (h : RequestHead) → Says h head.now → IsSaid result h }
+fn request_line_of(alloc: Global, head: &Head) -> RequestLine
+    ensures { (h : RequestHead) → Says h head.now → IsRequestLine result h }
 {
-    Said {
+    RequestLine {
         route: route_of(head.target),
         method: head.method,
         who: held_caller(alloc, head.caller),
@@ -84,23 +84,23 @@ fn take_body<L: Link>(
     alloc: Global,
     n: usize,
     size: u32,
-    said: Said,
+    line: RequestLine,
     pending: &mut Pending,
     link: &mut L,
-) -> Taken
+) -> Incoming
     requires within { n ≤ length pending.old }
-    requires says { (h : RequestHead) × HeadSays (take n pending.old) h × (size ≡ size_of h) × IsSaid said h }
+    requires says { (h : RequestHead) × HeadSays (take n pending.old) h × (size ≡ size_of h) × IsRequestLine line h }
     requires clean { IsClean (L.state link.old) }
     ensures { Takes (L.state link.old) (L.state link.new) pending.old pending.new result }
 {
     match read_body(alloc, pending, n, size as usize, link) {
-        Ok(BodyEnd::Whole(body)) => Taken::Asks(Received {
-            said,
+        Ok(BodyEnd::Whole(body)) => Incoming::Asks(Received {
+            line,
             body: Some(body),
         }),
-        Ok(BodyEnd::Dropped) => Taken::Asks(Received { said, body: None }),
-        Ok(BodyEnd::Ended) => Taken::Ends(Ended::CutShort),
-        Err(_) => Taken::Ends(Ended::ReadFault),
+        Ok(BodyEnd::Dropped) => Incoming::Asks(Received { line, body: None }),
+        Ok(BodyEnd::Ended) => Incoming::Ends(Ended::CutShort),
+        Err(_) => Incoming::Ends(Ended::ReadFault),
     }
 }
 
@@ -116,38 +116,38 @@ fn too_large(limit: u32) -> Refusal
 }
 
 // Takes the request whose head is the first n bytes that are pending.
-fn take_head<L: Link>(alloc: Global, n: usize, pending: &mut Pending, link: &mut L) -> Taken
+fn take_head<L: Link>(alloc: Global, n: usize, pending: &mut Pending, link: &mut L) -> Incoming
     requires end { IsHeadEnd pending.old n }
     requires short { length pending.old ≤ 16384 }
     requires clean { IsClean (L.state link.old) }
     ensures { Takes (L.state link.old) (L.state link.new) pending.old pending.new result }
 {
-    match judge(pending.front(n)) {
-        Judged::Bad => Taken::Refuses(Refusal::BadHead),
-        Judged::LengthRequired => Taken::Refuses(Refusal::LengthRequired),
-        Judged::TooLarge { limit } => Taken::Refuses(too_large(limit)),
-        Judged::Good(head) => {
-            let said = said_of(alloc, &head);
-            take_body(alloc, n, head.size, said, pending, link)
+    match check_head(pending.front(n)) {
+        HeadCheck::Bad => Incoming::Refuses(Refusal::BadHead),
+        HeadCheck::LengthRequired => Incoming::Refuses(Refusal::LengthRequired),
+        HeadCheck::TooLarge { limit } => Incoming::Refuses(too_large(limit)),
+        HeadCheck::Good(head) => {
+            let line = request_line_of(alloc, &head);
+            take_body(alloc, n, head.size, line, pending, link)
         }
     }
 }
 
 /// Takes the next request.
-pub fn take_request<L: Link>(alloc: Global, pending: &mut Pending, link: &mut L) -> Taken
+pub fn take_request<L: Link>(alloc: Global, pending: &mut Pending, link: &mut L) -> Incoming
     requires { IsClean (L.state link.old) }
     ensures { Takes (L.state link.old) (L.state link.new) pending.old pending.new result }
 {
     match read_head(pending, link) {
         Ok(HeadEnd::At(n)) => take_head(alloc, n, pending, link),
-        Ok(HeadEnd::TooLong) => Taken::Refuses(Refusal::BadHead),
+        Ok(HeadEnd::TooLong) => Incoming::Refuses(Refusal::BadHead),
         Ok(HeadEnd::Ended) => {
             if pending.is_empty() {
-                Taken::Ends(Ended::Closed)
+                Incoming::Ends(Ended::Closed)
             } else {
-                Taken::Ends(Ended::CutShort)
+                Incoming::Ends(Ended::CutShort)
             }
         }
-        Err(_) => Taken::Ends(Ended::ReadFault),
+        Err(_) => Incoming::Ends(Ended::ReadFault),
     }
 }

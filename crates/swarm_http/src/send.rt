@@ -2,10 +2,10 @@
 ghost use Rattle.std.specs.Prelude.{◌≡◌, None, Some, OnOk};
 ghost use Rattle.sw_base.specs.Link.{IsClean};
 ghost use Rattle.swarm_model.specs.declared.rule.Rule.TheVariants as rule;
-ghost use Rattle.swarm_http.specs.Shown.{refusal};
+ghost use Rattle.swarm_http.specs.Replies.{refusal};
 ghost use Rattle.swarm_http.specs.Sends.{Sends, rule_of, text_of};
 
-use crate::reply::{Refusal, Shown};
+use crate::reply::{Refusal, ReplyBytes};
 use arrayvec::ArrayString;
 use itoa::Buffer;
 use sw_base::{Failed, Link};
@@ -93,14 +93,14 @@ pub fn send_flushed<L: Link>(link: &mut L, text: &[u8]) -> Result<(), Failed>
 }
 
 /// Writes a reply whole and flushes it, unless a write or the flush fails.
-pub fn send_shown<L: Link>(link: &mut L, shown: &Shown) -> Result<(), Failed>
+pub fn send_shown<L: Link>(link: &mut L, shown: &ReplyBytes) -> Result<(), Failed>
     ensures flushed { OnOk result (IsClean (L.state link.new)) }
     ensures sends { Sends (L.state link.old) (L.state link.new) (text_of shown.now) result }
 {
     match shown {
-        Shown::Refused(why) => send_flushed(link, refusal_bytes(*why)),
-        Shown::Whole(text) => send_flushed(link, text),
-        Shown::WantOfMemoryAt(front) => {
+        ReplyBytes::Refused(why) => send_flushed(link, refusal_bytes(*why)),
+        ReplyBytes::Whole(text) => send_flushed(link, text),
+        ReplyBytes::WantOfMemoryAt(front) => {
             let text = want_of_memory_bytes(*front);
             send_flushed(link, text.as_str().as_bytes())
         }

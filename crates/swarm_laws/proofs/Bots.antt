@@ -20,12 +20,12 @@ use Rattle.swarm_model.specs.declared.entry.EventKind.TheVariants as event
 use Rattle.swarm_model.specs.declared.request.Request.TheVariants as ask
 use Rattle.swarm_model.specs.Finding.{bot_of, blob_of}
 use Rattle.swarm_model.specs.Fits.{fits, fits_bot, fits_message, is_name}
-use Rattle.swarm_model.specs.Effects.{no_of_task, task_after, added_tasks, added_bots, hushed, greeted, polled, busied, heard, noted, streak_after, after, with_blobs, put, put_chunk, place_for, renewed_until, new_blob, life, fresh_chunk, attempt_of}
+use Rattle.swarm_model.specs.Effects.{no_of_task, task_after, added_tasks, added_bots, silent_bot, session_row, polled, assigned_bot, heard, event_effect, streak_after, after, with_blobs, put, put_chunk, place_for, renewed_until, new_blob, life, fresh_chunk, attempt_of}
 use Rattle.swarm_model.specs.History.{MayFollow}
 use Rattle.swarm_model.specs.Soundness.{IsSound, IsSoundBot}
 use Rattle.swarm_laws.proofs.Lists.{Among, each_one, number_within}
-use Rattle.swarm_laws.proofs.Findings.{FindsClaim}
-use Rattle.swarm_laws.proofs.Finds.{IsFitting, finds, fitting}
+use Rattle.swarm_laws.proofs.Preconditions.{FindsClaim}
+use Rattle.swarm_laws.proofs.EntryPreconditions.{IsFitting, finds, fitting}
 use Rattle.swarm_laws.proofs.Rows.{bot_by, bot_is, all_bots, no_fewer, claim_gets, relieved}
 
 -- no entry changes the settings
@@ -102,8 +102,8 @@ module _ (s : PoolState) (e : Entry) (o : IsSound s) (follows : MayFollow s e) w
         record { contact = omega (arith, before, was); streak = sound.streak; known = after_fits x.name x.session x.dims x.quarantined sound.known; has_task = still_task x.task sound.has_task }
 
     -- of a bot that is silent, and whose run is lost
-    hushed_sound : IsSoundBot (after s e) (hushed x)
-    hushed_sound = record { contact = kept_sound.contact; streak = sound.streak; known = kept_sound.known; has_task = tt }
+    silent_bot_sound : IsSoundBot (after s e) (silent_bot x)
+    silent_bot_sound = record { contact = kept_sound.contact; streak = sound.streak; known = kept_sound.known; has_task = tt }
 
     -- of a bot that is marked dead, or terminating
     same_sound : (b : Bool) (term : Bool) → IsSoundBot (after s e) (record x { dead = b; terminating = term })
@@ -129,36 +129,36 @@ module _ (s : PoolState) (e : Entry) (o : IsSound s) (follows : MayFollow s e) w
         }
 
     -- that began a task
-    busied_sound : (b t : ℕ) (id : List ℕ) → FindsClaim s b t id → IsSoundBot (after s e) (busied e.moment t x)
-    busied_sound b t id f =
+    assigned_bot_sound : (b t : ℕ) (id : List ℕ) → FindsClaim s b t id → IsSoundBot (after s e) (assigned_bot e.moment t x)
+    assigned_bot_sound b t id f =
         let named = f.task_named in
         let there = (number_within no_of_task 1 s.tasks o.tasks_numbered f.task (claim_gets s b t id f).among).1 in
         let more = more_tasks in
         record { contact = omega arith; streak = sound.streak; known = kept_sound.known; has_task = omega (arith, named, there, more) }
 
     -- that told of itself
-    noted_sound : (which : EventKind) (text : List ℕ) → fits_message which text ≡ true → IsSoundBot (after s e) (noted e.moment which text x)
-    noted_sound event.Ping text may = heard_sound
-    noted_sound event.Quarantine text may =
+    event_effect_sound : (which : EventKind) (text : List ℕ) → fits_message which text ≡ true → IsSoundBot (after s e) (event_effect e.moment which text x)
+    event_effect_sound event.Ping text may = heard_sound
+    event_effect_sound event.Quarantine text may =
         record {
           contact = omega arith;
           streak = sound.streak;
           known = after_fits x.name x.session x.dims text (told_fits s.settings x.name x.session x.dims x.quarantined text sound.known (and_parts (nat_le 1 (length text)) (nat_le (length text) 256) may).1);
           has_task = kept_sound.has_task;
         }
-    noted_sound event.Unquarantine text may =
+    event_effect_sound event.Unquarantine text may =
         record { contact = omega arith; streak = sound.streak; known = after_fits x.name x.session x.dims [] (told_fits s.settings x.name x.session x.dims x.quarantined [] sound.known refl); has_task = kept_sound.has_task }
 
   -- or that came with a new session
-  greeted_sound : (b : ℕ) (id session : List ℕ) (dims : BotDims) (q : List ℕ) → IsTrue (fits s.settings (ask.Handshake id session dims q)) → IsSoundBot (after s e) (greeted e.moment b id session dims q)
-  greeted_sound b id session dims q may = record { contact = omega arith; streak = omega arith; known = after_fits id session dims q may; has_task = tt }
+  session_row_sound : (b : ℕ) (id session : List ℕ) (dims : BotDims) (q : List ℕ) → IsTrue (fits s.settings (ask.Handshake id session dims q)) → IsSoundBot (after s e) (session_row e.moment b id session dims q)
+  session_row_sound b id session dims q may = record { contact = omega arith; streak = omega arith; known = after_fits id session dims q may; has_task = tt }
 
   -- a row that is added
   added_sound : (k : EntryKind) → IsFitting s k → (x : BotRow) → Among x (added_bots s e.moment k) → IsSoundBot (after s e) x
   added_sound (kind.Handshake b id session dims q) may x a = by_old (bot_of s b) a
     where
-      by_old : (r : Option BotRow) → Among x (option_map_or (λ old. []) r (greeted e.moment b id session dims q ∷ [])) → IsSoundBot (after s e) x
-      by_old None c = each_one (IsSoundBot (after s e)) (greeted e.moment b id session dims q) (greeted_sound b id session dims q may) x c
+      by_old : (r : Option BotRow) → Among x (option_map_or (λ old. []) r (session_row e.moment b id session dims q ∷ [])) → IsSoundBot (after s e) x
+      by_old None c = each_one (IsSoundBot (after s e)) (session_row e.moment b id session dims q) (session_row_sound b id session dims q may) x c
       by_old (Some old) c = elim c [ ]
   added_sound k may x a = elim a [ ]
 
@@ -168,13 +168,13 @@ module _ (s : PoolState) (e : Entry) (o : IsSound s) (follows : MayFollow s e) w
       all_bots (IsSoundBot (after s e)) s e.moment e.kind
       (λ x a. let was = bot_is s o x a in bot_by (IsSoundBot (after s e)) s e.moment o x a (record {
         same = kept_sound x was;
-        hushes = hushed_sound x was;
+        hushes = silent_bot_sound x was;
         dies = same_sound x was true x.terminating;
-        greets = λ b id session dims q is may. greeted_sound b id session dims q may;
+        greets = λ b id session dims q is may. session_row_sound b id session dims q may;
         polls = polled_sound x was;
-        busies = busied_sound x was;
+        busies = assigned_bot_sound x was;
         hears = heard_sound x was;
-        notes = noted_sound x was;
+        notes = event_effect_sound x was;
         rests = relieved_sound x was;
         stops = same_sound x was x.dead true;
       }) e.kind (finds s e follows) (fitting s e follows))

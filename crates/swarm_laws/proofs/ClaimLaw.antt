@@ -16,14 +16,14 @@ use Rattle.swarm_model.specs.declared.entry.EntryKind.TheVariants as kind
 use Rattle.swarm_model.specs.Slices.{waits_for, takes_slice, current_slice}
 use Rattle.swarm_model.specs.Deadlines.{due_entry}
 use Rattle.swarm_model.specs.Entries.{is_deadline}
-use Rattle.swarm_model.specs.Effects.{opening, after, begun, task_after}
+use Rattle.swarm_model.specs.Effects.{opening, after, started_run, task_after}
 use Rattle.swarm_model.specs.History.{replay, IsCaused}
 use Rattle.swarm_model.specs.Soundness.{IsSound, runner}
 use Rattle.swarm_model.specs.Claims.{is_claim_of, is_claim_kind, ComesFirst, IsRightClaim, ClaimsAreRight}
 use Rattle.swarm_laws.proofs.Lists.{Among, Found, all, filter_has}
 use Rattle.swarm_laws.proofs.Earliest.{none_come}
-use Rattle.swarm_laws.proofs.Findings.{Finds, FindsClaim, HasTask, waits}
-use Rattle.swarm_laws.proofs.Finds.{finds, none_due}
+use Rattle.swarm_laws.proofs.Preconditions.{Finds, FindsClaim, HasTask, waits}
+use Rattle.swarm_laws.proofs.EntryPreconditions.{finds, none_due}
 use Rattle.swarm_laws.proofs.Rows.{one_task, find_task, find_bot, claim_gets, claim_waits}
 use Rattle.swarm_laws.proofs.Runs.{idle_bot}
 use Rattle.swarm_laws.proofs.Sound.{sound_after, sound_replay, opening_sound}
@@ -38,8 +38,8 @@ claim_begins s e t (kind.Claim b u id) is f c =
     record {
       row = row;
       among = subst (λ (k : EntryKind). Among (task_after s e.moment k w.task) (after s e).tasks) is (still_among s e w.task w.among);
-      named = cond_both (w.task.no == u) (begun e.moment b id w.task) w.task (λ (y : TaskRow). y.no ≡ t) (λ h. w.named ∙ eqb-true u t c) (λ h. w.named ∙ eqb-true u t c);
-      holds = cond_both (w.task.no == u) (begun e.moment b id w.task) w.task IsPast (λ h. refl) (λ h. absurd (eqb-false w.task.no u h w.named));
+      named = cond_both (w.task.no == u) (started_run e.moment b id w.task) w.task (λ (y : TaskRow). y.no ≡ t) (λ h. w.named ∙ eqb-true u t c) (λ h. w.named ∙ eqb-true u t c);
+      holds = cond_both (w.task.no == u) (started_run e.moment b id w.task) w.task IsPast (λ h. refl) (λ h. absurd (eqb-false w.task.no u h w.named));
     }
 claim_begins s e t k is f c = absurd (cc (c))
 

@@ -15,12 +15,12 @@ use Rattle.swarm_model.specs.declared.entry.Outcome.TheVariants as outcome
 use Rattle.dimensions.specs.Alike.{same}
 use Rattle.swarm_model.specs.Answers.{claimed, is_claim, is_claimed}
 use Rattle.swarm_model.specs.Deadlines.{next_of}
-use Rattle.swarm_model.specs.Effects.{task_after, added_tasks, task_at, begun, moved, killed, closed, new_row, after}
+use Rattle.swarm_model.specs.Effects.{task_after, added_tasks, task_at, started_run, expired_slice, killed, closed, new_row, after}
 use Rattle.swarm_model.specs.History.{MayFollow}
 use Rattle.swarm_model.specs.Soundness.{IsSound, claim_key, AreClaimedApart}
 use Rattle.swarm_laws.proofs.Lists.{Among, Found, each, all, each_one, find_is, find_none}
-use Rattle.swarm_laws.proofs.Findings.{Finds, FindsClaim}
-use Rattle.swarm_laws.proofs.Finds.{finds}
+use Rattle.swarm_laws.proofs.Preconditions.{Finds, FindsClaim}
+use Rattle.swarm_laws.proofs.EntryPreconditions.{finds}
 use Rattle.swarm_laws.proofs.Rows.{task_by, all_tasks, one_task}
 use Rattle.swarm_laws.proofs.Numbers.{task_no}
 use Rattle.swarm_laws.proofs.Alike.{same_is, is_same}
@@ -70,15 +70,15 @@ key_same s m k o f q x a =
       finishes = λ last w. key_kept (closed None last) (λ a. refl) x.attempt;
     })
   where
-    by_outcome : (to : Outcome) → claim_key (moved m to x) ≡ claim_key x
+    by_outcome : (to : Outcome) → claim_key (expired_slice m to x) ≡ claim_key x
     by_outcome (outcome.Slice place) = refl
     by_outcome (outcome.Ended state) = refl
 
 -- a claim gives its own to the task that it names
-key_begun : (m b t : ℕ) (id : List ℕ) (x : TaskRow) → claim_key (task_at t (begun m b id) x) ≡ cond (x.no == t) (Some (b, id)) (claim_key x)
+key_begun : (m b t : ℕ) (id : List ℕ) (x : TaskRow) → claim_key (task_at t (started_run m b id) x) ≡ cond (x.no == t) (Some (b, id)) (claim_key x)
 key_begun m b t id x = by_test (x.no == t)
   where
-    by_test : (c : Bool) → claim_key (cond c (begun m b id x) x) ≡ cond c (Some (b, id)) (claim_key x)
+    by_test : (c : Bool) → claim_key (cond c (started_run m b id x) x) ≡ cond c (Some (b, id)) (claim_key x)
     by_test true = refl
     by_test false = refl
 

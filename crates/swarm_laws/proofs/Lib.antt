@@ -1,21 +1,21 @@
 pub mod Lists
 pub mod Earliest
 pub mod Answering
-pub mod Findings
+pub mod Preconditions
 mod Reusing
-pub mod Finds
+pub mod EntryPreconditions
 pub mod Rows
 pub mod Tasks
 pub mod Bots
 pub mod Runs
 pub mod Numbers
 pub mod Claimed
-pub mod Sent
+pub mod UuidLaw
 pub mod Moments
 pub mod Sound
 pub mod Alike
-pub mod Standing
-pub mod Following
+pub mod EntryRequest
+pub mod Legality
 pub mod Tracks
 pub mod Phases
 pub mod PhaseSteps
@@ -26,7 +26,7 @@ pub mod TallyLaw
 mod Order
 pub mod ClaimLaw
 pub mod Shown
-pub mod Keeping
+pub mod MachineLaws
 mod RepeatLaws
 mod OutcomeLaw
 mod Worked

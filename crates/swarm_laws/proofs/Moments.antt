@@ -24,30 +24,30 @@ use Rattle.swarm_model.specs.declared.entry.Outcome.TheVariants as outcome
 use Rattle.swarm_model.specs.Finding.{is_bot, bot_of}
 use Rattle.swarm_model.specs.Slices.{admit, current_slice}
 use Rattle.swarm_model.specs.Deadlines.{slice_limit, slice_end, silence_limit, silence_end, bot_end, next_of, last_state}
-use Rattle.swarm_model.specs.Effects.{task_after, added_tasks, bot_after, added_bots, new_row, moved, lost, finished, end_state, greeted, busied, noted, after}
+use Rattle.swarm_model.specs.Effects.{task_after, added_tasks, bot_after, added_bots, new_row, expired_slice, lost_run, ended_run, end_state, session_row, assigned_bot, event_effect, after}
 use Rattle.swarm_model.specs.History.{MayFollow}
 use Rattle.swarm_model.specs.Soundness.{IsSound, runner}
 use Rattle.swarm_laws.proofs.Lists.{Among, Found, each, all, each_one, among_left, among_right, find_is, from_filter_map, all_filter_map}
 use Rattle.swarm_laws.proofs.Earliest.{Ahead, ahead_of_next}
-use Rattle.swarm_laws.proofs.Findings.{Finds, waits, runs}
-use Rattle.swarm_laws.proofs.Finds.{IsFitting, finds, fitting}
+use Rattle.swarm_laws.proofs.Preconditions.{Finds, waits, runs}
+use Rattle.swarm_laws.proofs.EntryPreconditions.{IsFitting, finds, fitting}
 use Rattle.swarm_laws.proofs.Rows.{task_by, bot_by, all_tasks, all_bots, find_bot}
 use Rattle.swarm_laws.proofs.Tasks.{end_final, finished_final, last_final, not_pending, runner_lost, runner_marked, runner_finished, runner_moved, added_idle}
 use Rattle.swarm_laws.proofs.Bots.{settings_same}
 use Rattle.swarm_laws.proofs.Numbers.{bot_no}
 
 -- a bot that told of itself was heard at that moment
-noted_contact : (m : ℕ) (e : EventKind) (text : List ℕ) (x : BotRow) → (noted m e text x).contact ≡ m
-noted_contact m event.Ping text x = refl
-noted_contact m event.Quarantine text x = refl
-noted_contact m event.Unquarantine text x = refl
+event_effect_contact : (m : ℕ) (e : EventKind) (text : List ℕ) (x : BotRow) → (event_effect m e text x).contact ≡ m
+event_effect_contact m event.Ping text x = refl
+event_effect_contact m event.Quarantine text x = refl
+event_effect_contact m event.Unquarantine text x = refl
 
 -- a bot that an entry adds was heard at its moment
 added_contact : (s : PoolState) (m : ℕ) (k : EntryKind) (x : BotRow) → Among x (added_bots s m k) → x.contact ≡ m
 added_contact s m (kind.Handshake b id session dims q) x a = by_old (bot_of s b) a
   where
-    by_old : (r : Option BotRow) → Among x (option_map_or (λ old. []) r (greeted m b id session dims q ∷ [])) → x.contact ≡ m
-    by_old None c = each_one (λ (y : BotRow). y.contact ≡ m) (greeted m b id session dims q) refl x c
+    by_old : (r : Option BotRow) → Among x (option_map_or (λ old. []) r (session_row m b id session dims q ∷ [])) → x.contact ≡ m
+    by_old None c = each_one (λ (y : BotRow). y.contact ≡ m) (session_row m b id session dims q) refl x c
     by_old (Some old) c = elim c [ ]
 added_contact s m k x a = elim a [ ]
 
@@ -69,12 +69,12 @@ slice_none : (m : ℕ) (x : TaskRow) → waits x ≡ false → SliceAhead m x
 slice_none m x e = subst (λ (b : Bool). IfSome (cond b (option_map (slice_limit x) (current_slice x)) None) (λ d. m ≤ d.moment)) (sym e) tt
 
 -- a task that moved has a slice from this moment on, or waits no more
-slice_moved : (s : PoolState) (m : ℕ) (x : TaskRow) → SliceAhead m (moved m (next_of s x) x)
+slice_moved : (s : PoolState) (m : ℕ) (x : TaskRow) → SliceAhead m (expired_slice m (next_of s x) x)
 slice_moved s m x = by_place (admit s x.request.task_slices (x.slice + 1))
   where
-    by_place : (o : Option ℕ) → SliceAhead m (moved m (option_map_or outcome.Slice o (outcome.Ended (last_state x))) x)
-    by_place None = slice_none m (moved m (outcome.Ended (last_state x)) x) (not_pending (last_state x) (last_final x))
-    by_place (Some place) = slice_from m (moved m (outcome.Slice place) x) (omega arith)
+    by_place : (o : Option ℕ) → SliceAhead m (expired_slice m (option_map_or outcome.Slice o (outcome.Ended (last_state x))) x)
+    by_place None = slice_none m (expired_slice m (outcome.Ended (last_state x)) x) (not_pending (last_state x) (last_final x))
+    by_place (Some place) = slice_from m (expired_slice m (outcome.Slice place) x) (omega arith)
 
 -- a new task has one from this moment on
 added_slice : (m : ℕ) (k : EntryKind) (x : TaskRow) → Among x (added_tasks m k) → SliceAhead m x
@@ -187,11 +187,11 @@ module _ (s : PoolState) (m : ℕ) (k : EntryKind) (o : IsSound s) (f : Finds s 
       (λ x a. task_by (SliceAhead m) s m o x a k f (record {
         same = r.slices x a;
         moves = λ w. slice_moved s m x;
-        loses = λ w. slice_none m (lost m x) (not_pending (end_state x.attempt BotDied) (end_final x.attempt BotDied refl));
+        loses = λ w. slice_none m (lost_run m x) (not_pending (end_state x.attempt BotDied) (end_final x.attempt BotDied refl));
         begins = λ b t id is found w. tt;
         cancels = λ w. tt;
         marks = λ w. r.slices x a;
-        finishes = λ last w. slice_none m (finished m None last x) (not_pending (finished m None last x).state (finished_final m last x));
+        finishes = λ last w. slice_none m (ended_run m None last x) (not_pending (ended_run m None last x).state (finished_final m last x));
       }))
       (added_slice m k)
 
@@ -206,7 +206,7 @@ module _ (s : PoolState) (m : ℕ) (k : EntryKind) (o : IsSound s) (f : Finds s 
         polls = λ dims q hint may. omega arith;
         busies = λ b t id found. omega arith;
         hears = omega arith;
-        notes = λ e text may. (let l = noted_contact m e text x in omega (arith, l));
+        notes = λ e text may. (let l = event_effect_contact m e text x in omega (arith, l));
         rests = omega arith;
         stops = h;
       }) k f g
@@ -215,7 +215,7 @@ module _ (s : PoolState) (m : ℕ) (k : EntryKind) (o : IsSound s) (f : Finds s 
   begun_ahead : (x : BotRow) (n b t : ℕ) (id : List ℕ) → k ≡ kind.Claim b t id → x.no ≡ b → m ≤ (bot_after m k x).contact + n
   begun_ahead x n b t id is named =
       subst (λ (z : EntryKind). m ≤ (bot_after m z x).contact + n) (sym is)
-      (cond_both (x.no == b) (busied m t x) x (λ (y : BotRow). m ≤ y.contact + n) (λ e. omega arith) (λ e. absurd (eqb-false x.no b e named)))
+      (cond_both (x.no == b) (assigned_bot m t x) x (λ (y : BotRow). m ≤ y.contact + n) (λ e. omega arith) (λ e. absurd (eqb-false x.no b e named)))
 
   -- of a bot and a task that were there
   pair_row : (b : BotRow) → Among b s.bots → (x : TaskRow) → Among x s.tasks → PairAhead m b x → PairAhead m (bot_after m k b) (task_after s m k x)
@@ -249,7 +249,7 @@ module _ (s : PoolState) (m : ℕ) (k : EntryKind) (o : IsSound s) (f : Finds s 
         polls = λ dims q hint may e. omega arith;
         busies = λ b t id found e. omega arith;
         hears = λ e. omega arith;
-        notes = λ e text may. bot_fresh life m (noted m e text x) (noted_contact m e text x);
+        notes = λ e text may. bot_fresh life m (event_effect m e text x) (event_effect_contact m e text x);
         rests = λ e. omega arith;
         stops = r x a;
       }) k f g)

@@ -14,27 +14,27 @@ use Rattle.swarm_model.specs.declared.entry.Outcome.TheVariants as outcome
 use Rattle.swarm_model.specs.Finding.{bot_of}
 use Rattle.swarm_model.specs.Numbers.{AreNumbered}
 use Rattle.swarm_model.specs.Deadlines.{next_of}
-use Rattle.swarm_model.specs.Effects.{no_of_task, no_of_bot, task_after, added_tasks, bot_after, added_bots, moved, greeted, noted, after}
+use Rattle.swarm_model.specs.Effects.{no_of_task, no_of_bot, task_after, added_tasks, bot_after, added_bots, expired_slice, session_row, event_effect, after}
 use Rattle.swarm_model.specs.History.{MayFollow}
 use Rattle.swarm_model.specs.Soundness.{IsSound}
 use Rattle.swarm_laws.proofs.Lists.{Among, numbered_after}
-use Rattle.swarm_laws.proofs.Findings.{Finds, IsOld, IsNewcomer}
-use Rattle.swarm_laws.proofs.Finds.{IsFitting, finds, fitting}
+use Rattle.swarm_laws.proofs.Preconditions.{Finds, IsOld, IsNewcomer}
+use Rattle.swarm_laws.proofs.EntryPreconditions.{IsFitting, finds, fitting}
 use Rattle.swarm_laws.proofs.Rows.{task_by, bot_by, find_bot}
 
 -- no entry changes the number of a task
 pub task_no : (s : PoolState) (m : ℕ) (k : EntryKind) → IsSound s → Finds s k → (x : TaskRow) → Among x s.tasks → (task_after s m k x).no ≡ x.no
 task_no s m k o f x a = task_by (λ (y : TaskRow). y.no ≡ x.no) s m o x a k f (record { same = refl; moves = λ w. by_outcome (next_of s x); loses = λ w. refl; begins = λ b t id is found w. refl; cancels = λ w. refl; marks = λ w. refl; finishes = λ last w. refl })
   where
-    by_outcome : (to : Outcome) → (moved m to x).no ≡ x.no
+    by_outcome : (to : Outcome) → (expired_slice m to x).no ≡ x.no
     by_outcome (outcome.Slice place) = refl
     by_outcome (outcome.Ended state) = refl
 
 -- no entry changes the number of a bot
-noted_no : (m : ℕ) (e : EventKind) (text : List ℕ) (x : BotRow) → (noted m e text x).no ≡ x.no
-noted_no m event.Ping text x = refl
-noted_no m event.Quarantine text x = refl
-noted_no m event.Unquarantine text x = refl
+event_effect_no : (m : ℕ) (e : EventKind) (text : List ℕ) (x : BotRow) → (event_effect m e text x).no ≡ x.no
+event_effect_no m event.Ping text x = refl
+event_effect_no m event.Quarantine text x = refl
+event_effect_no m event.Unquarantine text x = refl
 
 -- nor that of a bot
 pub bot_no : (s : PoolState) (m : ℕ) (k : EntryKind) → IsSound s → Finds s k → IsFitting s k → (x : BotRow) → Among x s.bots → (bot_after m k x).no ≡ x.no
@@ -47,7 +47,7 @@ bot_no s m k o f g x a =
       polls = λ dims q hint may. refl;
       busies = λ b t id found. refl;
       hears = refl;
-      notes = λ e text may. noted_no m e text x;
+      notes = λ e text may. event_effect_no m e text x;
       rests = refl;
       stops = refl;
     }) k f g
@@ -63,7 +63,7 @@ next_task s m k f = tt
 next_bot : (s : PoolState) (m : ℕ) (k : EntryKind) → IsSound s → Finds s k → AreNumbered no_of_bot (1 + length s.bots) (added_bots s m k)
 next_bot s m (kind.Handshake b id session dims q) o f = by_old f (bot_of s b) refl
   where
-    by_old : IsNewcomer s b id ⊎ IsOld s b id → (r : Option BotRow) → bot_of s b ≡ r → AreNumbered no_of_bot (1 + length s.bots) (option_map_or (λ old. []) r (greeted m b id session dims q ∷ []))
+    by_old : IsNewcomer s b id ⊎ IsOld s b id → (r : Option BotRow) → bot_of s b ≡ r → AreNumbered no_of_bot (1 + length s.bots) (option_map_or (λ old. []) r (session_row m b id session dims q ∷ []))
     by_old h (Some old) g = tt
     by_old (inl new) None g = (let next = new.next in omega (arith, next), tt)
     by_old (inr old) None g = absurd (cc (find_bot s o old.bot b old.among old.named, g))

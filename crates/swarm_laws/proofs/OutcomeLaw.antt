@@ -19,12 +19,12 @@ use Rattle.swarm_model.specs.Finding.{has_state, is_state, is_final, is_task}
 use Rattle.swarm_model.specs.Slices.{current_slice}
 use Rattle.swarm_model.specs.Reuse.{ended_well, ran_hash, has_hash}
 use Rattle.swarm_model.specs.ReuseLaw.{HasSource, OutcomesAreTaken}
-use Rattle.swarm_model.specs.Effects.{opening, after, task_after, added_tasks, moved, new_row, no_of_task}
+use Rattle.swarm_model.specs.Effects.{opening, after, task_after, added_tasks, expired_slice, new_row, no_of_task}
 use Rattle.swarm_model.specs.History.{replay, IsCaused, MayFollow}
 use Rattle.swarm_model.specs.Soundness.{IsSound}
 use Rattle.swarm_laws.proofs.Lists.{Among, Found, each_one, each_map, each_append, find_is, number_within}
-use Rattle.swarm_laws.proofs.Findings.{Finds, FindsSource}
-use Rattle.swarm_laws.proofs.Finds.{finds}
+use Rattle.swarm_laws.proofs.Preconditions.{Finds, FindsSource}
+use Rattle.swarm_laws.proofs.EntryPreconditions.{finds}
 use Rattle.swarm_laws.proofs.Rows.{task_by, find_task}
 use Rattle.swarm_laws.proofs.Sound.{sound_after, sound_replay, opening_sound}
 use Rattle.swarm_laws.proofs.Tracks.{still_among, final_same}
@@ -59,7 +59,7 @@ source_same s m k o f x a =
       finishes = λ last w. refl;
     })
   where
-    by_outcome : (to : Outcome) → (moved m to x).source ≡ x.source
+    by_outcome : (to : Outcome) → (expired_slice m to x).source ≡ x.source
     by_outcome (outcome.Slice place) = refl
     by_outcome (outcome.Ended state) = refl
 

@@ -16,11 +16,11 @@ use Rattle.swarm_model.specs.declared.entry.Outcome.{Outcome}
 use Rattle.swarm_model.specs.declared.entry.Outcome.TheVariants as outcome
 use Rattle.swarm_model.specs.Slices.{admit}
 use Rattle.swarm_model.specs.Deadlines.{next_of, last_state}
-use Rattle.swarm_model.specs.Effects.{task_after, task_at, moved, lost, lost_at, canceled, kill_marked, begun, finished, reported, if_some, run_of_bot}
+use Rattle.swarm_model.specs.Effects.{task_after, task_at, expired_slice, lost_run, lost_run_at, canceled, kill_marked, started_run, ended_run, reported, if_some, run_of_bot}
 use Rattle.swarm_model.specs.Soundness.{IsSound, runner}
 use Rattle.swarm_model.specs.Verdicts.{unless_killed}
 use Rattle.swarm_laws.proofs.Lists.{Among}
-use Rattle.swarm_laws.proofs.Findings.{Finds, IsOld, IsNewcomer, waits, runs}
+use Rattle.swarm_laws.proofs.Preconditions.{Finds, IsOld, IsNewcomer, waits, runs}
 use Rattle.swarm_laws.proofs.Rows.{task_is, agree, find_bot, row_is, goes_to, claim_waits, update_runs, ended_task, lost_by, HasRun, run_is}
 use Rattle.swarm_laws.proofs.Tasks.{last_final, reported_final}
 use Rattle.swarm_laws.proofs.Tracks.{final_same}
@@ -32,10 +32,10 @@ abbrev WaitNext : ℕ → EntryKind → TaskRow → Type 0
 WaitNext t k y = phase y ≡ next_phase t k Waiting
 
 -- it comes to another slice, or ends
-wait_moved : (s : PoolState) (m t n : ℕ) (x : TaskRow) → (t == n) ≡ true → phase x ≡ Waiting → WaitNext n (kind.Slice t (next_of s x)) (moved m (next_of s x) x)
+wait_moved : (s : PoolState) (m t n : ℕ) (x : TaskRow) → (t == n) ≡ true → phase x ≡ Waiting → WaitNext n (kind.Slice t (next_of s x)) (expired_slice m (next_of s x) x)
 wait_moved s m t n x e p = by_place (admit s x.request.task_slices (x.slice + 1))
   where
-    by_place : (o : Option ℕ) → WaitNext n (kind.Slice t (option_map_or outcome.Slice o (outcome.Ended (last_state x)))) (moved m (option_map_or outcome.Slice o (outcome.Ended (last_state x))) x)
+    by_place : (o : Option ℕ) → WaitNext n (kind.Slice t (option_map_or outcome.Slice o (outcome.Ended (last_state x)))) (expired_slice m (option_map_or outcome.Slice o (outcome.Ended (last_state x))) x)
     by_place None = rw e (over_final (last_state x) x.attempt (last_final x))
     by_place (Some place) = p
 
@@ -51,18 +51,18 @@ module _ (s : PoolState) (m : ℕ) (o : IsSound s) (x : TaskRow) (a : Among x s.
 
   wait_after : (k : EntryKind) → Finds s k → WaitNext x.no k (task_after s m k x)
   wait_after (kind.Slice t to) f =
-      cond_both (x.no == t) (moved m to x) x (WaitNext x.no (kind.Slice t to))
-      (λ n. subst (λ (z : Outcome). WaitNext x.no (kind.Slice t z) (moved m z x)) (sym (goes_to s o t to f x a n)) (wait_moved s m t x.no x (turn_true x.no t n) p))
+      cond_both (x.no == t) (expired_slice m to x) x (WaitNext x.no (kind.Slice t to))
+      (λ n. subst (λ (z : Outcome). WaitNext x.no (kind.Slice t z) (expired_slice m z x)) (sym (goes_to s o t to f x a n)) (wait_moved s m t x.no x (turn_true x.no t n) p))
       (λ n. wait_stays t x.no to x (turn_false x.no t n) p)
-  wait_after (kind.Silence t) f = cond_both (x.no == t) (lost m x) x (WaitNext x.no (kind.Silence t)) (λ n. absurd (no_run (row_is s o t runs f x a n))) (λ n. p)
+  wait_after (kind.Silence t) f = cond_both (x.no == t) (lost_run m x) x (WaitNext x.no (kind.Silence t)) (λ n. absurd (no_run (row_is s o t runs f x a n))) (λ n. p)
   wait_after (kind.Cancel t) f = cond_both (x.no == t) (canceled m x) x (WaitNext x.no (kind.Cancel t)) (λ n. rw (turn_true x.no t n) refl) (λ n. rw (turn_false x.no t n) p)
   wait_after (kind.Kill t) f = cond_both (x.no == t) (kill_marked x) x (WaitNext x.no (kind.Kill t)) (λ n. absurd (no_run (row_is s o t runs f x a n))) (λ n. p)
   wait_after (kind.Handshake b id session dims q) f = lost_by (λ (y : TaskRow). phase y ≡ Waiting) s m o x a p (λ r. absurd (no_run r)) b (run_of_bot s b) refl
   wait_after (kind.Claim b t id) f =
-      cond_both (x.no == t) (begun m b id x) x (WaitNext x.no (kind.Claim b t id)) (λ n. rw (turn_true x.no t n) refl) (λ n. rw (turn_false x.no t n) p)
+      cond_both (x.no == t) (started_run m b id x) x (WaitNext x.no (kind.Claim b t id)) (λ n. rw (turn_true x.no t n) refl) (λ n. rw (turn_false x.no t n) p)
   wait_after (kind.Update b t try_no chunk last) f =
       subst (λ (y : TaskRow). phase y ≡ Waiting) (sym (ended_task s m b t try_no chunk last f x))
-      (cond_both (x.no == t) (finished m None f.end x) x (λ (y : TaskRow). phase y ≡ Waiting) (λ n. absurd (no_run (row_is s o t runs (update_runs s o b t chunk last f) x a n))) (λ n. p))
+      (cond_both (x.no == t) (ended_run m None f.end x) x (λ (y : TaskRow). phase y ≡ Waiting) (λ n. absurd (no_run (row_is s o t runs (update_runs s o b t chunk last f) x a n))) (λ n. p))
   wait_after entry f = p
 
 -- a task that runs on bot b
@@ -72,10 +72,10 @@ RunNext t k b q y = phase y ≡ next_phase t k (RunBy b q)
 
 -- a report that ends it, or another run
 run_finished : (m t : ℕ) (last : Option Last) (end : Last) (b : ℕ) (q : Bool) (x : TaskRow) → last ≡ Some end → phase x ≡ RunBy b q →
-    phase (task_at t (finished m None end) x) ≡ ended_run q (option_and_then (λ (l : Last). when (t == x.no) (reported l)) last) (RunBy b (q || false))
+    phase (task_at t (ended_run m None end) x) ≡ ended_run q (option_and_then (λ (l : Last). when (t == x.no) (reported l)) last) (RunBy b (q || false))
 run_finished m t last end b q x is p =
-    rw is (cond_both (x.no == t) (finished m None end x) x (λ (y : TaskRow). phase y ≡ ended_run q (when (t == x.no) (reported end)) (RunBy b (q || false)))
-    (λ n. rw (turn_true x.no t n) (run_ended x b q (reported end) (finished m None end x).attempt (reported_final end) p))
+    rw is (cond_both (x.no == t) (ended_run m None end x) x (λ (y : TaskRow). phase y ≡ ended_run q (when (t == x.no) (reported end)) (RunBy b (q || false)))
+    (λ n. rw (turn_true x.no t n) (run_ended x b q (reported end) (ended_run m None end x).attempt (reported_final end) p))
     (λ n. rw (turn_false x.no t n) (run_stays x b q p)))
 
 module _ (s : PoolState) (m : ℕ) (o : IsSound s) (x : TaskRow) (a : Among x s.tasks) (b : ℕ) (q : Bool) (p : phase x ≡ RunBy b q) where
@@ -92,11 +92,11 @@ module _ (s : PoolState) (m : ℕ) (o : IsSound s) (x : TaskRow) (a : Among x s.
       by_runner (Some n) h g = let same : n ≡ b = same_Some _ _ g in omega (arith, h, same, e, next)
 
   -- its bot comes anew
-  shaken_own : (c : ℕ) (id : List ℕ) → IsNewcomer s c id ⊎ IsOld s c id → c ≡ b → phase (if_some (lost_at m) (run_of_bot s c) x) ≡ Over (unless_killed q BotDied)
+  shaken_own : (c : ℕ) (id : List ℕ) → IsNewcomer s c id ⊎ IsOld s c id → c ≡ b → phase (if_some (lost_run_at m) (run_of_bot s c) x) ≡ Over (unless_killed q BotDied)
   shaken_own c id (inl new) e = absurd (no_newcomer c e new.next)
   shaken_own c id (inr old) e =
-      subst (λ (r : Option ℕ). phase (if_some (lost_at m) r x) ≡ Over (unless_killed q BotDied)) (sym its_run)
-      (cond_both (x.no == x.no) (lost m x) x (λ (y : TaskRow). phase y ≡ Over (unless_killed q BotDied)) (λ n. run_ended x b q BotDied x.attempt refl p) (λ n. absurd (eqb-false x.no x.no n refl)))
+      subst (λ (r : Option ℕ). phase (if_some (lost_run_at m) r x) ≡ Over (unless_killed q BotDied)) (sym its_run)
+      (cond_both (x.no == x.no) (lost_run m x) x (λ (y : TaskRow). phase y ≡ Over (unless_killed q BotDied)) (λ n. run_ended x b q BotDied x.attempt refl p) (λ n. absurd (eqb-false x.no x.no n refl)))
     where
       its_run : run_of_bot s c ≡ Some x.no
       its_run =
@@ -104,24 +104,24 @@ module _ (s : PoolState) (m : ℕ) (o : IsSound s) (x : TaskRow) (a : Among x s.
           ∙ (agree s o old.bot old.among x a).1 (run_runner x b q p ∙ ap (λ n. Some n) (sym (old.named ∙ e)))
 
   -- another bot does
-  shaken_other : (c : ℕ) → (c ≡ b → ⊥) → (run : Option ℕ) → run_of_bot s c ≡ run → phase (if_some (lost_at m) run x) ≡ RunBy b q
+  shaken_other : (c : ℕ) → (c ≡ b → ⊥) → (run : Option ℕ) → run_of_bot s c ≡ run → phase (if_some (lost_run_at m) run x) ≡ RunBy b q
   shaken_other c d None e = p
   shaken_other c d (Some t) e =
-      cond_both (x.no == t) (lost m x) x (λ (y : TaskRow). phase y ≡ RunBy b q)
+      cond_both (x.no == t) (lost_run m x) x (λ (y : TaskRow). phase y ≡ RunBy b q)
       (λ n. (let f : HasRun s c t = run_is s c t e in
       let its : runner x ≡ Some f.bot.no = (agree s o f.bot f.among x a).0 (f.task ∙ ap (λ j. Some j) (sym (eqb-true x.no t n))) in
       absurd (d (sym f.named ∙ same_Some _ _ (sym its ∙ run_runner x b q p))))) (λ n. p)
 
   shaken : (c : ℕ) (id session : List ℕ) (dims : BotDims) (u : List ℕ) → Finds s (kind.Handshake c id session dims u) → (r : Bool) → (c == b) ≡ r →
-      phase (if_some (lost_at m) (run_of_bot s c) x) ≡ ended_run q (when r BotDied) (RunBy b (q || false))
+      phase (if_some (lost_run_at m) (run_of_bot s c) x) ≡ ended_run q (when r BotDied) (RunBy b (q || false))
   shaken c id session dims u f true e = shaken_own c id f (eqb-true c b e)
   shaken c id session dims u f false e = shaken_other c (eqb-false c b e) (run_of_bot s c) refl ∙ sym p ∙ run_stays x b q p
 
   run_after : (k : EntryKind) → Finds s k → RunNext x.no k b q (task_after s m k x)
   run_after (kind.Slice t to) f =
-      cond_both (x.no == t) (moved m to x) x (RunNext x.no (kind.Slice t to) b q) (λ n. absurd (no_wait (row_is s o t waits f.waiting x a n))) (λ n. run_stays x b q p)
+      cond_both (x.no == t) (expired_slice m to x) x (RunNext x.no (kind.Slice t to) b q) (λ n. absurd (no_wait (row_is s o t waits f.waiting x a n))) (λ n. run_stays x b q p)
   run_after (kind.Silence t) f =
-      cond_both (x.no == t) (lost m x) x (RunNext x.no (kind.Silence t) b q) (λ n. rw (turn_true x.no t n) (run_ended x b q BotDied x.attempt refl p)) (λ n. rw (turn_false x.no t n) (run_stays x b q p))
+      cond_both (x.no == t) (lost_run m x) x (RunNext x.no (kind.Silence t) b q) (λ n. rw (turn_true x.no t n) (run_ended x b q BotDied x.attempt refl p)) (λ n. rw (turn_false x.no t n) (run_stays x b q p))
   run_after (kind.Cancel t) f =
       cond_both (x.no == t) (canceled m x) x (RunNext x.no (kind.Cancel t) b q) (λ n. absurd (no_wait (row_is s o t waits f x a n))) (λ n. run_stays x b q p)
   run_after (kind.Kill t) f =
@@ -129,7 +129,7 @@ module _ (s : PoolState) (m : ℕ) (o : IsSound s) (x : TaskRow) (a : Among x s.
       (λ n. rw (turn_true x.no t n, or_true q) (run_killed x.state x.attempt b q p)) (λ n. rw (turn_false x.no t n) (run_stays x b q p))
   run_after (kind.Handshake c id session dims u) f = shaken c id session dims u f (c == b) refl
   run_after (kind.Claim c t id) f =
-      cond_both (x.no == t) (begun m c id x) x (RunNext x.no (kind.Claim c t id) b q) (λ n. absurd (no_wait (row_is s o t waits (claim_waits s c t id f) x a n))) (λ n. run_stays x b q p)
+      cond_both (x.no == t) (started_run m c id x) x (RunNext x.no (kind.Claim c t id) b q) (λ n. absurd (no_wait (row_is s o t waits (claim_waits s c t id f) x a n))) (λ n. run_stays x b q p)
   run_after (kind.Update c t try_no chunk last) f =
       subst (λ (y : TaskRow). phase y ≡ ended_run q (option_and_then (λ (l : Last). when (t == x.no) (reported l)) last) (RunBy b (q || false)))
       (sym (ended_task s m c t try_no chunk last f x)) (run_finished m t last f.end b q x f.ends p)

@@ -12,7 +12,7 @@ use Rattle.swarm_model.specs.Finding.{is_state, is_final}
 use Rattle.swarm_model.specs.Effects.{end_state, killed}
 use Rattle.swarm_model.specs.Soundness.{runner}
 use Rattle.swarm_model.specs.Verdicts.{run_end, is_kill, unless_killed, claimant, slice_state, is_cancel}
-use Rattle.swarm_laws.proofs.Findings.{waits}
+use Rattle.swarm_laws.proofs.Preconditions.{waits}
 use Rattle.swarm_laws.proofs.Rows.{runner_in, fits_in}
 use Rattle.swarm_laws.proofs.Tasks.{end_final}
 

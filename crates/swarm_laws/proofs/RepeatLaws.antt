@@ -10,12 +10,12 @@ use Rattle.swarm_model.specs.declared.reply.Reply.{Reply}
 use Rattle.swarm_model.specs.declared.reply.Reply.TheVariants as reply
 use Rattle.swarm_model.specs.declared.rule.Rule.TheVariants as rule
 use Rattle.swarm_model.specs.declared.answer.Answer.{Answer}
-use Rattle.swarm_model.specs.declared.answer.Told.{Told}
+use Rattle.swarm_model.specs.declared.answer.Decision.{Decision}
 use Rattle.swarm_model.specs.declared.task_row.TaskRow.{TaskRow}
 use Rattle.swarm_model.specs.declared.bot_row.BotRow.{BotRow}
 use Rattle.swarm_model.specs.declared.pool_state.PoolState.{PoolState}
 use Rattle.swarm_model.specs.Finding.{is_final, is_task}
-use Rattle.swarm_model.specs.Answers.{claimed, entry_at, with, answers, updates, report, report_again, report_on, not_claimant, is_kept}
+use Rattle.swarm_model.specs.Answers.{claimed, entry_at, with, reply_with_entry, updates, report, report_again, report_on, not_claimant, is_kept}
 use Rattle.swarm_model.specs.Effects.{opening, heard, fresh_chunk}
 use Rattle.swarm_model.specs.History.{replay}
 use Rattle.swarm_model.specs.Soundness.{IsSound, runner, claim_key}
@@ -25,7 +25,7 @@ use Rattle.swarm_laws.proofs.Answering.{by_when}
 use Rattle.swarm_laws.proofs.Lists.{Found, find_is}
 use Rattle.swarm_laws.proofs.Tasks.{runner_final}
 use Rattle.swarm_laws.proofs.Claimed.{Key, key_in, claim_found}
-use Rattle.swarm_laws.proofs.Sent.{sent_found}
+use Rattle.swarm_laws.proofs.UuidLaw.{sent_found}
 use Rattle.swarm_laws.proofs.Alike.{is_same, task_self}
 use Rattle.swarm_laws.proofs.Sound.{sound_replay, opening_sound}
 
@@ -79,8 +79,8 @@ pub handshake_law : HandshakeAgain
 handshake_law s who name session q dims moment pass bot named e = rw (named, is_same bot.session session e) refl
 
 -- a report that is taken says only that the bot was heard
-abbrev SaysHeard : ℕ → Bool → Told → Type 0
-SaysHeard b killed told = told.reply ≡ reply.Updated killed → told ≡ answers (reply.Updated killed) (kind.Contact b)
+abbrev SaysHeard : ℕ → Bool → Decision → Type 0
+SaysHeard b killed told = told.reply ≡ reply.Updated killed → told ≡ reply_with_entry (reply.Updated killed) (kind.Contact b)
 
 -- where its run has ended, or it brings no end
 report_heard : (s : PoolState) (bot : BotRow) (task : TaskRow) (chunk : Option Chunk) (last : Option Last) (killed : Bool) (r : Option Attempt) → (is_final task.state ≡ true) ⊎ (last ≡ None) →
@@ -91,11 +91,11 @@ report_heard s bot task chunk last killed (Some attempt) k =
     by_when P (is_final task.state) (report_again bot task chunk last attempt) _ (λ f. cond_both (is_kept attempt chunk last) _ _ P (λ t e. heard_so e) (λ t e. absurd (cc (e)))) (λ f.
     by_when P (is_some last) (updates attempt (kind.Update bot.no task.no attempt.try_no chunk last)) (updates attempt (kind.Contact bot.no)) (λ l. absurd (no_end f l k)) (λ l e. heard_so e)))
   where
-    P : Told → Type 0
+    P : Decision → Type 0
     P = SaysHeard bot.no killed
 
-    heard_so : reply.Updated attempt.kill ≡ reply.Updated killed → updates attempt (kind.Contact bot.no) ≡ answers (reply.Updated killed) (kind.Contact bot.no)
-    heard_so e = ap (λ (z : Reply). answers z (kind.Contact bot.no)) e
+    heard_so : reply.Updated attempt.kill ≡ reply.Updated killed → updates attempt (kind.Contact bot.no) ≡ reply_with_entry (reply.Updated killed) (kind.Contact bot.no)
+    heard_so e = ap (λ (z : Reply). reply_with_entry z (kind.Contact bot.no)) e
 
     no_end : is_final task.state ≡ false → is_some last ≡ true → (is_final task.state ≡ true) ⊎ (last ≡ None) → ⊥
     no_end f l (inl final) = cc (f, final)
@@ -104,7 +104,7 @@ report_heard s bot task chunk last killed (Some attempt) k =
 -- the report of a run that has ended, or of no end
 pub update_again_law : UpdateAgain
 update_again_law s who name moment pass t try_no chunk last killed bot task named is taken k =
-    rw (named, is) (ap (λ (told : Told). let a : Answer = record { reply = told.reply; entry = option_map (entry_at moment pass) told.adds } in a)
+    rw (named, is) (ap (λ (told : Decision). let a : Answer = record { reply = told.reply; entry = option_map (entry_at moment pass) told.entry } in a)
     (report_heard s bot task chunk last killed task.attempt (one_of k) (rw (named, is) at taken)))
   where
     one_of : (is_final task.state ≡ true) ⊎ ((fresh_chunk task.attempt chunk ≡ None) × (last ≡ None)) → (is_final task.state ≡ true) ⊎ (last ≡ None)

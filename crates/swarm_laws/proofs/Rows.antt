@@ -26,11 +26,11 @@ use Rattle.swarm_model.specs.Fits.{fits, fits_message, is_name}
 use Rattle.swarm_model.specs.Slices.{foremost, goes_before, waits_for, takes_slice, current_slice}
 use Rattle.swarm_model.specs.Deadlines.{next_of}
 use Rattle.swarm_model.specs.Entries.{poll_of, event_of, Asked}
-use Rattle.swarm_model.specs.Effects.{no_of_task, no_of_bot, task_after, added_tasks, bot_after, added_bots, task_at, bot_at, moved, lost, lost_at, canceled, kill_marked, begun, finished, fresh_chunk, chunk_at, attempt_of, if_some, run_of_bot, runs_task, hushed, deadened, greeted, polled, busied, heard, freed, noted, terminated}
+use Rattle.swarm_model.specs.Effects.{no_of_task, no_of_bot, task_after, added_tasks, bot_after, added_bots, task_at, bot_at, expired_slice, lost_run, lost_run_at, canceled, kill_marked, started_run, ended_run, fresh_chunk, chunk_at, attempt_of, if_some, run_of_bot, runs_task, silent_bot, dead_bot, session_row, polled, assigned_bot, heard, idle_bot, event_effect, terminated}
 use Rattle.swarm_model.specs.Soundness.{IsSound, IsSoundTask, IsSoundBot, Agree, runner}
 use Rattle.swarm_laws.proofs.Lists.{Among, here, later, Found, each, all, each_append, each_map, find_is, filter_is, number_tells, number_finds}
-use Rattle.swarm_laws.proofs.Findings.{Finds, HasTask, FindsSlice, FindsClaim, FindsUpdate, waits, runs}
-use Rattle.swarm_laws.proofs.Finds.{IsFitting}
+use Rattle.swarm_laws.proofs.Preconditions.{Finds, HasTask, FindsSlice, FindsClaim, FindsUpdate, waits, runs}
+use Rattle.swarm_laws.proofs.EntryPreconditions.{IsFitting}
 
 module _ (s : PoolState) (o : IsSound s) where
   -- what soundness says of a row
@@ -106,7 +106,7 @@ claim_waits s b t id f =
 
 -- the bot was heard, and is done with its task
 abbrev pub relieved : ℕ → BotRow → BotRow
-relieved moment bot = freed (heard moment bot)
+relieved moment bot = idle_bot (heard moment bot)
 
 -- the attempt and the end that go with a state
 abbrev pub fits_in : TaskState → Option Attempt → Option ℕ → Bool
@@ -132,17 +132,17 @@ run_is s b t e = by_bot (bot_of s b) refl e
 
 -- what a report that ends a run does to the task, and to the bot
 module _ (s : PoolState) (m b t try_no : ℕ) (chunk : Option Chunk) (last : Option Last) (f : FindsUpdate s b t chunk last) where
-  pub ended_task : (x : TaskRow) → task_after s m (kind.Update b t try_no chunk last) x ≡ task_at t (finished m None f.end) x
+  pub ended_task : (x : TaskRow) → task_after s m (kind.Update b t try_no chunk last) x ≡ task_at t (ended_run m None f.end) x
   ended_task x = rw (f.no_output, f.ends) (by_attempt (attempt_of s t))
     where
-      by_attempt : (o : Option Attempt) → task_at t (finished m None f.end) (if_some (chunk_at t) (fresh_chunk o None) x) ≡ task_at t (finished m None f.end) x
+      by_attempt : (o : Option Attempt) → task_at t (ended_run m None f.end) (if_some (chunk_at t) (fresh_chunk o None) x) ≡ task_at t (ended_run m None f.end) x
       by_attempt None = refl
       by_attempt (Some a) = refl
 
   pub ended_bot : (x : BotRow) → bot_after m (kind.Update b t try_no chunk last) x ≡ bot_at b (relieved m) x
   ended_bot x = rw f.ends (by_test (x.no == b) refl)
     where
-      by_test : (c : Bool) → (x.no == b) ≡ c → bot_at b freed (cond c (heard m x) x) ≡ cond c (relieved m x) x
+      by_test : (c : Bool) → (x.no == b) ≡ c → bot_at b idle_bot (cond c (heard m x) x) ≡ cond c (relieved m x) x
       by_test true e = rw e refl
       by_test false e = rw e refl
 
@@ -175,49 +175,49 @@ update_runs s o b t chunk last f = record { task = f.task; among = f.among; name
 -- what a fact of a task needs so that an entry keeps it
 pub record Stays (P : TaskRow → Type 0) (s : PoolState) (m : ℕ) (k : EntryKind) (x : TaskRow) : Type 0 where
   pub same : P x
-  pub moves : waits x ≡ true → P (moved m (next_of s x) x)
-  pub loses : runs x ≡ true → P (lost m x)
-  pub begins : (b t : ℕ) (id : List ℕ) → k ≡ kind.Claim b t id → FindsClaim s b t id → waits x ≡ true → P (begun m b id x)
+  pub moves : waits x ≡ true → P (expired_slice m (next_of s x) x)
+  pub loses : runs x ≡ true → P (lost_run m x)
+  pub begins : (b t : ℕ) (id : List ℕ) → k ≡ kind.Claim b t id → FindsClaim s b t id → waits x ≡ true → P (started_run m b id x)
   pub cancels : waits x ≡ true → P (canceled m x)
   pub marks : runs x ≡ true → P (kill_marked x)
-  pub finishes : (last : Last) → runs x ≡ true → P (finished m None last x)
+  pub finishes : (last : Last) → runs x ≡ true → P (ended_run m None last x)
 
 module _ (P : TaskRow → Type 0) (s : PoolState) (m : ℕ) (o : IsSound s) (x : TaskRow) (a : Among x s.tasks) where
   -- a task of a bot that comes anew is lost
-  pub lost_by : P x → (runs x ≡ true → P (lost m x)) → (b : ℕ) (run : Option ℕ) → run_of_bot s b ≡ run → P (if_some (lost_at m) run x)
+  pub lost_by : P x → (runs x ≡ true → P (lost_run m x)) → (b : ℕ) (run : Option ℕ) → run_of_bot s b ≡ run → P (if_some (lost_run_at m) run x)
   lost_by same loses b None e = same
   lost_by same loses b (Some t) e =
-      cond_both (x.no == t) (lost m x) x P
+      cond_both (x.no == t) (lost_run m x) x P
       (λ n. let f : HasRun s b t = run_is s b t e in loses (has_runner x f.bot.no ((agree s o f.bot f.among x a).0 (f.task ∙ ap (λ j. Some j) (sym (eqb-true x.no t n))))))
       (λ n. same)
 
   -- the row after an entry is as it was, or changed in one of six ways
   pub task_by : (k : EntryKind) → Finds s k → Stays P s m k x → P (task_after s m k x)
   task_by (kind.Slice t to) f p =
-      cond_both (x.no == t) (moved m to x) x P
-      (λ n. subst (λ (z : Outcome). P (moved m z x)) (sym (goes_to s o t to f x a n)) (p.moves (row_is s o t waits f.waiting x a n)))
+      cond_both (x.no == t) (expired_slice m to x) x P
+      (λ n. subst (λ (z : Outcome). P (expired_slice m z x)) (sym (goes_to s o t to f x a n)) (p.moves (row_is s o t waits f.waiting x a n)))
       (λ n. p.same)
-  task_by (kind.Silence t) f p = cond_both (x.no == t) (lost m x) x P (λ n. p.loses (row_is s o t runs f x a n)) (λ n. p.same)
+  task_by (kind.Silence t) f p = cond_both (x.no == t) (lost_run m x) x P (λ n. p.loses (row_is s o t runs f x a n)) (λ n. p.same)
   task_by (kind.Cancel t) f p = cond_both (x.no == t) (canceled m x) x P (λ n. p.cancels (row_is s o t waits f x a n)) (λ n. p.same)
   task_by (kind.Kill t) f p = cond_both (x.no == t) (kill_marked x) x P (λ n. p.marks (row_is s o t runs f x a n)) (λ n. p.same)
   task_by (kind.Handshake b id session dims q) f p = lost_by p.same p.loses b (run_of_bot s b) refl
   task_by (kind.Claim b t id) f p =
-      cond_both (x.no == t) (begun m b id x) x P (λ n. p.begins b t id refl f (row_is s o t waits (claim_waits s b t id f) x a n)) (λ n. p.same)
+      cond_both (x.no == t) (started_run m b id x) x P (λ n. p.begins b t id refl f (row_is s o t waits (claim_waits s b t id f) x a n)) (λ n. p.same)
   task_by (kind.Update b t try_no chunk last) f p =
       subst P (sym (ended_task s m b t try_no chunk last f x))
-      (cond_both (x.no == t) (finished m None f.end x) x P (λ n. p.finishes f.end (row_is s o t runs (update_runs s o b t chunk last f) x a n)) (λ n. p.same))
+      (cond_both (x.no == t) (ended_run m None f.end x) x P (λ n. p.finishes f.end (row_is s o t runs (update_runs s o b t chunk last f) x a n)) (λ n. p.same))
   task_by entry f p = p.same
 
 -- what a fact of a bot needs so that an entry keeps it
 pub record Keeps (P : BotRow → Type 0) (s : PoolState) (m : ℕ) (x : BotRow) : Type 0 where
   pub same : P x
-  pub hushes : P (hushed x)
-  pub dies : P (deadened x)
-  pub greets : (b : ℕ) (id session : List ℕ) (dims : BotDims) (q : List ℕ) → x.no ≡ b → IsTrue (fits s.settings (ask.Handshake id session dims q)) → P (greeted m b id session dims q)
+  pub hushes : P (silent_bot x)
+  pub dies : P (dead_bot x)
+  pub greets : (b : ℕ) (id session : List ℕ) (dims : BotDims) (q : List ℕ) → x.no ≡ b → IsTrue (fits s.settings (ask.Handshake id session dims q)) → P (session_row m b id session dims q)
   pub polls : (dims : Option BotDims) (q : Option Text) (hint : Bool) → IsTrue (fits s.settings (ask.Poll x.name (unwrap_or dims x.dims) (unwrap_or q x.quarantined))) → P (polled m dims q hint x)
-  pub busies : (b t : ℕ) (id : List ℕ) → FindsClaim s b t id → P (busied m t x)
+  pub busies : (b t : ℕ) (id : List ℕ) → FindsClaim s b t id → P (assigned_bot m t x)
   pub hears : P (heard m x)
-  pub notes : (e : EventKind) (text : List ℕ) → fits_message e text ≡ true → P (noted m e text x)
+  pub notes : (e : EventKind) (text : List ℕ) → fits_message e text ≡ true → P (event_effect m e text x)
   pub rests : P (relieved m x)
   pub stops : P (terminated x)
 
@@ -233,13 +233,13 @@ module _ (P : BotRow → Type 0) (s : PoolState) (m : ℕ) (o : IsSound s) (x : 
 
   -- the row after an entry is as it was, or changed in one of nine ways
   pub bot_by : (k : EntryKind) → Finds s k → IsFitting s k → P (bot_after m k x)
-  bot_by (kind.Silence t) f g = cond_both (runs_task t x) (hushed x) x P (λ n. p.hushes) (λ n. p.same)
-  bot_by (kind.Dead b) f g = at_bot b (deadened x) (λ n. p.dies)
-  bot_by (kind.Handshake b id session dims q) f g = at_bot b (greeted m b id session dims q) (λ n. p.greets b id session dims q (eqb-true x.no b n) g)
+  bot_by (kind.Silence t) f g = cond_both (runs_task t x) (silent_bot x) x P (λ n. p.hushes) (λ n. p.same)
+  bot_by (kind.Dead b) f g = at_bot b (dead_bot x) (λ n. p.dies)
+  bot_by (kind.Handshake b id session dims q) f g = at_bot b (session_row m b id session dims q) (λ n. p.greets b id session dims q (eqb-true x.no b n) g)
   bot_by (kind.Poll b dims q hint) f g = at_bot b (polled m dims q hint x) (λ n. p.polls dims q hint (asked_of b (poll_of dims q) g n))
-  bot_by (kind.Claim b t id) f g = at_bot b (busied m t x) (λ n. p.busies b t id f)
+  bot_by (kind.Claim b t id) f g = at_bot b (assigned_bot m t x) (λ n. p.busies b t id f)
   bot_by (kind.Contact b) f g = at_bot b (heard m x) (λ n. p.hears)
-  bot_by (kind.Event b e text) f g = at_bot b (noted m e text x) (λ n. p.notes e text (and_parts (is_name x.name) (fits_message e text) (asked_of b (event_of e text) g n)).1)
+  bot_by (kind.Event b e text) f g = at_bot b (event_effect m e text x) (λ n. p.notes e text (and_parts (is_name x.name) (fits_message e text) (asked_of b (event_of e text) g n)).1)
   bot_by (kind.Update b t try_no chunk last) f g = subst P (sym (ended_bot s m b t try_no chunk last f x)) (at_bot b (relieved m x) (λ n. p.rests))
   bot_by (kind.Terminate b) f g = at_bot b (terminated x) (λ n. p.stops)
   bot_by entry f g = p.same

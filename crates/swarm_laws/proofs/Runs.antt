@@ -21,12 +21,12 @@ use Rattle.swarm_model.specs.declared.entry.Outcome.TheVariants as outcome
 use Rattle.swarm_model.specs.Finding.{task_of, bot_of}
 use Rattle.swarm_model.specs.Deadlines.{next_of}
 use Rattle.swarm_model.specs.Answers.{run_on}
-use Rattle.swarm_model.specs.Effects.{task_after, added_tasks, bot_after, added_bots, new_row, moved, lost, lost_at, canceled, kill_marked, finished, task_at, begun, if_some, run_of_bot, runs_task, bot_at, hushed, deadened, greeted, polled, busied, heard, noted, terminated, after}
+use Rattle.swarm_model.specs.Effects.{task_after, added_tasks, bot_after, added_bots, new_row, expired_slice, lost_run, lost_run_at, canceled, kill_marked, ended_run, task_at, started_run, if_some, run_of_bot, runs_task, bot_at, silent_bot, dead_bot, session_row, polled, assigned_bot, heard, event_effect, terminated, after}
 use Rattle.swarm_model.specs.History.{MayFollow}
 use Rattle.swarm_model.specs.Soundness.{IsSound, Agree, runner}
 use Rattle.swarm_laws.proofs.Lists.{Among, each_one, find_none}
-use Rattle.swarm_laws.proofs.Findings.{Finds, FindsUpdate, IsOld, IsNewcomer, waits}
-use Rattle.swarm_laws.proofs.Finds.{finds}
+use Rattle.swarm_laws.proofs.Preconditions.{Finds, FindsUpdate, IsOld, IsNewcomer, waits}
+use Rattle.swarm_laws.proofs.EntryPreconditions.{finds}
 use Rattle.swarm_laws.proofs.Rows.{task_is, bot_is, agree, one_task, find_bot, relieved, ended_task, ended_bot, goes_on_runs, row_is, goes_to, claim_waits, HasRun, run_is, all_tasks, all_bots}
 use Rattle.swarm_laws.proofs.Tasks.{runner_waits, runner_lost, runner_marked, runner_finished, runner_moved, added_idle}
 
@@ -99,9 +99,9 @@ task_of_at b f x = by_test (x.no == b)
     by_test false = refl
 
 -- or that falls silent
-hushed_task : (c : Bool) (x : BotRow) → (cond c (hushed x) x).task ≡ cond c None x.task
-hushed_task true x = refl
-hushed_task false x = refl
+silent_bot_task : (c : Bool) (x : BotRow) → (cond c (silent_bot x) x).task ≡ cond c None x.task
+silent_bot_task true x = refl
+silent_bot_task false x = refl
 
 -- a number below a bound
 within : (r : Option ℕ) (n k : ℕ) → IfSome r (λ t. t ≤ n) → r ≡ Some k → k ≤ n
@@ -109,10 +109,10 @@ within None n k h e = absurd (cc (e))
 within (Some t) n k h e = let same : t ≡ k = same_Some _ _ e in omega (arith, h, same)
 
 -- an event leaves the run
-noted_agree : (m : ℕ) (e : EventKind) (text : List ℕ) (x : BotRow) (y : TaskRow) → Agree x y → Agree (noted m e text x) y
-noted_agree m event.Ping text x y h = h
-noted_agree m event.Quarantine text x y h = h
-noted_agree m event.Unquarantine text x y h = h
+event_effect_agree : (m : ℕ) (e : EventKind) (text : List ℕ) (x : BotRow) (y : TaskRow) → Agree x y → Agree (event_effect m e text x) y
+event_effect_agree m event.Ping text x y h = h
+event_effect_agree m event.Quarantine text x y h = h
+event_effect_agree m event.Unquarantine text x y h = h
 
 -- a bot with no run that its row names runs nothing
 no_run : (s : PoolState) (r : Option ℕ) (task : TaskRow) → Among task s.tasks → r ≡ Some task.no → option_and_then (task_of s) r ≡ None → ⊥
@@ -125,21 +125,21 @@ module _ (s : PoolState) (o : IsSound s) where
   idle_bot bot a idle task c e = no_run s bot.task task c ((agree s o bot a task c).1 e) idle
 
   -- a task that waits runs nowhere, and moves so
-  moved_agree : (m : ℕ) (x : BotRow) (y : TaskRow) → waits y ≡ true → Agree x y → Agree x (moved m (next_of s y) y)
+  moved_agree : (m : ℕ) (x : BotRow) (y : TaskRow) → waits y ≡ true → Agree x y → Agree x (expired_slice m (next_of s y) y)
   moved_agree m x y w h =
-      agree_by x (moved m (next_of s y) y) x.task None y.no x.no refl (no_moved (next_of s y)) (runner_moved s m y w) refl
+      agree_by x (expired_slice m (next_of s y) y) x.task None y.no x.no refl (no_moved (next_of s y)) (runner_moved s m y w) refl
       (subst (λ (r : Option ℕ). Same x.task y.no r x.no) (runner_waits y.state y.attempt w) h)
     where
-      no_moved : (to : Outcome) → (moved m to y).no ≡ y.no
+      no_moved : (to : Outcome) → (expired_slice m to y).no ≡ y.no
       no_moved (outcome.Slice place) = refl
       no_moved (outcome.Ended state) = refl
 
   shaken_agree : (m b : ℕ) (id session : List ℕ) (dims : BotDims) (q : List ℕ) (x : BotRow) → Among x s.bots → (y : TaskRow) → Among y s.tasks → (r : Option ℕ) → run_of_bot s b ≡ r →
-      Agree (bot_at b (λ old. greeted m b id session dims q) x) (if_some (lost_at m) r y)
+      Agree (bot_at b (λ old. session_row m b id session dims q) x) (if_some (lost_run_at m) r y)
   shaken_agree m b id session dims q x a y c r e = by_run r e
     where
       shaken : BotRow → BotRow
-      shaken old = greeted m b id session dims q
+      shaken old = session_row m b id session dims q
 
       its_run : x.no ≡ b → x.task ≡ run_of_bot s b
       its_run p = sym (ap (option_and_then (λ (z : BotRow). z.task)) (find_bot s o x b a p))
@@ -147,14 +147,14 @@ module _ (s : PoolState) (o : IsSound s) where
       no_is : (bot_at b shaken x).no ≡ x.no
       no_is = cond_both (x.no == b) (shaken x) x (λ (z : BotRow). z.no ≡ x.no) (λ n. sym (eqb-true x.no b n)) (λ n. refl)
 
-      by_run : (run : Option ℕ) → run_of_bot s b ≡ run → Agree (bot_at b shaken x) (if_some (lost_at m) run y)
+      by_run : (run : Option ℕ) → run_of_bot s b ≡ run → Agree (bot_at b shaken x) (if_some (lost_run_at m) run y)
       by_run None g =
           agree_by (bot_at b shaken x) y (cond (x.no == b) None x.task) (runner y) y.no x.no (task_of_at b shaken x) refl refl no_is
           (rests b x.no y.no x.task (runner y) (x.no == b) refl (agree s o x a y c) (λ p. its_run p ∙ g))
       by_run (Some t) g =
           (let f : HasRun s b t = run_is s b t g in
-          agree_by (bot_at b shaken x) (task_at t (lost m) y) (cond (x.no == b) None x.task) (cond (y.no == t) None (runner y)) y.no x.no (task_of_at b shaken x) (task_no_at t (lost m) y refl)
-          (runner_at t (lost m) y ∙ ap (λ z. cond (y.no == t) z (runner y)) (runner_lost m y)) no_is
+          agree_by (bot_at b shaken x) (task_at t (lost_run m) y) (cond (x.no == b) None x.task) (cond (y.no == t) None (runner y)) y.no x.no (task_of_at b shaken x) (task_no_at t (lost_run m) y refl)
+          (runner_at t (lost_run m) y ∙ ap (λ z. cond (y.no == t) z (runner y)) (runner_lost m y)) no_is
           (left b t x.no y.no x.task (runner y) (x.no == b) (y.no == t) refl refl (agree s o x a y c) (λ p. its_run p ∙ g)
           (λ p. (agree s o f.bot f.among y c).0 (f.task ∙ ap (λ n. Some n) (sym p)) ∙ ap (λ n. Some n) f.named)))
 
@@ -173,8 +173,8 @@ module _ (s : PoolState) (o : IsSound s) where
       Agree (bot_after m (kind.Update b t try_no chunk last) x) (task_after s m (kind.Update b t try_no chunk last) y)
   ended_agree m b t try_no chunk last f x a y c =
       rw (ended_task s m b t try_no chunk last f y, ended_bot s m b t try_no chunk last f x)
-      (agree_by (bot_at b (relieved m) x) (task_at t (finished m None f.end) y) (cond (x.no == b) None x.task) (cond (y.no == t) None (runner y)) y.no x.no (task_of_at b (relieved m) x)
-      (task_no_at t (finished m None f.end) y refl) (runner_at t (finished m None f.end) y ∙ ap (λ z. cond (y.no == t) z (runner y)) (runner_finished m f.end y))
+      (agree_by (bot_at b (relieved m) x) (task_at t (ended_run m None f.end) y) (cond (x.no == b) None x.task) (cond (y.no == t) None (runner y)) y.no x.no (task_of_at b (relieved m) x)
+      (task_no_at t (ended_run m None f.end) y refl) (runner_at t (ended_run m None f.end) y ∙ ap (λ z. cond (y.no == t) z (runner y)) (runner_finished m f.end y))
       (cond_both (x.no == b) (relieved m x) x (λ (z : BotRow). z.no ≡ x.no) (λ n. refl) (λ n. refl))
       (left b t x.no y.no x.task (runner y) (x.no == b) (y.no == t) refl refl (agree s o x a y c) its_task its_bot))
     where
@@ -188,14 +188,14 @@ module _ (s : PoolState) (o : IsSound s) where
   -- rows that were there
   row_agree : (m : ℕ) (k : EntryKind) → Finds s k → (x : BotRow) → Among x s.bots → (y : TaskRow) → Among y s.tasks → Agree (bot_after m k x) (task_after s m k y)
   row_agree m (kind.Slice t to) f x a y c =
-      cond_both (y.no == t) (moved m to y) y (Agree x)
-      (λ n. subst (λ (z : Outcome). Agree x (moved m z y)) (sym (goes_to s o t to f y c n)) (moved_agree m x y (row_is s o t waits f.waiting y c n) (agree s o x a y c)))
+      cond_both (y.no == t) (expired_slice m to y) y (Agree x)
+      (λ n. subst (λ (z : Outcome). Agree x (expired_slice m z y)) (sym (goes_to s o t to f y c n)) (moved_agree m x y (row_is s o t waits f.waiting y c n) (agree s o x a y c)))
       (λ n. agree s o x a y c)
   row_agree m (kind.Silence t) f x a y c =
-      agree_by (cond (runs_task t x) (hushed x) x) (task_at t (lost m) y) (cond (runs_task t x) None x.task) (cond (y.no == t) None (runner y)) y.no x.no (hushed_task (runs_task t x) x)
-      (task_no_at t (lost m) y refl) (runner_at t (lost m) y ∙ ap (λ z. cond (y.no == t) z (runner y)) (runner_lost m y)) (cond_both (runs_task t x) (hushed x) x (λ (z : BotRow). z.no ≡ x.no) (λ n. refl) (λ n. refl))
+      agree_by (cond (runs_task t x) (silent_bot x) x) (task_at t (lost_run m) y) (cond (runs_task t x) None x.task) (cond (y.no == t) None (runner y)) y.no x.no (silent_bot_task (runs_task t x) x)
+      (task_no_at t (lost_run m) y refl) (runner_at t (lost_run m) y ∙ ap (λ z. cond (y.no == t) z (runner y)) (runner_lost m y)) (cond_both (runs_task t x) (silent_bot x) x (λ (z : BotRow). z.no ≡ x.no) (λ n. refl) (λ n. refl))
       (silences t x.no y.no x.task (runner y) (runs_task t x) (y.no == t) refl refl (agree s o x a y c))
-  row_agree m (kind.Dead b) f x a y c = cond_both (x.no == b) (deadened x) x (λ (z : BotRow). Agree z y) (λ n. agree s o x a y c) (λ n. agree s o x a y c)
+  row_agree m (kind.Dead b) f x a y c = cond_both (x.no == b) (dead_bot x) x (λ (z : BotRow). Agree z y) (λ n. agree s o x a y c) (λ n. agree s o x a y c)
   row_agree m (kind.Cancel t) f x a y c =
       cond_both (y.no == t) (canceled m y) y (Agree x) (λ n. canceled_agree m x y (row_is s o t waits f y c n) (agree s o x a y c)) (λ n. agree s o x a y c)
   row_agree m (kind.Kill t) f x a y c =
@@ -204,13 +204,13 @@ module _ (s : PoolState) (o : IsSound s) where
   row_agree m (kind.Handshake b id session dims q) f x a y c = shaken_agree m b id session dims q x a y c (run_of_bot s b) refl
   row_agree m (kind.Poll b dims q hint) f x a y c = cond_both (x.no == b) (polled m dims q hint x) x (λ (z : BotRow). Agree z y) (λ n. agree s o x a y c) (λ n. agree s o x a y c)
   row_agree m (kind.Claim b t id) f x a y c =
-      agree_by (bot_at b (busied m t) x) (task_at t (begun m b id) y) (cond (x.no == b) (Some t) x.task) (cond (y.no == t) (Some b) (runner y)) y.no x.no (task_of_at b (busied m t) x)
-      (task_no_at t (begun m b id) y refl) (runner_at t (begun m b id) y) (cond_both (x.no == b) (busied m t x) x (λ (z : BotRow). z.no ≡ x.no) (λ n. refl) (λ n. refl))
+      agree_by (bot_at b (assigned_bot m t) x) (task_at t (started_run m b id) y) (cond (x.no == b) (Some t) x.task) (cond (y.no == t) (Some b) (runner y)) y.no x.no (task_of_at b (assigned_bot m t) x)
+      (task_no_at t (started_run m b id) y refl) (runner_at t (started_run m b id) y) (cond_both (x.no == b) (assigned_bot m t x) x (λ (z : BotRow). z.no ≡ x.no) (λ n. refl) (λ n. refl))
       (begins b t x.no y.no x.task (runner y) (x.no == b) (y.no == t) refl refl (agree s o x a y c)
       (λ e. idle_bot f.bot f.among f.idle y c (e ∙ ap (λ n. Some n) (sym f.named)))
       (λ p. runner_waits y.state y.attempt (row_is s o t waits (claim_waits s b t id f) y c (eq-eqb y.no t p))))
   row_agree m (kind.Contact b) f x a y c = cond_both (x.no == b) (heard m x) x (λ (z : BotRow). Agree z y) (λ n. agree s o x a y c) (λ n. agree s o x a y c)
-  row_agree m (kind.Event b e text) f x a y c = cond_both (x.no == b) (noted m e text x) x (λ (z : BotRow). Agree z y) (λ n. noted_agree m e text x y (agree s o x a y c)) (λ n. agree s o x a y c)
+  row_agree m (kind.Event b e text) f x a y c = cond_both (x.no == b) (event_effect m e text x) x (λ (z : BotRow). Agree z y) (λ n. event_effect_agree m e text x y (agree s o x a y c)) (λ n. agree s o x a y c)
   row_agree m (kind.Update b t try_no chunk last) f x a y c = ended_agree m b t try_no chunk last f x a y c
   row_agree m (kind.Terminate b) f x a y c = cond_both (x.no == b) (terminated x) x (λ (z : BotRow). Agree z y) (λ n. agree s o x a y c) (λ n. agree s o x a y c)
   row_agree m k f x a y c = agree s o x a y c
@@ -232,8 +232,8 @@ module _ (s : PoolState) (o : IsSound s) where
       nobody (inl new) g e = let low = within (runner y) (length s.bots) b (task_is s o y c).has_bot e in let n = new.next in absurd (omega (arith, low, n))
       nobody (inr old) g e = absurd (cc (find_bot s o old.bot b old.among old.named, g))
 
-      by_old : (r : Option BotRow) → bot_of s b ≡ r → Among x (option_map_or (λ old. []) r (greeted m b id session dims q ∷ [])) → Agree x (if_some (lost_at m) (option_and_then (λ (z : BotRow). z.task) r) y)
-      by_old None g d = each_one (λ (z : BotRow). Agree z y) (greeted m b id session dims q) (λ e. absurd (cc (e)), λ e. absurd (nobody f g e)) x d
+      by_old : (r : Option BotRow) → bot_of s b ≡ r → Among x (option_map_or (λ old. []) r (session_row m b id session dims q ∷ [])) → Agree x (if_some (lost_run_at m) (option_and_then (λ (z : BotRow). z.task) r) y)
+      by_old None g d = each_one (λ (z : BotRow). Agree z y) (session_row m b id session dims q) (λ e. absurd (cc (e)), λ e. absurd (nobody f g e)) x d
       by_old (Some old) g d = elim d [ ]
   bot_agree m k f x a y c = elim a [ ]
 

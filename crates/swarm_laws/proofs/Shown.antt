@@ -23,22 +23,22 @@ use Rattle.swarm_model.specs.declared.request.Request.TheVariants as ask
 use Rattle.swarm_model.specs.declared.rule.Rule.TheVariants as rule
 use Rattle.swarm_model.specs.declared.rule.Unfit.TheVariants as unfit
 use Rattle.swarm_model.specs.declared.reply.Reply.TheVariants as reply
-use Rattle.swarm_model.specs.declared.answer.Told.{Told}
+use Rattle.swarm_model.specs.declared.answer.Decision.{Decision}
 use Rattle.swarm_model.specs.Finding.{is_final, bot_named}
 use Rattle.swarm_model.specs.Slices.{admit, current_slice, first}
 use Rattle.swarm_model.specs.Reuse.{sent, reuse}
-use Rattle.swarm_model.specs.Answers.{tell, answers, again, takes_over, accepted, accepted_at, tasks_full, named_task, result_of, may, denied, cancel, cancel_row, stop, greet, handshake, poll, busy, run_on, run_from, claim, claim_again, claimed, claims, unfit_of, unfit_told, event, is_kept, updates, report, report_again, report_on, not_claimant, update, update_row, terminate}
-use Rattle.swarm_model.specs.Kept.{Kept, ShowsVerdict}
+use Rattle.swarm_model.specs.Answers.{decide, reply_with_entry, resubmitted, reuse_outcome, accepted, accepted_at, tasks_full, named_task, result_of, may, denied, cancel, cancel_row, stop, known_bot, handshake, poll, busy, run_on, run_from, claim, claim_again, claimed, claims, unfit_of, unfit_refusal, event, is_kept, updates, report, report_again, report_on, not_claimant, update, update_row, terminate}
+use Rattle.swarm_model.specs.MachineState.{MachineState, ShowsVerdict}
 use Rattle.swarm_model.specs.Verdicts.{verdict}
 use Rattle.swarm_laws.proofs.Answering.{by_when, by_map, by_with}
-use Rattle.swarm_laws.proofs.Findings.{waits, runs}
+use Rattle.swarm_laws.proofs.Preconditions.{waits, runs}
 
 -- where the log tells the state of each task
-module _ (kept : Kept) (tells : (number try_no : ℕ) (task : TaskRow) → named_task kept.pool number try_no ≡ Some task → verdict kept.log task.no ≡ task.state) where
+module _ (kept : MachineState) (tells : (number try_no : ℕ) (task : TaskRow) → named_task kept.pool number try_no ≡ Some task → verdict kept.log task.no ≡ task.state) where
   abbrev s : PoolState
   s = kept.pool
 
-  abbrev Shows : Told → Type 0
+  abbrev Shows : Decision → Type 0
   Shows told = ShowsVerdict kept told.reply
 
   -- each other reply shows none
@@ -59,7 +59,7 @@ module _ (kept : Kept) (tells : (number try_no : ℕ) (task : TaskRow) → named
 
   handshake_shows : (name session : List ℕ) (dims : BotDims) (q : List ℕ) → Shows (handshake s name session dims q)
   handshake_shows name session dims q =
-      by_map Shows (greet name session dims q) (bot_named s name) _ (λ bot e. cond_both (same bot.session session) _ _ Shows (λ t. tt) (λ t. tt)) (λ e.
+      by_map Shows (known_bot name session dims q) (bot_named s name) _ (λ bot e. cond_both (same bot.session session) _ _ Shows (λ t. tt) (λ t. tt)) (λ e.
       by_when Shows (nat_le s.settings.most_bots (length s.bots)) _ _ (λ t. tt) (λ t. tt))
 
   poll_shows : (dims : BotDims) (q : List ℕ) (bot : BotRow) → Shows (poll s dims q bot)
@@ -77,12 +77,12 @@ module _ (kept : Kept) (tells : (number try_no : ℕ) (task : TaskRow) → named
   claim_shows : (id : List ℕ) (bot : BotRow) → Shows (claim s id bot)
   claim_shows id bot =
       by_map Shows (claim_again bot) (claimed s bot.no id) _ (λ task e. cond_both (is_final task.state) _ _ Shows (λ t. tt) (λ t. run_shows task (current_slice task))) (λ e.
-      by_map Shows unfit_told (unfit_of bot) _ (λ why e. tt) (λ e.
+      by_map Shows unfit_refusal (unfit_of bot) _ (λ why e. tt) (λ e.
       by_map Shows busy (run_on s bot) _ (λ task e. tt) (λ e.
       by_map Shows (claims bot id) (first s bot.dims) _ (λ task e. run_shows task (current_slice task)) (λ e. tt))))
 
   event_shows : (which : EventKind) (text : List ℕ) (bot : BotRow) → Shows (event which text bot)
-  event_shows which text bot = by_when Shows (bot.dead && is_none bot.task) (unfit_told unfit.Dead) (answers reply.Noted (kind.Event bot.no which text)) (λ t. tt) (λ t. tt)
+  event_shows which text bot = by_when Shows (bot.dead && is_none bot.task) (unfit_refusal unfit.Dead) (reply_with_entry reply.Noted (kind.Event bot.no which text)) (λ t. tt) (λ t. tt)
 
   report_shows : (bot : BotRow) (task : TaskRow) (chunk : Option Chunk) (last : Option Last) (attempt : Attempt) → Shows (report_on s bot task chunk last attempt)
   report_shows bot task chunk last attempt =
@@ -91,11 +91,11 @@ module _ (kept : Kept) (tells : (number try_no : ℕ) (task : TaskRow) → named
       by_when Shows (is_some last) (updates attempt (kind.Update bot.no task.no attempt.try_no chunk last)) (updates attempt (kind.Contact bot.no)) (λ l. tt) (λ l. tt)))
 
   -- so each answer shows what the log tells
-  pub tell_shows : (who : List ℕ) (m : ℕ) (request : Request) → Shows (tell s who m request)
+  pub tell_shows : (who : List ℕ) (m : ℕ) (request : Request) → Shows (decide s who m request)
   tell_shows who m (ask.New request) =
-      by_map Shows (again request) (sent s who request.request_uuid) _ (λ row e. cond_both (same_task row.request request) _ _ Shows (λ t. tt) (λ t. tt)) (λ unsent.
+      by_map Shows (resubmitted request) (sent s who request.request_uuid) _ (λ row e. cond_both (same_task row.request request) _ _ Shows (λ t. tt) (λ t. tt)) (λ unsent.
       by_when Shows (nat_le s.settings.most_tasks (length s.tasks)) (tasks_full s) _ (λ t. tt) (λ t.
-      by_map Shows (takes_over s who request) (reuse s m request.task_slices) (accepted s who request) (λ found e. tt) (λ e. accepted_shows who request (admit s request.task_slices 0))))
+      by_map Shows (reuse_outcome s who request) (reuse s m request.task_slices) (accepted s who request) (λ found e. tt) (λ e. accepted_shows who request (admit s request.task_slices 0))))
   tell_shows who m (ask.Cancel number try_no kill) = by_with Shows (named_task s number try_no) rule.NoTask (cancel s who kill) tt (λ task e. cancel_shows who kill task)
   tell_shows who m (ask.Result number try_no) = by_with Shows (named_task s number try_no) rule.NoTask (result_of s) tt (λ task e. tells number try_no task e)
   tell_shows who m (ask.Count state) = tt

@@ -11,14 +11,14 @@ use Rattle.swarm_model.specs.declared.entry.Entry.{Entry}
 use Rattle.swarm_model.specs.Effects.{opening, after}
 use Rattle.swarm_model.specs.History.{replay, IsCaused, MayFollow}
 use Rattle.swarm_model.specs.Soundness.{IsSound, IsSoundTask, IsSoundBot, Agree, AreClaimedApart, AreSentApart, StaysSound}
-use Rattle.swarm_laws.proofs.Finds.{finds}
+use Rattle.swarm_laws.proofs.EntryPreconditions.{finds}
 use Rattle.swarm_laws.proofs.Tasks.{tasks_sound}
 use Rattle.swarm_laws.proofs.Bots.{bots_sound}
 use Rattle.swarm_laws.proofs.Runs.{runs_agree}
 use Rattle.swarm_laws.proofs.Moments.{ahead_after}
 use Rattle.swarm_laws.proofs.Numbers.{tasks_numbered, bots_numbered}
 use Rattle.swarm_laws.proofs.Claimed.{claims_apart}
-use Rattle.swarm_laws.proofs.Sent.{all_sent_apart}
+use Rattle.swarm_laws.proofs.UuidLaw.{all_sent_apart}
 
 -- the parts together
 pub sound_after : (s : PoolState) (e : Entry) → IsSound s → MayFollow s e → IsSound (after s e)

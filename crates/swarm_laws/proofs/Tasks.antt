@@ -18,12 +18,12 @@ use Rattle.swarm_model.specs.declared.entry.Outcome.TheVariants as outcome
 use Rattle.swarm_model.specs.Finding.{is_state, is_final}
 use Rattle.swarm_model.specs.Slices.{admit}
 use Rattle.swarm_model.specs.Deadlines.{next_of, last_state}
-use Rattle.swarm_model.specs.Effects.{no_of_bot, added_tasks, added_bots, bot_after, moved, lost, canceled, killed, kill_marked, begun, reported, finished, end_state, new_row, end_at, after}
+use Rattle.swarm_model.specs.Effects.{no_of_bot, added_tasks, added_bots, bot_after, expired_slice, lost_run, canceled, killed, kill_marked, started_run, reported, ended_run, end_state, new_row, end_at, after}
 use Rattle.swarm_model.specs.History.{MayFollow}
 use Rattle.swarm_model.specs.Soundness.{IsSound, IsSoundTask, runner}
 use Rattle.swarm_laws.proofs.Lists.{Among, each_one, number_within}
-use Rattle.swarm_laws.proofs.Findings.{Finds, FindsClaim, waits}
-use Rattle.swarm_laws.proofs.Finds.{finds, admit_within}
+use Rattle.swarm_laws.proofs.Preconditions.{Finds, FindsClaim, waits}
+use Rattle.swarm_laws.proofs.EntryPreconditions.{finds, admit_within}
 use Rattle.swarm_laws.proofs.Rows.{task_by, task_is, all_tasks, no_fewer, runner_in, fits_in}
 
 -- states
@@ -38,7 +38,7 @@ pub reported_final : (last : Last) → is_final (reported last) ≡ true
 reported_final last = cond_both (last.hard_timeout || last.io_timeout) TimedOut Completed (λ state. is_final state ≡ true) (λ t. refl) (λ t. refl)
 
 -- so a run that was reported has ended
-pub finished_final : (m : ℕ) (last : Last) (x : TaskRow) → is_final (finished m None last x).state ≡ true
+pub finished_final : (m : ℕ) (last : Last) (x : TaskRow) → is_final (ended_run m None last x).state ≡ true
 finished_final m last x = end_final x.attempt (reported last) (reported_final last)
 
 -- a task whose slices ran out does
@@ -69,12 +69,12 @@ runner_final Running attempt f = absurd (cc (f))
 runner_final state attempt f = refl
 
 -- nor what is lost
-pub runner_lost : (m : ℕ) (x : TaskRow) → runner (lost m x) ≡ None
+pub runner_lost : (m : ℕ) (x : TaskRow) → runner (lost_run m x) ≡ None
 runner_lost m x = runner_final (end_state x.attempt BotDied) x.attempt (end_final x.attempt BotDied refl)
 
 -- nor what a report ended
-pub runner_finished : (m : ℕ) (last : Last) (x : TaskRow) → runner (finished m None last x) ≡ None
-runner_finished m last x = runner_final (finished m None last x).state (finished m None last x).attempt (finished_final m last x)
+pub runner_finished : (m : ℕ) (last : Last) (x : TaskRow) → runner (ended_run m None last x) ≡ None
+runner_finished m last x = runner_final (ended_run m None last x).state (ended_run m None last x).attempt (finished_final m last x)
 
 -- whoever runs a task that is to stop runs it still
 pub runner_marked : (x : TaskRow) → runner (kill_marked x) ≡ runner x
@@ -85,10 +85,10 @@ runner_marked x = by_attempt x.attempt
     by_attempt (Some a) = refl
 
 -- a task that waits has no runner, and none after its slice ran out
-pub runner_moved : (s : PoolState) (m : ℕ) (x : TaskRow) → waits x ≡ true → runner (moved m (next_of s x) x) ≡ None
+pub runner_moved : (s : PoolState) (m : ℕ) (x : TaskRow) → waits x ≡ true → runner (expired_slice m (next_of s x) x) ≡ None
 runner_moved s m x w = by_place (admit s x.request.task_slices (x.slice + 1))
   where
-    by_place : (o : Option ℕ) → runner (moved m (option_map_or outcome.Slice o (outcome.Ended (last_state x))) x) ≡ None
+    by_place : (o : Option ℕ) → runner (expired_slice m (option_map_or outcome.Slice o (outcome.Ended (last_state x))) x) ≡ None
     by_place None = runner_final (last_state x) x.attempt (last_final x)
     by_place (Some place) = runner_waits x.state x.attempt w
 
@@ -148,7 +148,7 @@ module _ (s : PoolState) (e : Entry) (o : IsSound s) (follows : MayFollow s e) w
 
   -- a row that moved
   moved_sound : (x : TaskRow) → IsSoundTask s x → waits x ≡ true → (r : Option ℕ) → admit s x.request.task_slices (x.slice + 1) ≡ r →
-      IsSoundTask (after s e) (moved e.moment (option_map_or outcome.Slice r (outcome.Ended (last_state x))) x)
+      IsSoundTask (after s e) (expired_slice e.moment (option_map_or outcome.Slice r (outcome.Ended (last_state x))) x)
   moved_sound x sound w (Some place) h =
       let low = sound.has_slice in
       record {
@@ -171,7 +171,7 @@ module _ (s : PoolState) (e : Entry) (o : IsSound s) (follows : MayFollow s e) w
       }
 
   -- that was lost
-  lost_sound : (x : TaskRow) → IsSoundTask s x → IsSoundTask (after s e) (lost e.moment x)
+  lost_sound : (x : TaskRow) → IsSoundTask s x → IsSoundTask (after s e) (lost_run e.moment x)
   lost_sound x sound =
       let was = sound.since in
       let before = may in
@@ -180,7 +180,7 @@ module _ (s : PoolState) (e : Entry) (o : IsSound s) (follows : MayFollow s e) w
         has_slice = sound.has_slice;
         since = omega (arith, before, was);
         state = final_fits (end_state x.attempt BotDied) x.attempt (Some e.moment) (end_final x.attempt BotDied refl) refl;
-        has_bot = no_bot (runner (lost e.moment x)) (runner_lost e.moment x);
+        has_bot = no_bot (runner (lost_run e.moment x)) (runner_lost e.moment x);
       }
 
   -- that was canceled
@@ -204,11 +204,11 @@ module _ (s : PoolState) (e : Entry) (o : IsSound s) (follows : MayFollow s e) w
       }
 
   -- whose run was reported to its end
-  finished_sound : (last : Last) (x : TaskRow) → IsSoundTask s x → IsSoundTask (after s e) (finished e.moment None last x)
+  finished_sound : (last : Last) (x : TaskRow) → IsSoundTask s x → IsSoundTask (after s e) (ended_run e.moment None last x)
   finished_sound last x sound =
       let was = sound.since in
       let before = may in
-      let y : TaskRow = finished e.moment None last x in
+      let y : TaskRow = ended_run e.moment None last x in
       record {
         checked = sound.checked;
         has_slice = sound.has_slice;
@@ -218,7 +218,7 @@ module _ (s : PoolState) (e : Entry) (o : IsSound s) (follows : MayFollow s e) w
       }
 
   -- that a bot began
-  begun_sound : (x : TaskRow) → IsSoundTask s x → waits x ≡ true → (b t : ℕ) (id : List ℕ) → FindsClaim s b t id → IsSoundTask (after s e) (begun e.moment b id x)
+  begun_sound : (x : TaskRow) → IsSoundTask s x → waits x ≡ true → (b t : ℕ) (id : List ℕ) → FindsClaim s b t id → IsSoundTask (after s e) (started_run e.moment b id x)
   begun_sound x sound w b t id f =
       let was = sound.since in
       let before = may in

@@ -6,12 +6,12 @@ use Rattle.swarm_model.specs.declared.pool_state.PoolState.{PoolState}
 use Rattle.swarm_model.specs.declared.entry.Entry.{Entry}
 use Rattle.swarm_model.specs.declared.entry.EntryKind.{EntryKind}
 use Rattle.swarm_model.specs.Finding.{is_final}
-use Rattle.swarm_model.specs.Effects.{task_after, added_tasks, after, end_state, finished}
+use Rattle.swarm_model.specs.Effects.{task_after, added_tasks, after, end_state, ended_run}
 use Rattle.swarm_model.specs.History.{replay, IsCaused}
 use Rattle.swarm_model.specs.Soundness.{IsSound}
 use Rattle.swarm_laws.proofs.Lists.{Among, among_map, among_left}
-use Rattle.swarm_laws.proofs.Findings.{Finds, waits}
-use Rattle.swarm_laws.proofs.Finds.{finds}
+use Rattle.swarm_laws.proofs.Preconditions.{Finds, waits}
+use Rattle.swarm_laws.proofs.EntryPreconditions.{finds}
 use Rattle.swarm_laws.proofs.Rows.{task_by}
 use Rattle.swarm_laws.proofs.Tasks.{end_final, finished_final, not_pending, not_running}
 use Rattle.swarm_laws.proofs.Numbers.{task_no}
@@ -53,7 +53,7 @@ past_lasts s m k o f x a p =
       begins = λ b t id is found w. refl;
       cancels = λ w. refl;
       marks = λ w. p;
-      finishes = λ last w. not_pending (finished m None last x).state (finished_final m last x);
+      finishes = λ last w. not_pending (ended_run m None last x).state (finished_final m last x);
     })
 
 -- a task that is over stays as it is

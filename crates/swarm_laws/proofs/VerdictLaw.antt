@@ -19,8 +19,8 @@ use Rattle.swarm_model.specs.History.{replay, IsCaused}
 use Rattle.swarm_model.specs.Soundness.{IsSound}
 use Rattle.swarm_model.specs.Verdicts.{verdict, run_verdict, claim_verdict, start_verdict, final_only, claimant, slice_state, is_cancel, state_at_start, VerdictsAreStates}
 use Rattle.swarm_laws.proofs.Lists.{Among, here, Found, find_is, each_one, each_append, each_map, among_right}
-use Rattle.swarm_laws.proofs.Findings.{Finds, HasTask, waits}
-use Rattle.swarm_laws.proofs.Finds.{finds}
+use Rattle.swarm_laws.proofs.Preconditions.{Finds, HasTask, waits}
+use Rattle.swarm_laws.proofs.EntryPreconditions.{finds}
 use Rattle.swarm_laws.proofs.Rows.{one_task, row_is, claim_waits}
 use Rattle.swarm_laws.proofs.Numbers.{task_no}
 use Rattle.swarm_laws.proofs.Sound.{sound_after, sound_replay, opening_sound}

@@ -33,7 +33,7 @@ use Rattle.swarm_model.specs.declared.rule.Rule.TheVariants as rule
 use Rattle.swarm_model.specs.declared.reply.Reply.{Reply}
 use Rattle.swarm_model.specs.declared.reply.Reply.TheVariants as reply
 use Rattle.swarm_model.specs.declared.answer.Answer.{Answer}
-use Rattle.swarm_model.specs.declared.answer.Told.{Told}
+use Rattle.swarm_model.specs.declared.answer.Decision.{Decision}
 use Rattle.swarm_model.specs.Alike.{same_chunk, same_last}
 use Rattle.swarm_model.specs.Settings.{permits}
 use Rattle.swarm_model.specs.Finding.{has_state, task_of, bot_named, is_final, is_wanted}
@@ -44,52 +44,52 @@ use Rattle.swarm_model.specs.Views.{bot_name_of, view_of}
 use Rattle.swarm_model.specs.Words.{◌otherwise◌}
 
 -- a reply that adds nothing
-abbrev pub says : Reply → Told
-says answer = record { reply = answer; adds = None }
+abbrev pub reply_only : Reply → Decision
+reply_only answer = record { reply = answer; entry = None }
 
-abbrev pub refuses : Rule → Told
-refuses why = says (reply.No why)
+abbrev pub refusal : Rule → Decision
+refusal why = reply_only (reply.No why)
 
-abbrev pub tasks_full : PoolState → Told
-tasks_full s = refuses (rule.PoolTasksFull s.settings.most_tasks)
+abbrev pub tasks_full : PoolState → Decision
+tasks_full s = refusal (rule.PoolTasksFull s.settings.most_tasks)
 
 -- a task that is sent again under its uuid is told once more; another under that uuid is refused
-abbrev pub again : NewTask → TaskRow → Told
-again request task =
+abbrev pub resubmitted : NewTask → TaskRow → Decision
+resubmitted request task =
     if same_task task.request request
-    then says (reply.New task.no task.state)
-    else refuses (rule.UuidReused task.no)
+    then reply_only (reply.New task.no task.state)
+    else refusal (rule.UuidReused task.no)
 
 -- the next task, in this state and at this slice, with the task whose outcome it takes
-abbrev pub begins : PoolState → List ℕ → NewTask → TaskState → ℕ → Option ℕ → Told
-begins s who request state slice source =
+abbrev pub new_task_decision : PoolState → List ℕ → NewTask → TaskState → ℕ → Option ℕ → Decision
+new_task_decision s who request state slice source =
     record {
       reply = reply.New (length s.tasks + 1) state;
-      adds = Some (kind.New (length s.tasks + 1) who request state slice source);
+      entry = Some (kind.New (length s.tasks + 1) who request state slice source);
     }
 
 -- a task waits at its first open slice, and ends at once where none is open
-abbrev pub accepted_at : PoolState → List ℕ → NewTask → Option ℕ → Told
-accepted_at s who request (Some place) = begins s who request Pending place None
-accepted_at s who request None = begins s who request NoResource (length request.task_slices - 1) None
+abbrev pub accepted_at : PoolState → List ℕ → NewTask → Option ℕ → Decision
+accepted_at s who request (Some place) = new_task_decision s who request Pending place None
+accepted_at s who request None = new_task_decision s who request NoResource (length request.task_slices - 1) None
 
-abbrev pub accepted : PoolState → List ℕ → NewTask → Told
+abbrev pub accepted : PoolState → List ℕ → NewTask → Decision
 accepted s who request = accepted_at s who request (admit s request.task_slices 0)
 
 -- a task takes the outcome of an earlier run at the slice that is like it
-abbrev pub takes_over : PoolState → List ℕ → NewTask → Reuse → Told
-takes_over s who request found = begins s who request Completed found.slice (Some found.source)
+abbrev pub reuse_outcome : PoolState → List ℕ → NewTask → Reuse → Decision
+reuse_outcome s who request found = new_task_decision s who request Completed found.slice (Some found.source)
 
-abbrev pub new_task : PoolState → List ℕ → ℕ → NewTask → Told
+abbrev pub new_task : PoolState → List ℕ → ℕ → NewTask → Decision
 new_task s who moment request =
-    option_map (again request) (sent s who request.request_uuid)
+    option_map (resubmitted request) (sent s who request.request_uuid)
     otherwise when (nat_le s.settings.most_tasks (length s.tasks)) (tasks_full s)
-    otherwise option_map (takes_over s who request) (reuse s moment request.task_slices)
+    otherwise option_map (reuse_outcome s who request) (reuse s moment request.task_slices)
     otherwise accepted s who request
 
 -- what follows where there is a value, and the refusal where there is none
-abbrev pub with : {A : Type 0} → Option A → Rule → (A → Told) → Told
-with None why next = refuses why
+abbrev pub with : {A : Type 0} → Option A → Rule → (A → Decision) → Decision
+with None why next = refusal why
 with (Some value) why next = next value
 
 abbrev pub has_try : ℕ → Option Attempt → Bool
@@ -107,59 +107,59 @@ named_task s number try_no = option_and_then (if_named try_no) (task_of s number
 abbrev pub may : PoolState → List ℕ → Permission → TaskRow → Bool
 may s who permission task = same task.creator who || permits s.settings who permission
 
-abbrev pub denied : PoolState → Permission → Told
-denied s permission = refuses (rule.Denied permission s.settings.name)
+abbrev pub denied : PoolState → Permission → Decision
+denied s permission = refusal (rule.Denied permission s.settings.name)
 
 -- the reply to a task that isn't wanted any more, and the entry that it adds
-abbrev pub cancels : Bool → Bool → Option EntryKind → Told
-cancels canceled was_running adds = record { reply = reply.Canceled canceled was_running; adds = adds }
+abbrev pub cancels : Bool → Bool → Option EntryKind → Decision
+cancels canceled was_running entry = record { reply = reply.Canceled canceled was_running; entry = entry }
 
 abbrev pub is_killed : Option Attempt → Bool
 is_killed attempt = option_map_or (λ a. a.kill) attempt false
 
 -- a run goes on, unless it is to stop, too; it is asked to stop once
-abbrev pub stop : Bool → TaskRow → Told
+abbrev pub stop : Bool → TaskRow → Decision
 stop false task = cancels false true None
 stop true task = cancels true true (if is_killed task.attempt then None else Some (kind.Kill task.no))
 
 -- a task that waits ends; one that has ended stays as it is
-abbrev pub cancel_row : Bool → TaskRow → Told
+abbrev pub cancel_row : Bool → TaskRow → Decision
 cancel_row kill task =
     when (has_state Pending task) (cancels true false (Some (kind.Cancel task.no)))
     otherwise when (has_state Running task) (stop kill task)
     otherwise cancels false false None
 
-abbrev pub cancel : PoolState → List ℕ → Bool → TaskRow → Told
+abbrev pub cancel : PoolState → List ℕ → Bool → TaskRow → Decision
 cancel s who kill task =
     when (not (may s who permission.CancelTask task)) (denied s permission.CancelTask)
     otherwise cancel_row kill task
 
-abbrev pub result_of : PoolState → TaskRow → Told
-result_of s task = says (reply.Result (view_of s task))
+abbrev pub result_of : PoolState → TaskRow → Decision
+result_of s task = reply_only (reply.Result (view_of s task))
 
-abbrev pub count_tasks : PoolState → Option TaskState → Told
-count_tasks s state = says (reply.Count (count_by (is_wanted state) s.tasks))
+abbrev pub count_tasks : PoolState → Option TaskState → Decision
+count_tasks s state = reply_only (reply.Count (count_by (is_wanted state) s.tasks))
 
 -- ---- bots
 
-abbrev pub answers : Reply → EntryKind → Told
-answers answer entry = record { reply = answer; adds = Some entry }
+abbrev pub reply_with_entry : Reply → EntryKind → Decision
+reply_with_entry answer entry = record { reply = answer; entry = Some entry }
 
 -- a bot that is known: a new session begins anew
-abbrev pub greet : List ℕ → List ℕ → BotDims → List ℕ → BotRow → Told
-greet name session dims quarantined bot =
+abbrev pub known_bot : List ℕ → List ℕ → BotDims → List ℕ → BotRow → Decision
+known_bot name session dims quarantined bot =
     if same bot.session session
-    then answers (reply.Shaken name) (kind.Contact bot.no)
-    else answers (reply.Shaken name) (kind.Handshake bot.no name session dims quarantined)
+    then reply_with_entry (reply.Shaken name) (kind.Contact bot.no)
+    else reply_with_entry (reply.Shaken name) (kind.Handshake bot.no name session dims quarantined)
 
-abbrev pub bots_full : PoolState → Told
-bots_full s = refuses (rule.PoolBotsFull s.settings.most_bots)
+abbrev pub bots_full : PoolState → Decision
+bots_full s = refusal (rule.PoolBotsFull s.settings.most_bots)
 
-abbrev pub handshake : PoolState → List ℕ → List ℕ → BotDims → List ℕ → Told
+abbrev pub handshake : PoolState → List ℕ → List ℕ → BotDims → List ℕ → Decision
 handshake s name session dims quarantined =
-    option_map (greet name session dims quarantined) (bot_named s name)
+    option_map (known_bot name session dims quarantined) (bot_named s name)
     otherwise when (nat_le s.settings.most_bots (length s.bots)) (bots_full s)
-    otherwise answers (reply.Shaken name) (kind.Handshake (length s.bots + 1) name session dims quarantined)
+    otherwise reply_with_entry (reply.Shaken name) (kind.Handshake (length s.bots + 1) name session dims quarantined)
 
 -- the task that a bot runs
 abbrev pub run_on : PoolState → BotRow → Option TaskRow
@@ -168,12 +168,12 @@ run_on s bot = option_and_then (task_of s) bot.task
 abbrev pub try_of : TaskRow → ℕ
 try_of task = option_map_or (λ attempt. attempt.try_no) task.attempt 0
 
-abbrev pub busy : TaskRow → Told
-busy task = refuses (rule.BotBusy task.no (try_of task))
+abbrev pub busy : TaskRow → Decision
+busy task = refusal (rule.BotBusy task.no (try_of task))
 
 -- the seconds of a bot's next nap
-abbrev pub nap : BotRow → ℕ
-nap bot = min 60 (2 ^ min bot.streak 6)
+abbrev pub sleep_secs : BotRow → ℕ
+sleep_secs bot = min 60 (2 ^ min bot.streak 6)
 
 -- what an entry holds of a value: nothing where it is as it was
 abbrev pub dims_unless : BotDims → BotDims → Option BotDims
@@ -182,18 +182,18 @@ dims_unless old new = if same_dims old new then None else Some new
 abbrev pub text_unless : List ℕ → List ℕ → Option Text
 text_unless old new = if same old new then None else Some new
 
-abbrev pub polls : BotRow → BotDims → List ℕ → Bool → Reply → Told
+abbrev pub polls : BotRow → BotDims → List ℕ → Bool → Reply → Decision
 polls bot dims quarantined hint answer =
-    answers answer (kind.Poll bot.no (dims_unless bot.dims dims) (text_unless bot.quarantined quarantined) hint)
+    reply_with_entry answer (kind.Poll bot.no (dims_unless bot.dims dims) (text_unless bot.quarantined quarantined) hint)
 
-abbrev pub poll : PoolState → BotDims → List ℕ → BotRow → Told
+abbrev pub poll : PoolState → BotDims → List ℕ → BotRow → Decision
 poll s dims quarantined bot =
-    when bot.dead (refuses (rule.BotUnfit unfit.Dead))
+    when bot.dead (refusal (rule.BotUnfit unfit.Dead))
     otherwise option_map busy (run_on s bot)
     otherwise when bot.terminating (polls bot dims quarantined false reply.Terminate)
-    otherwise when (not (is_empty quarantined)) (polls bot dims quarantined false (reply.Sleep (nap bot)))
+    otherwise when (not (is_empty quarantined)) (polls bot dims quarantined false (reply.Sleep (sleep_secs bot)))
     otherwise when (is_some (first s dims)) (polls bot dims quarantined true reply.ClaimHint)
-    otherwise polls bot dims quarantined false (reply.Sleep (nap bot))
+    otherwise polls bot dims quarantined false (reply.Sleep (sleep_secs bot))
 
 abbrev pub is_claim : ℕ → List ℕ → Attempt → Bool
 is_claim bot claim attempt = attempt.bot == bot && same attempt.claim claim
@@ -212,11 +212,11 @@ run_from task slice = reply.Run task.no 1 task.slice task.request.bot_ping_toler
 abbrev pub run : TaskRow → Reply
 run task = option_map_or (run_from task) (current_slice task) reply.Skip
 
-abbrev pub claim_again : BotRow → TaskRow → Told
+abbrev pub claim_again : BotRow → TaskRow → Decision
 claim_again bot task =
     if is_final task.state
-    then refuses (rule.ClaimOver task.no (try_of task) task.state)
-    else answers (run task) (kind.Contact bot.no)
+    then refusal (rule.ClaimOver task.no (try_of task) task.state)
+    else reply_with_entry (run task) (kind.Contact bot.no)
 
 -- why a bot gets no work
 abbrev pub unfit_of : BotRow → Option Unfit
@@ -225,24 +225,24 @@ unfit_of bot =
     or_else when (not (is_empty bot.quarantined)) unfit.Quarantined
     or_else when bot.terminating unfit.Terminating
 
-abbrev pub unfit_told : Unfit → Told
-unfit_told why = refuses (rule.BotUnfit why)
+abbrev pub unfit_refusal : Unfit → Decision
+unfit_refusal why = refusal (rule.BotUnfit why)
 
-abbrev pub claims : BotRow → List ℕ → TaskRow → Told
-claims bot id task = answers (run task) (kind.Claim bot.no task.no id)
+abbrev pub claims : BotRow → List ℕ → TaskRow → Decision
+claims bot id task = reply_with_entry (run task) (kind.Claim bot.no task.no id)
 
-abbrev pub claim : PoolState → List ℕ → BotRow → Told
+abbrev pub claim : PoolState → List ℕ → BotRow → Decision
 claim s id bot =
     option_map (claim_again bot) (claimed s bot.no id)
-    otherwise option_map unfit_told (unfit_of bot)
+    otherwise option_map unfit_refusal (unfit_of bot)
     otherwise option_map busy (run_on s bot)
     otherwise option_map (claims bot id) (first s bot.dims)
-    otherwise answers reply.Skip (kind.Contact bot.no)
+    otherwise reply_with_entry reply.Skip (kind.Contact bot.no)
 
-abbrev pub event : EventKind → List ℕ → BotRow → Told
+abbrev pub event : EventKind → List ℕ → BotRow → Decision
 event which message bot =
-    when (bot.dead && is_none bot.task) (unfit_told unfit.Dead)
-    otherwise answers reply.Noted (kind.Event bot.no which message)
+    when (bot.dead && is_none bot.task) (unfit_refusal unfit.Dead)
+    otherwise reply_with_entry reply.Noted (kind.Event bot.no which message)
 
 -- the report is the one that ended the run
 abbrev pub is_kept : Attempt → Option Chunk → Option Last → Bool
@@ -250,55 +250,55 @@ is_kept attempt chunk last =
     is_some attempt.last && (option_eq same_last attempt.last last && option_eq same_chunk attempt.last_chunk chunk)
 
 -- the bot's report is taken, and it is told whether its run is to stop
-abbrev pub updates : Attempt → EntryKind → Told
-updates attempt entry = answers (reply.Updated attempt.kill) entry
+abbrev pub updates : Attempt → EntryKind → Decision
+updates attempt entry = reply_with_entry (reply.Updated attempt.kill) entry
 
 -- a run that has ended takes only the report that ended it, once more
-abbrev pub report_again : BotRow → TaskRow → Option Chunk → Option Last → Attempt → Told
+abbrev pub report_again : BotRow → TaskRow → Option Chunk → Option Last → Attempt → Decision
 report_again bot task chunk last attempt =
     if is_kept attempt chunk last
     then updates attempt (kind.Contact bot.no)
-    else refuses (rule.AttemptOver task.state)
+    else refusal (rule.AttemptOver task.state)
 
-abbrev pub report : BotRow → TaskRow → Option Chunk → Option Last → Attempt → Told
+abbrev pub report : BotRow → TaskRow → Option Chunk → Option Last → Attempt → Decision
 report bot task chunk last attempt =
     when (is_final task.state) (report_again bot task chunk last attempt)
     otherwise when (is_some last) (updates attempt (kind.Update bot.no task.no attempt.try_no chunk last))
     otherwise updates attempt (kind.Contact bot.no)
 
 -- the run is another bot's
-abbrev pub not_claimant : PoolState → Attempt → Told
-not_claimant s attempt = refuses (rule.NotClaimant (unwrap_or (bot_name_of s attempt) []))
+abbrev pub not_claimant : PoolState → Attempt → Decision
+not_claimant s attempt = refusal (rule.NotClaimant (unwrap_or (bot_name_of s attempt) []))
 
-abbrev pub report_on : PoolState → BotRow → TaskRow → Option Chunk → Option Last → Attempt → Told
+abbrev pub report_on : PoolState → BotRow → TaskRow → Option Chunk → Option Last → Attempt → Decision
 report_on s bot task chunk last attempt =
     when (not (attempt.bot == bot.no)) (not_claimant s attempt)
     otherwise report bot task chunk last attempt
 
 -- what a bot reports on a run
-abbrev pub update_row : PoolState → BotRow → Option Chunk → Option Last → TaskRow → Told
+abbrev pub update_row : PoolState → BotRow → Option Chunk → Option Last → TaskRow → Decision
 update_row s bot chunk last task = with task.attempt rule.NoTask (report_on s bot task chunk last)
 
-abbrev pub update : PoolState → ℕ → ℕ → Option Chunk → Option Last → BotRow → Told
+abbrev pub update : PoolState → ℕ → ℕ → Option Chunk → Option Last → BotRow → Decision
 update s task try_no chunk last bot = with (named_task s task try_no) rule.NoTask (update_row s bot chunk last)
 
-abbrev pub terminate : BotRow → Told
-terminate bot = if bot.terminating then says reply.Terminating else answers reply.Terminating (kind.Terminate bot.no)
+abbrev pub terminate : BotRow → Decision
+terminate bot = if bot.terminating then reply_only reply.Terminating else reply_with_entry reply.Terminating (kind.Terminate bot.no)
 
 -- ---- all requests
 
 -- what a caller is told at a moment
-abbrev pub tell : PoolState → List ℕ → ℕ → Request → Told
-tell s who moment (ask.New request) = new_task s who moment request
-tell s who moment (ask.Cancel task try_no kill) = with (named_task s task try_no) rule.NoTask (cancel s who kill)
-tell s who moment (ask.Result task try_no) = with (named_task s task try_no) rule.NoTask (result_of s)
-tell s who moment (ask.Count state) = count_tasks s state
-tell s who moment (ask.Handshake bot session dims quarantined) = handshake s bot session dims quarantined
-tell s who moment (ask.Poll bot dims quarantined) = with (bot_named s bot) rule.NoBot (poll s dims quarantined)
-tell s who moment (ask.Claim bot id) = with (bot_named s bot) rule.NoBot (claim s id)
-tell s who moment (ask.Event bot which message) = with (bot_named s bot) rule.NoBot (event which message)
-tell s who moment (ask.Update bot task try_no chunk last) = with (bot_named s bot) rule.NoBot (update s task try_no chunk last)
-tell s who moment (ask.Terminate bot) = with (bot_named s bot) rule.NoBot terminate
+abbrev pub decide : PoolState → List ℕ → ℕ → Request → Decision
+decide s who moment (ask.New request) = new_task s who moment request
+decide s who moment (ask.Cancel task try_no kill) = with (named_task s task try_no) rule.NoTask (cancel s who kill)
+decide s who moment (ask.Result task try_no) = with (named_task s task try_no) rule.NoTask (result_of s)
+decide s who moment (ask.Count state) = count_tasks s state
+decide s who moment (ask.Handshake bot session dims quarantined) = handshake s bot session dims quarantined
+decide s who moment (ask.Poll bot dims quarantined) = with (bot_named s bot) rule.NoBot (poll s dims quarantined)
+decide s who moment (ask.Claim bot id) = with (bot_named s bot) rule.NoBot (claim s id)
+decide s who moment (ask.Event bot which message) = with (bot_named s bot) rule.NoBot (event which message)
+decide s who moment (ask.Update bot task try_no chunk last) = with (bot_named s bot) rule.NoBot (update s task try_no chunk last)
+decide s who moment (ask.Terminate bot) = with (bot_named s bot) rule.NoBot terminate
 
 abbrev pub entry_at : ℕ → ℕ → EntryKind → Entry
 entry_at moment pass kind = record { moment = moment; pass = pass; kind = kind }
@@ -307,6 +307,6 @@ entry_at moment pass kind = record { moment = moment; pass = pass; kind = kind }
 abbrev pub answer : PoolState → List ℕ → ℕ → ℕ → Request → Answer
 answer s who moment pass request =
     record {
-      reply = (tell s who moment request).reply;
-      entry = option_map (entry_at moment pass) (tell s who moment request).adds;
+      reply = (decide s who moment request).reply;
+      entry = option_map (entry_at moment pass) (decide s who moment request).entry;
     }

@@ -17,26 +17,26 @@ use Rattle.swarm_model.specs.Answers.{answer}
 use Rattle.swarm_model.specs.Examples.{settings, settle_one, with_answer}
 
 -- a pool, and what it answered so far
-pub record Course : Type 0 where
+pub record Script : Type 0 where
   pub pool : PoolState
   pub replies : List Reply
 
 abbrev pub settle : ℕ → PoolState → PoolState
 settle moment s = settle_one moment (settle_one moment (settle_one moment s))
 
-abbrev pub answered_by : Course → PoolState → Answer → Course
-answered_by course s a = record { pool = with_answer s a; replies = course.replies ++ a.reply ∷ [] }
+abbrev pub answered_by : Script → PoolState → Answer → Script
+answered_by script s a = record { pool = with_answer s a; replies = script.replies ++ a.reply ∷ [] }
 
 -- a request at a moment, once what is due is settled
-abbrev pub step : Course → ℕ × Request → Course
-step course asked =
-    answered_by course (settle asked.0 course.pool) (answer (settle asked.0 course.pool) (codes "ana") asked.0 0 asked.1)
+abbrev pub step : Script → ℕ × Request → Script
+step script asked =
+    answered_by script (settle asked.0 script.pool) (answer (settle asked.0 script.pool) (codes "ana") asked.0 0 asked.1)
 
-abbrev pub from : PoolSettings → List (ℕ × Request) → Course
+abbrev pub from : PoolSettings → List (ℕ × Request) → Script
 from settings asked = fold step (record { pool = opening settings; replies = [] }) asked
 
-abbrev pub course : List (ℕ × Request) → Course
-course asked = from settings asked
+abbrev pub script : List (ℕ × Request) → Script
+script asked = from settings asked
 
 -- what a bot has: its pool and its name
 abbrev pub has : List ℕ → BotDims
@@ -52,11 +52,11 @@ abbrev pub claims : List ℕ → List ℕ → Request
 claims name id = ask.Claim name id
 
 -- how a bot stands: whether it is dead, whether it is to end, and its run
-abbrev pub stands : Course → ℕ → Option (Bool × (Bool × Option ℕ))
+abbrev pub stands : Script → ℕ → Option (Bool × (Bool × Option ℕ))
 stands c number = option_map (λ bot. (bot.dead, (bot.terminating, bot.task))) (bot_of c.pool number)
 
 -- the state of a task, and the place of its slice
-abbrev pub comes_to : Course → ℕ → Option (TaskState × ℕ)
+abbrev pub comes_to : Script → ℕ → Option (TaskState × ℕ)
 comes_to c number = option_map (λ task. (task.state, task.slice)) (task_of c.pool number)
 
 -- a task with another tolerance of silence

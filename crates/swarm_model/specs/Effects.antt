@@ -57,9 +57,9 @@ new_row moment t who request state slice from =
     }
 
 -- the task comes to another slice, or ends at its last one
-abbrev pub moved : ℕ → Outcome → TaskRow → TaskRow
-moved moment (outcome.Slice place) task = record task { slice = place; since = moment }
-moved moment (outcome.Ended state) task =
+abbrev pub expired_slice : ℕ → Outcome → TaskRow → TaskRow
+expired_slice moment (outcome.Slice place) task = record task { slice = place; since = moment }
+expired_slice moment (outcome.Ended state) task =
     record task { state = state; slice = length task.request.task_slices - 1; ended = Some moment }
 
 -- the state in which a run ends: killed, where it was asked to stop
@@ -68,8 +68,8 @@ end_state None state = state
 end_state (Some attempt) state = if attempt.kill then Killed else state
 
 -- the run ends without a last update
-abbrev pub lost : ℕ → TaskRow → TaskRow
-lost moment task = record task { state = end_state task.attempt BotDied; ended = Some moment }
+abbrev pub lost_run : ℕ → TaskRow → TaskRow
+lost_run moment task = record task { state = end_state task.attempt BotDied; ended = Some moment }
 
 abbrev pub canceled : ℕ → TaskRow → TaskRow
 canceled moment task = record task { state = Canceled; ended = Some moment }
@@ -83,7 +83,7 @@ kill_marked task = record task { attempt = option_map killed task.attempt }
 
 -- a bot begins the task
 abbrev pub begun : ℕ → ℕ → List ℕ → TaskRow → TaskRow
-begun moment bot claim task =
+started_run moment bot claim task =
     record task {
       state = Running;
       attempt = Some (record {
@@ -120,8 +120,8 @@ abbrev pub closed : Option Chunk → Last → Attempt → Attempt
 closed chunk last attempt = record attempt { last = Some last; last_chunk = chunk }
 
 -- the run ends with a last update
-abbrev pub finished : ℕ → Option Chunk → Last → TaskRow → TaskRow
-finished moment chunk last task =
+abbrev pub ended_run : ℕ → Option Chunk → Last → TaskRow → TaskRow
+ended_run moment chunk last task =
     record task {
       state = end_state task.attempt (reported last);
       attempt = option_map (closed chunk last) task.attempt;
@@ -137,8 +137,8 @@ abbrev pub task_at : ℕ → (TaskRow → TaskRow) → TaskRow → TaskRow
 task_at number change task = change_at no_of_task number change task
 
 -- the task that a bot runs is lost
-abbrev pub lost_at : ℕ → ℕ → TaskRow → TaskRow
-lost_at moment number task = task_at number (lost moment) task
+abbrev pub lost_run_at : ℕ → ℕ → TaskRow → TaskRow
+lost_run_at moment number task = task_at number (lost_run moment) task
 
 abbrev pub run_of_bot : PoolState → ℕ → Option ℕ
 run_of_bot s number = option_and_then (λ bot. bot.task) (bot_of s number)
@@ -149,19 +149,19 @@ attempt_of s number = option_and_then (λ task. task.attempt) (task_of s number)
 abbrev pub chunk_at : ℕ → Chunk → TaskRow → TaskRow
 chunk_at number chunk task = task_at number (lengthened chunk) task
 
-abbrev pub finished_at : ℕ → ℕ → Option Chunk → Last → TaskRow → TaskRow
-finished_at moment number chunk last task = task_at number (finished moment chunk last) task
+abbrev pub ended_run_at : ℕ → ℕ → Option Chunk → Last → TaskRow → TaskRow
+ended_run_at moment number chunk last task = task_at number (ended_run moment chunk last) task
 
 -- the row of a task after an entry
 abbrev pub task_after : PoolState → ℕ → EntryKind → TaskRow → TaskRow
-task_after s moment (kind.Slice t to) task = task_at t (moved moment to) task
-task_after s moment (kind.Silence t) task = task_at t (lost moment) task
+task_after s moment (kind.Slice t to) task = task_at t (expired_slice moment to) task
+task_after s moment (kind.Silence t) task = task_at t (lost_run moment) task
 task_after s moment (kind.Cancel t) task = task_at t (canceled moment) task
 task_after s moment (kind.Kill t) task = task_at t kill_marked task
-task_after s moment (kind.Handshake b id session dims q) task = if_some (lost_at moment) (run_of_bot s b) task
-task_after s moment (kind.Claim b t claim) task = task_at t (begun moment b claim) task
+task_after s moment (kind.Handshake b id session dims q) task = if_some (lost_run_at moment) (run_of_bot s b) task
+task_after s moment (kind.Claim b t claim) task = task_at t (started_run moment b claim) task
 task_after s moment (kind.Update b t try_no chunk last) task =
-    if_some (finished_at moment t chunk) last (if_some (chunk_at t) (fresh_chunk (attempt_of s t) chunk) task)
+    if_some (ended_run_at moment t chunk) last (if_some (chunk_at t) (fresh_chunk (attempt_of s t) chunk) task)
 task_after s moment entry task = task
 
 -- the task rows that an entry adds
@@ -201,12 +201,12 @@ told event.Quarantine message bot = record bot { quarantined = message }
 told event.Unquarantine message bot = record bot { quarantined = [] }
 
 -- the bot told of itself
-abbrev pub noted : ℕ → EventKind → List ℕ → BotRow → BotRow
-noted moment which message bot = told which message (heard moment bot)
+abbrev pub event_effect : ℕ → EventKind → List ℕ → BotRow → BotRow
+event_effect moment which message bot = told which message (heard moment bot)
 
 -- the row of a bot that comes with a new session
-abbrev pub greeted : ℕ → ℕ → List ℕ → List ℕ → BotDims → List ℕ → BotRow
-greeted moment number name session dims quarantined =
+abbrev pub session_row : ℕ → ℕ → List ℕ → List ℕ → BotDims → List ℕ → BotRow
+session_row moment number name session dims quarantined =
     record {
       no = number;
       name = name;
@@ -221,19 +221,19 @@ greeted moment number name session dims quarantined =
     }
 
 -- the bot runs a task
-abbrev pub busied : ℕ → ℕ → BotRow → BotRow
-busied moment task bot = record (heard moment bot) { task = Some task }
+abbrev pub assigned_bot : ℕ → ℕ → BotRow → BotRow
+assigned_bot moment task bot = record (heard moment bot) { task = Some task }
 
 -- the bot is done with its task
-abbrev pub freed : BotRow → BotRow
-freed bot = record bot { task = None }
+abbrev pub idle_bot : BotRow → BotRow
+idle_bot bot = record bot { task = None }
 
 -- the bot is silent, and its run is lost
-abbrev pub hushed : BotRow → BotRow
-hushed bot = record bot { dead = true; task = None }
+abbrev pub silent_bot : BotRow → BotRow
+silent_bot bot = record bot { dead = true; task = None }
 
-abbrev pub deadened : BotRow → BotRow
-deadened bot = record bot { dead = true }
+abbrev pub dead_bot : BotRow → BotRow
+dead_bot bot = record bot { dead = true }
 
 abbrev pub terminated : BotRow → BotRow
 terminated bot = record bot { terminating = true }
@@ -241,26 +241,26 @@ terminated bot = record bot { terminating = true }
 abbrev pub runs_task : ℕ → BotRow → Bool
 runs_task number bot = option_map_or (λ task. task == number) bot.task false
 
-abbrev pub freed_at : ℕ → Last → BotRow → BotRow
-freed_at number last bot = bot_at number freed bot
+abbrev pub idle_bot_at : ℕ → Last → BotRow → BotRow
+idle_bot_at number last bot = bot_at number idle_bot bot
 
 -- the row of a bot after an entry
 abbrev pub bot_after : ℕ → EntryKind → BotRow → BotRow
-bot_after moment (kind.Silence t) bot = if runs_task t bot then hushed bot else bot
-bot_after moment (kind.Dead b) bot = bot_at b deadened bot
-bot_after moment (kind.Handshake b id session dims q) bot = bot_at b (λ old. greeted moment b id session dims q) bot
+bot_after moment (kind.Silence t) bot = if runs_task t bot then silent_bot bot else bot
+bot_after moment (kind.Dead b) bot = bot_at b dead_bot bot
+bot_after moment (kind.Handshake b id session dims q) bot = bot_at b (λ old. session_row moment b id session dims q) bot
 bot_after moment (kind.Poll b dims q hint) bot = bot_at b (polled moment dims q hint) bot
-bot_after moment (kind.Claim b t claim) bot = bot_at b (busied moment t) bot
+bot_after moment (kind.Claim b t claim) bot = bot_at b (assigned_bot moment t) bot
 bot_after moment (kind.Contact b) bot = bot_at b (heard moment) bot
-bot_after moment (kind.Event b e text) bot = bot_at b (noted moment e text) bot
-bot_after moment (kind.Update b t try_no chunk last) bot = if_some (freed_at b) last (bot_at b (heard moment) bot)
+bot_after moment (kind.Event b e text) bot = bot_at b (event_effect moment e text) bot
+bot_after moment (kind.Update b t try_no chunk last) bot = if_some (idle_bot_at b) last (bot_at b (heard moment) bot)
 bot_after moment (kind.Terminate b) bot = bot_at b terminated bot
 bot_after moment entry bot = bot
 
 -- the row of a bot that comes for the first time
 abbrev pub added_bots : PoolState → ℕ → EntryKind → List BotRow
 added_bots s moment (kind.Handshake b id session dims q) =
-    option_map_or (λ old. []) (bot_of s b) (greeted moment b id session dims q ∷ [])
+    option_map_or (λ old. []) (bot_of s b) (session_row moment b id session dims q ∷ [])
 added_bots s moment entry = []
 
 -- ---- blobs

@@ -11,7 +11,7 @@ use Rattle.swarm_model.specs.declared.task_state.TaskState.{TaskState}
 use Rattle.swarm_model.specs.declared.pool_state.PoolState.{PoolState}
 use Rattle.swarm_model.specs.Finding.{task_of}
 use Rattle.swarm_model.specs.Examples.{small_task}
-use Rattle.swarm_model.specs.BotExamples.{course, greets, claims}
+use Rattle.swarm_model.specs.BotExamples.{script, greets, claims}
 
 -- the report of a run that ended by itself
 abbrev pub exits : ℤ → Last
@@ -28,11 +28,11 @@ begun =
 
 -- what follows is answered
 abbrev pub replies_after : List (ℕ × Request) → List Reply
-replies_after asked = drop 3 (course (begun ++ asked)).replies
+replies_after asked = drop 3 (script (begun ++ asked)).replies
 
 -- the pool to which it leads
 abbrev pub pool_after : List (ℕ × Request) → PoolState
-pool_after asked = (course (begun ++ asked)).pool
+pool_after asked = (script (begun ++ asked)).pool
 
 -- and the state of task 1 in it
 abbrev pub state_after : List (ℕ × Request) → Option TaskState

@@ -20,7 +20,7 @@ pub mod Repeats
 pub mod ReuseLaw
 pub mod Verdicts
 pub mod Points
-pub mod Kept
+pub mod MachineState
 pub mod Examples
 pub mod BotExamples
 pub mod EndExamples

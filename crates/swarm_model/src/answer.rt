@@ -9,7 +9,7 @@ pub struct Answer {
 
 /// A reply, and the kind of the entry that it adds to the log.
 #[derive(Drop)]
-pub struct Told {
+pub struct Decision {
     pub reply: Reply,
-    pub adds: Option<EntryKind>,
+    pub entry: Option<EntryKind>,
 }

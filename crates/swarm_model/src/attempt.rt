@@ -1,4 +1,4 @@
-use dimensions::{Growing, Seq, Text, TryCopy};
+use dimensions::{ReservedVec, Seq, Text, TryCopy};
 use std::alloc::{AllocError, Global};
 use task_props::{Digest, File};
 
@@ -34,7 +34,7 @@ pub struct Attempt {
     pub begun: u64,
     /// The run is asked to stop.
     pub kill: bool,
-    pub chunks: Growing<Chunk>,
+    pub chunks: ReservedVec<Chunk>,
     /// How many bytes of output are kept.
     pub length: u32,
     pub last: Option<Last>,

@@ -1,6 +1,6 @@
 //! What an entry does to the row of one bot.
 ghost use Rattle.std.specs.Prelude.{◌≡◌, [], true, Some, None};
-ghost use Rattle.swarm_model.specs.Effects.{heard, streak_after, polled, noted};
+ghost use Rattle.swarm_model.specs.Effects.{heard, streak_after, polled, event_effect};
 
 use crate::{BotRow, Change, EventKind, Row};
 use dimensions::{BotDims, Text};
@@ -63,7 +63,7 @@ fn quarantine(bot: &mut BotRow, text: Text)
 
 fn be_told(bot: &mut BotRow, moment: u64, which: EventKind, message: Text, empty: Text)
     requires { empty ≡ [] }
-    ensures { bot.new ≡ noted moment which message bot.old }
+    ensures { bot.new ≡ event_effect moment which message bot.old }
 {
     be_heard(bot, moment);
     match which {
@@ -84,11 +84,11 @@ fn be_told(bot: &mut BotRow, moment: u64, which: EventKind, message: Text, empty
 
 /// The bot was heard at a moment.
 #[derive(Drop)]
-pub struct Hear {
+pub struct RecordContact {
     pub moment: u64,
 }
 
-impl Change<BotRow> for Hear {
+impl Change<BotRow> for RecordContact {
     ghost use Rattle.std.specs.Prelude.{⊤};
     ghost use Rattle.swarm_model.specs.Effects.{heard};
 
@@ -131,7 +131,7 @@ impl Change<BotRow> for Poll {
 
 /// The bot told of itself, with an empty text that was made before.
 #[derive(Drop)]
-pub struct Note {
+pub struct ApplyEvent {
     pub moment: u64,
     pub which: EventKind,
     pub message: Text,
@@ -139,16 +139,16 @@ pub struct Note {
     ghost is_empty: { empty ≡ [] },
 }
 
-impl Change<BotRow> for Note {
+impl Change<BotRow> for ApplyEvent {
     ghost use Rattle.std.specs.Prelude.{⊤};
-    ghost use Rattle.swarm_model.specs.Effects.{noted};
+    ghost use Rattle.swarm_model.specs.Effects.{event_effect};
 
-    ghost change = { λ c. noted c.moment c.which c.message };
+    ghost change = { λ c. event_effect c.moment c.which c.message };
 
     ghost fits = { λ bot. ⊤ };
 
     fn apply(self, row: &mut BotRow) {
-        let Note {
+        let ApplyEvent {
             moment,
             which,
             message,
@@ -160,16 +160,16 @@ impl Change<BotRow> for Note {
 
 /// The bot begins a task.
 #[derive(Drop)]
-pub struct TakeOn {
+pub struct AssignTask {
     pub moment: u64,
     pub task: u32,
 }
 
-impl Change<BotRow> for TakeOn {
+impl Change<BotRow> for AssignTask {
     ghost use Rattle.std.specs.Prelude.{⊤};
-    ghost use Rattle.swarm_model.specs.Effects.{busied};
+    ghost use Rattle.swarm_model.specs.Effects.{assigned_bot};
 
-    ghost change = { λ c. busied c.moment c.task };
+    ghost change = { λ c. assigned_bot c.moment c.task };
 
     ghost fits = { λ bot. ⊤ };
 
@@ -181,13 +181,13 @@ impl Change<BotRow> for TakeOn {
 
 /// The bot was silent for too long.
 #[derive(Drop)]
-pub struct Die;
+pub struct MarkDead;
 
-impl Change<BotRow> for Die {
+impl Change<BotRow> for MarkDead {
     ghost use Rattle.std.specs.Prelude.{⊤};
-    ghost use Rattle.swarm_model.specs.Effects.{deadened};
+    ghost use Rattle.swarm_model.specs.Effects.{dead_bot};
 
-    ghost change = { λ c. deadened };
+    ghost change = { λ c. dead_bot };
 
     ghost fits = { λ bot. ⊤ };
 
@@ -215,11 +215,11 @@ impl Change<BotRow> for MarkTerminating {
 
 /// The bot begins anew, with this row.
 #[derive(Drop)]
-pub struct Renew {
+pub struct ReplaceSession {
     pub row: BotRow,
 }
 
-impl Change<BotRow> for Renew {
+impl Change<BotRow> for ReplaceSession {
     ghost use Rattle.std.specs.Prelude.{⊤};
 
     ghost change = { λ c old. c.row };
@@ -227,13 +227,13 @@ impl Change<BotRow> for Renew {
     ghost fits = { λ bot. ⊤ };
 
     fn apply(self, row: &mut BotRow) {
-        let Renew { row: new } = self;
+        let ReplaceSession { row: new } = self;
         drop(mem::replace(row, new));
     }
 }
 
 /// The bot is silent, and its run is lost.
-pub fn hush(bot: &mut BotRow)
+pub fn mark_silent(bot: &mut BotRow)
     ensures { bot.new ≡ record bot.old { dead = true; task = None } }
 {
     bot.dead = true;
@@ -242,13 +242,13 @@ pub fn hush(bot: &mut BotRow)
 
 /// The bot is done with its task.
 #[derive(Drop)]
-pub struct Free;
+pub struct ReleaseTask;
 
-impl Change<BotRow> for Free {
+impl Change<BotRow> for ReleaseTask {
     ghost use Rattle.std.specs.Prelude.{⊤};
-    ghost use Rattle.swarm_model.specs.Effects.{freed};
+    ghost use Rattle.swarm_model.specs.Effects.{idle_bot};
 
-    ghost change = { λ c. freed };
+    ghost change = { λ c. idle_bot };
 
     ghost fits = { λ bot. ⊤ };
 

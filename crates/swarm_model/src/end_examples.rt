@@ -7,7 +7,7 @@ ghost use Rattle.swarm_model.specs.declared.rule.Rule.TheVariants as rule;
 ghost use Rattle.swarm_model.specs.declared.pool_settings.Permission.TheVariants as permission;
 ghost use Rattle.swarm_model.specs.declared.task_state.TaskState.TheVariants.{Pending, Running, TimedOut, BotDied, Canceled, Completed, Killed};
 ghost use Rattle.swarm_model.specs.Examples.{settings, small_task};
-ghost use Rattle.swarm_model.specs.BotExamples.{course, greets, polls, claims, comes_to};
+ghost use Rattle.swarm_model.specs.BotExamples.{script, greets, polls, claims, comes_to};
 ghost use Rattle.swarm_model.specs.Answers.{answer};
 ghost use Rattle.swarm_model.specs.Finding.{bot_of};
 ghost use Rattle.swarm_model.specs.EndExamples.{exits, reports, replies_after, pool_after, state_after, of_priority, turn, tasks_run};
@@ -30,7 +30,7 @@ pub fn reports_end_runs()
     ensures too_long { state_after ((1001, reports (Some (record (exits (pos 0)) { hard_timeout = true }))) ∷ []) ≡ Some TimedOut }
     ensures too_quiet { state_after ((1001, reports (Some (record (exits (pos 0)) { io_timeout = true }))) ∷ []) ≡ Some TimedOut }
     ensures progress { state_after ((1001, reports None) ∷ []) ≡ Some Running }
-    ensures freed { option_map (λ bot. bot.task) (bot_of (pool_after ((1001, reports (Some (exits (pos 0)))) ∷ [])) 1) ≡ Some None }
+    ensures idle_bot { option_map (λ bot. bot.task) (bot_of (pool_after ((1001, reports (Some (exits (pos 0)))) ∷ [])) 1) ≡ Some None }
 {}
 
 /// The report that ended a run may be sent again; any other is refused from then on, and each sign
@@ -53,9 +53,9 @@ pub fn another_bot_reports()
 /// A task that waits ends as it is canceled, and no bot gets it; one that runs goes on, unless its
 /// run is to stop, too; one that has ended stays.
 pub fn cancels_by_state()
-    ensures waiting { (course ((1000, ask.New (small_task 600)) ∷ (1001, ask.Cancel 1 0 false) ∷ (1002, ask.Cancel 1 0 false) ∷ (1002, ask.Cancel 1 0 true) ∷ (1003, greets (codes "b1") (codes "s")) ∷ (1003, claims (codes "b1") (codes "c1")) ∷ [])).replies
+    ensures waiting { (script ((1000, ask.New (small_task 600)) ∷ (1001, ask.Cancel 1 0 false) ∷ (1002, ask.Cancel 1 0 false) ∷ (1002, ask.Cancel 1 0 true) ∷ (1003, greets (codes "b1") (codes "s")) ∷ (1003, claims (codes "b1") (codes "c1")) ∷ [])).replies
         ≡ reply.New 1 Pending ∷ reply.Canceled true false ∷ reply.Canceled false false ∷ reply.Canceled false false ∷ reply.Shaken (codes "b1") ∷ reply.Skip ∷ [] }
-    ensures canceled { comes_to (course ((1000, ask.New (small_task 600)) ∷ (1001, ask.Cancel 1 0 true) ∷ [])) 1 ≡ Some (Canceled, 0) }
+    ensures canceled { comes_to (script ((1000, ask.New (small_task 600)) ∷ (1001, ask.Cancel 1 0 true) ∷ [])) 1 ≡ Some (Canceled, 0) }
     ensures running { replies_after ((1001, ask.Cancel 1 0 false) ∷ (1002, reports None) ∷ (1003, ask.Cancel 1 1 true) ∷ (1004, ask.Cancel 1 0 true) ∷ (1005, ask.Cancel 1 0 false) ∷ [])
         ≡ reply.Canceled false true ∷ reply.Updated false ∷ reply.Canceled true true ∷ reply.Canceled true true ∷ reply.Canceled false true ∷ [] }
     ensures ended { replies_after ((1001, reports (Some (exits (pos 0)))) ∷ (1002, ask.Cancel 1 0 true) ∷ (1002, ask.Cancel 1 0 false) ∷ [])
@@ -72,7 +72,7 @@ pub fn strangers_cancel_nothing()
 
 /// Tasks are run by priority, then age.
 pub fn lower_priorities_first()
-    ensures { tasks_run (course ((1000, greets (codes "b1") (codes "s")) ∷ (1000, of_priority 255) ∷ (1000, of_priority 10) ∷ (1000, of_priority 0) ∷ (1000, of_priority 10) ∷ []
+    ensures { tasks_run (script ((1000, greets (codes "b1") (codes "s")) ∷ (1000, of_priority 255) ∷ (1000, of_priority 10) ∷ (1000, of_priority 0) ∷ (1000, of_priority 10) ∷ []
         ++ (turn (codes "c1") 3 ++ (turn (codes "c2") 2 ++ (turn (codes "c3") 4 ++ turn (codes "c4") 1))))).replies ≡ 3 ∷ 2 ∷ 4 ∷ 1 ∷ [] }
 {}
 

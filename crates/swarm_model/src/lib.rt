@@ -34,10 +34,13 @@ mod task_state;
 mod task_view;
 mod weighing;
 
-pub use answer::{Answer, Told};
+pub use answer::{Answer, Decision};
 pub use attempt::{Attempt, Chunk, Last};
 pub use blob_row::BlobRow;
-pub use bot_changes::{Die, Free, Hear, MarkTerminating, Note, Poll, Renew, TakeOn, hush};
+pub use bot_changes::{
+    ApplyEvent, AssignTask, MarkDead, MarkTerminating, Poll, RecordContact, ReleaseTask,
+    ReplaceSession, mark_silent,
+};
 pub use bot_row::BotRow;
 pub use changing::{Change, Row, change_row};
 pub use deadline::{Cause, Deadline};
@@ -55,7 +58,7 @@ pub use request::Request;
 pub use reuse::Reuse;
 pub use rule::{Rule, Unbuilt, Unfit};
 pub use steps::Steps;
-pub use task_changes::{Cancel, Finish, Lose, MarkKill, Shift, Start};
+pub use task_changes::{Cancel, ExpireSlice, Finish, LoseRun, MarkKill, StartRun};
 pub use task_row::TaskRow;
 pub use task_state::TaskState;
 pub use task_view::TaskView;

@@ -8,7 +8,7 @@ ghost use Rattle.swarm_model.specs.Answers.{answer};
 ghost use Rattle.swarm_model.specs.Effects.{opening, after};
 ghost use Rattle.swarm_model.specs.Deadlines.{due_entry};
 ghost use Rattle.swarm_model.specs.History.{MayFollow, has_room, tally};
-ghost use Rattle.swarm_model.specs.Kept.{IsHistory, IsRight, KeepsFinals, ShowsVerdict, Fills, bytes_of};
+ghost use Rattle.swarm_model.specs.MachineState.{IsHistory, IsRight, KeepsFinals, ShowsVerdict, Fills, bytes_of};
 ghost use Rattle.swarm_model.specs.Verdicts.{is_new, verdict_tally};
 
 use crate::{Answer, BlobRow, BotRow, Entry, PoolSettings, Request, Steps, TaskRow};
@@ -30,10 +30,10 @@ pub enum ReserveFault {
 ///
 /// Only `new`, `answer` and `reserve` take memory.
 pub trait Machine: Sized {
-    ghost use Rattle.swarm_model.specs.Kept.{Kept};
+    ghost use Rattle.swarm_model.specs.MachineState.{MachineState};
 
     /// What the machine keeps.
-    ghost kept: { Self → Kept };
+    ghost kept: { Self → MachineState };
 
     fn new(alloc: Global, settings: PoolSettings) -> Result<Self, AllocError>
         requires { IsTrue (keeps_rules settings) }

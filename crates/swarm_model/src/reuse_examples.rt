@@ -5,17 +5,17 @@ ghost use Rattle.swarm_model.specs.declared.reply.Reply.TheVariants as reply;
 ghost use Rattle.swarm_model.specs.declared.rule.Rule.TheVariants as rule;
 ghost use Rattle.swarm_model.specs.declared.task_state.TaskState.TheVariants.{Pending, NoResource};
 ghost use Rattle.swarm_model.specs.Examples.{settings, small_task};
-ghost use Rattle.swarm_model.specs.BotExamples.{course, from};
+ghost use Rattle.swarm_model.specs.BotExamples.{script, from};
 ghost use Rattle.swarm_model.specs.Answers.{answer};
 ghost use Rattle.swarm_model.specs.ReuseExamples.{named_task, other_task, asks, pure_task, replies_after};
 
 /// A task that its caller sends again under its uuid is that task, and adds nothing; another one
 /// under that uuid is refused, and another caller's is a task of its own.
 pub fn a_uuid_names_one_task()
-    ensures replies { (course ((1000, ask.New named_task) ∷ (1001, ask.New named_task) ∷ (1002, ask.New other_task) ∷ [])).replies
+    ensures replies { (script ((1000, ask.New named_task) ∷ (1001, ask.New named_task) ∷ (1002, ask.New other_task) ∷ [])).replies
         ≡ reply.New 1 Pending ∷ reply.New 1 Pending ∷ reply.No (rule.UuidReused 1) ∷ [] }
-    ensures adds_nothing { (answer (course ((1000, ask.New named_task) ∷ [])).pool (codes "ana") 1001 0 (ask.New named_task)).entry ≡ None }
-    ensures another_caller { (answer (course ((1000, ask.New named_task) ∷ [])).pool (codes "bob") 1001 0 (ask.New other_task)).reply ≡ reply.New 2 Pending }
+    ensures adds_nothing { (answer (script ((1000, ask.New named_task) ∷ [])).pool (codes "ana") 1001 0 (ask.New named_task)).entry ≡ None }
+    ensures another_caller { (answer (script ((1000, ask.New named_task) ∷ [])).pool (codes "bob") 1001 0 (ask.New other_task)).reply ≡ reply.New 2 Pending }
 {}
 
 /// A task that is sent again is told even where the pool takes no other.

@@ -1,10 +1,10 @@
 //! What an entry does to the row of one task.
 ghost use Rattle.std.specs.Prelude.{◌≡◌, ◌≤◌, [], length};
 ghost use Rattle.std.specs.Option.{option_map};
-ghost use Rattle.swarm_model.specs.Effects.{moved, end_state, lost, begun, reported, closed, finished};
+ghost use Rattle.swarm_model.specs.Effects.{expired_slice, end_state, lost_run, started_run, reported, closed, ended_run};
 
 use crate::{Attempt, Change, Chunk, Last, Outcome, Row, TaskRow, TaskState};
-use dimensions::{Growing, Text};
+use dimensions::{ReservedVec, Text};
 use std::mem;
 
 impl Row for TaskRow {
@@ -20,7 +20,7 @@ impl Row for TaskRow {
 /// The task comes to another slice, or ends at its last one.
 fn move_on(task: &mut TaskRow, moment: u64, to: Outcome)
     requires { length task.old.request.task_slices ≤ 8 }
-    ensures { task.new ≡ moved moment to task.old }
+    ensures { task.new ≡ expired_slice moment to task.old }
 {
     match to {
         Outcome::Slice(place) => {
@@ -38,16 +38,16 @@ fn move_on(task: &mut TaskRow, moment: u64, to: Outcome)
 
 /// The slice of a task ran out at a moment.
 #[derive(Drop)]
-pub struct Shift {
+pub struct ExpireSlice {
     pub moment: u64,
     pub to: Outcome,
 }
 
-impl Change<TaskRow> for Shift {
+impl Change<TaskRow> for ExpireSlice {
     ghost use Rattle.std.specs.Prelude.{◌≤◌, length};
-    ghost use Rattle.swarm_model.specs.Effects.{moved};
+    ghost use Rattle.swarm_model.specs.Effects.{expired_slice};
 
-    ghost change = { λ c. moved c.moment c.to };
+    ghost change = { λ c. expired_slice c.moment c.to };
 
     ghost fits = { λ task. length task.request.task_slices ≤ 8 };
 
@@ -74,15 +74,15 @@ fn end_state(attempt: &Option<Attempt>, state: TaskState) -> TaskState
 
 /// The run of a task ends without a last update.
 #[derive(Drop)]
-pub struct Lose {
+pub struct LoseRun {
     pub moment: u64,
 }
 
-impl Change<TaskRow> for Lose {
+impl Change<TaskRow> for LoseRun {
     ghost use Rattle.std.specs.Prelude.{⊤};
-    ghost use Rattle.swarm_model.specs.Effects.{lost};
+    ghost use Rattle.swarm_model.specs.Effects.{lost_run};
 
-    ghost change = { λ c. lost c.moment };
+    ghost change = { λ c. lost_run c.moment };
 
     ghost fits = { λ task. ⊤ };
 
@@ -93,9 +93,9 @@ impl Change<TaskRow> for Lose {
 }
 
 /// A bot begins the task, with a text and an empty list that were made before.
-fn begin(task: &mut TaskRow, moment: u64, bot: u32, claim: Text, chunks: Growing<Chunk>)
+fn begin(task: &mut TaskRow, moment: u64, bot: u32, claim: Text, chunks: ReservedVec<Chunk>)
     requires { chunks ≡ [] }
-    ensures { task.new ≡ begun moment bot claim task.old }
+    ensures { task.new ≡ started_run moment bot claim task.old }
 {
     task.state = TaskState::Running;
     drop(mem::replace(
@@ -116,24 +116,24 @@ fn begin(task: &mut TaskRow, moment: u64, bot: u32, claim: Text, chunks: Growing
 
 /// A bot begins a task under the id of its claim.
 #[derive(Drop)]
-pub struct Start {
+pub struct StartRun {
     pub moment: u64,
     pub bot: u32,
     pub claim: Text,
-    pub chunks: Growing<Chunk>,
+    pub chunks: ReservedVec<Chunk>,
     ghost empty: { chunks ≡ [] },
 }
 
-impl Change<TaskRow> for Start {
+impl Change<TaskRow> for StartRun {
     ghost use Rattle.std.specs.Prelude.{⊤};
-    ghost use Rattle.swarm_model.specs.Effects.{begun};
+    ghost use Rattle.swarm_model.specs.Effects.{started_run};
 
-    ghost change = { λ c. begun c.moment c.bot c.claim };
+    ghost change = { λ c. started_run c.moment c.bot c.claim };
 
     ghost fits = { λ task. ⊤ };
 
     fn apply(self, row: &mut TaskRow) {
-        let Start {
+        let StartRun {
             moment,
             bot,
             claim,
@@ -210,7 +210,7 @@ fn close_if_some(attempt: &mut Option<Attempt>, chunk: Option<Chunk>, last: Last
 }
 
 fn end_run(task: &mut TaskRow, moment: u64, chunk: Option<Chunk>, last: Last)
-    ensures { task.new ≡ finished moment chunk last task.old }
+    ensures { task.new ≡ ended_run moment chunk last task.old }
 {
     task.state = end_state(&task.attempt, reported(&last));
     close_if_some(&mut task.attempt, chunk, last);
@@ -227,9 +227,9 @@ pub struct Finish {
 
 impl Change<TaskRow> for Finish {
     ghost use Rattle.std.specs.Prelude.{⊤};
-    ghost use Rattle.swarm_model.specs.Effects.{finished};
+    ghost use Rattle.swarm_model.specs.Effects.{ended_run};
 
-    ghost change = { λ c. finished c.moment c.chunk c.last };
+    ghost change = { λ c. ended_run c.moment c.chunk c.last };
 
     ghost fits = { λ task. ⊤ };
 

@@ -1,6 +1,6 @@
 pub mod Legality
 pub mod Committing
-mod Becoming
+mod RowEffects
 mod Folding
 mod Found
 mod Holding

@@ -7,7 +7,7 @@ use Rattle.swarm_model.specs.declared.entry.EntryKind.{EntryKind}
 use Rattle.swarm_model.specs.declared.bot_row.BotRow.{BotRow}
 use Rattle.swarm_model.specs.Numbers.{AreNumbered}
 use Rattle.swarm_model.specs.Answers.{entry_at}
-use Rattle.swarm_model.specs.Effects.{no_of_task, no_of_bot, runs_task, hushed, after}
+use Rattle.swarm_model.specs.Effects.{no_of_task, no_of_bot, runs_task, silent_bot, after}
 use Rattle.swarm_plain.specs.declared.rows.Rows.{Rows}
 
 -- the state that the rows stand for
@@ -42,5 +42,5 @@ pub record Becomes (old new : Rows) (moment : ℕ) (k : EntryKind) : Type 0 wher
   pub state : state_of new ≡ after (state_of old) (entry_at moment 0 k)
   pub settings : new.settings ≡ old.settings
 
-abbrev pub hushed_if : ℕ → BotRow → BotRow
-hushed_if number bot = if runs_task number bot then hushed bot else bot
+abbrev pub silent_bot_if : ℕ → BotRow → BotRow
+silent_bot_if number bot = if runs_task number bot then silent_bot bot else bot

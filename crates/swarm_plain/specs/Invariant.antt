@@ -6,7 +6,7 @@ use Rattle.swarm_model.specs.Settings.{keeps_rules}
 use Rattle.swarm_model.specs.Effects.{opening}
 use Rattle.swarm_model.specs.Entries.{weight}
 use Rattle.swarm_model.specs.History.{replay, IsLegal}
-use Rattle.swarm_model.specs.Kept.{Kept}
+use Rattle.swarm_model.specs.MachineState.{MachineState}
 use Rattle.swarm_plain.specs.declared.rows.Rows.{Rows}
 use Rattle.swarm_plain.specs.declared.list_pool.Ready.{Ready}
 use Rattle.swarm_plain.specs.declared.list_pool.ListPool.TheInside.{Inside}
@@ -18,7 +18,7 @@ pub record IsReady (rows : Rows) (log_size log_room : ℕ) (ready : Ready) : Typ
   pub room : HasRoom rows
   pub log : log_size < log_room
 
-abbrev pub kept_of : Inside → Kept
+abbrev pub kept_of : Inside → MachineState
 kept_of pool = record { pool = state_of pool.rows; log = pool.log.items; ready = option_map (λ r. r.entry) pool.ready; held = [] }
 
 -- the rows are the replay of the log, the log is legal, and its weight is known

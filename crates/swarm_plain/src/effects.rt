@@ -6,17 +6,18 @@ ghost use Rattle.swarm_model.specs.declared.entry.EntryKind.TheVariants as kind;
 ghost use Rattle.swarm_model.specs.Numbers.{AreNumbered, change_at};
 ghost use Rattle.swarm_model.specs.Finding.{bot_of};
 ghost use Rattle.swarm_laws.specs.Served.{is_served, ends_run};
-ghost use Rattle.swarm_model.specs.Effects.{no_of_task, no_of_bot, if_some, lost_at, new_row, end_at, greeted, runs_task, hushed, bot_after, after};
-ghost use Rattle.swarm_plain.specs.Inside.{state_of, IsInOrder, HasRoom, Becomes, hushed_if};
+ghost use Rattle.swarm_model.specs.Effects.{no_of_task, no_of_bot, if_some, lost_run_at, new_row, end_at, session_row, runs_task, silent_bot, bot_after, after};
+ghost use Rattle.swarm_plain.specs.Inside.{state_of, IsInOrder, HasRoom, Becomes, silent_bot_if};
 
 use crate::rows::Rows;
 use crate::scans;
-use dimensions::{BotDims, Growing, Text};
+use dimensions::{BotDims, ReservedVec, Text};
 use std::alloc::Global;
 use swarm_model::{
-    BotRow, Cancel, Change, Chunk, Die, Entry, EntryKind, EventKind, Finish, Free, Hear, Last,
-    Lose, MarkKill, MarkTerminating, Note, Outcome, Poll, Renew, Row, Shift, Start, TakeOn,
-    TaskRow, TaskState, change_row, hush,
+    ApplyEvent, AssignTask, BotRow, Cancel, Change, Chunk, Entry, EntryKind, EventKind,
+    ExpireSlice, Finish, Last, LoseRun, MarkDead, MarkKill, MarkTerminating, Outcome, Poll,
+    RecordContact, ReleaseTask, ReplaceSession, Row, StartRun, TaskRow, TaskState, change_row,
+    mark_silent,
 };
 use task_props::NewTask;
 
@@ -58,37 +59,37 @@ fn runs_task(number: u32, bot: &BotRow) -> bool
     }
 }
 
-fn hush_if(number: u32, bot: &mut BotRow)
-    ensures { bot.new ≡ hushed_if number bot.old }
+fn mark_silent_if(number: u32, bot: &mut BotRow)
+    ensures { bot.new ≡ silent_bot_if number bot.old }
 {
     if runs_task(number, bot) {
-        hush(bot);
+        mark_silent(bot);
     }
 }
 
 /// The bot that runs the task is silent.
-fn hush_all(bots: &mut [BotRow], number: u32)
-    ensures { bots.new ≡ map (hushed_if number) bots.old }
+fn mark_silent_all(bots: &mut [BotRow], number: u32)
+    ensures { bots.new ≡ map (silent_bot_if number) bots.old }
 {
     for bot in bots.iter_mut() {
-        hush_if(number, bot);
+        mark_silent_if(number, bot);
     }
 }
 
 /// The run of a bot is lost, where it has one.
 fn lose_if_some(tasks: &mut Vec<TaskRow>, moment: u64, run: Option<u32>)
     requires { AreNumbered no_of_task 1 tasks.old.items }
-    ensures { tasks.new.items ≡ map (if_some (lost_at moment) run) tasks.old.items }
+    ensures { tasks.new.items ≡ map (if_some (lost_run_at moment) run) tasks.old.items }
 {
     if let Some(t) = run {
-        change(tasks, t, Lose { moment });
+        change(tasks, t, LoseRun { moment });
     }
 }
 
-fn hush_runner(bots: &mut Vec<BotRow>, number: u32)
-    ensures { bots.new.items ≡ map (hushed_if number) bots.old.items }
+fn mark_silent_runner(bots: &mut Vec<BotRow>, number: u32)
+    ensures { bots.new.items ≡ map (silent_bot_if number) bots.old.items }
 {
-    hush_all(bots.as_mut_slice(), number);
+    mark_silent_all(bots.as_mut_slice(), number);
 }
 
 impl Rows {
@@ -97,7 +98,7 @@ impl Rows {
         ensures { Becomes self.old self.new moment (kind.Slice t to) }
     {
         self.last = moment;
-        change(&mut self.tasks, t, Shift { moment, to });
+        change(&mut self.tasks, t, ExpireSlice { moment, to });
     }
 
     fn silence(&mut self, moment: u64, t: u32)
@@ -105,8 +106,8 @@ impl Rows {
         ensures { Becomes self.old self.new moment (kind.Silence t) }
     {
         self.last = moment;
-        change(&mut self.tasks, t, Lose { moment });
-        hush_runner(&mut self.bots, t);
+        change(&mut self.tasks, t, LoseRun { moment });
+        mark_silent_runner(&mut self.bots, t);
     }
 
     fn death(&mut self, moment: u64, b: u32)
@@ -114,7 +115,7 @@ impl Rows {
         ensures { Becomes self.old self.new moment (kind.Dead b) }
     {
         self.last = moment;
-        change(&mut self.bots, b, Die);
+        change(&mut self.bots, b, MarkDead);
     }
 
     fn new_task(
@@ -180,7 +181,7 @@ impl Rows {
         ensures { Becomes self.old self.new moment (kind.Contact b) }
     {
         self.last = moment;
-        change(&mut self.bots, b, Hear { moment });
+        change(&mut self.bots, b, RecordContact { moment });
     }
 
     fn poll(
@@ -215,14 +216,14 @@ impl Rows {
         change(
             &mut self.tasks,
             t,
-            Start {
+            StartRun {
                 moment,
                 bot: b,
                 claim,
-                chunks: Growing::new(alloc),
+                chunks: ReservedVec::new(alloc),
             },
         );
-        change(&mut self.bots, b, TakeOn { moment, task: t });
+        change(&mut self.bots, b, AssignTask { moment, task: t });
     }
 
     fn event(&mut self, alloc: Global, moment: u64, b: u32, which: EventKind, message: Text)
@@ -233,7 +234,7 @@ impl Rows {
         change(
             &mut self.bots,
             b,
-            Note {
+            ApplyEvent {
                 moment,
                 which,
                 message,
@@ -254,10 +255,10 @@ impl Rows {
             chunk,
             last,
         };
-        let sign = Hear { moment };
+        let sign = RecordContact { moment };
         change(&mut self.tasks, t, end);
         change(&mut self.bots, b, sign);
-        change(&mut self.bots, b, Free);
+        change(&mut self.bots, b, ReleaseTask);
     }
 
     fn update(&mut self, moment: u64, b: u32, t: u32, chunk: Option<Chunk>, last: Option<Last>)
@@ -310,7 +311,7 @@ impl Rows {
             None => push(&mut self.bots, row),
             Some(run) => {
                 lose_if_some(&mut self.tasks, moment, run);
-                change(&mut self.bots, b, Renew { row });
+                change(&mut self.bots, b, ReplaceSession { row });
             }
         }
     }

@@ -14,10 +14,10 @@ use std::marker::Model;
 use std::mem;
 use std::sync::ledger::Ledger;
 use swarm_model::{
-    Answer, BlobRow, BotRow, Deadline, Entry, EntryKind, Machine, PoolSettings, Request,
-    ReserveFault, Steps, TaskRow, TaskState, Told, weight,
+    Answer, BlobRow, BotRow, Deadline, Decision, Entry, EntryKind, Machine, PoolSettings, Request,
+    ReserveFault, Steps, TaskRow, TaskState, weight,
 };
-use swarm_rules::{LookUps, due_entry, tell};
+use swarm_rules::{PoolQueries, decide, due_entry};
 use task_props::Digest;
 
 /// What lies ready for an entry: its copy, whose texts move into the rows, and its weight.
@@ -39,9 +39,9 @@ pub struct ListPool {
 }
 
 impl Model for ListPool {
-    ghost use Rattle.swarm_model.specs.Kept.{Kept};
+    ghost use Rattle.swarm_model.specs.MachineState.{MachineState};
 
-    ghost Value = { Kept };
+    ghost Value = { MachineState };
 
     ghost use Rattle.swarm_plain.specs.Invariant.{kept_of, IsKept};
 
@@ -50,16 +50,16 @@ impl Model for ListPool {
     ghost invariant = { IsKept };
 }
 
-fn entry_of(moment: u64, pass: u32, adds: Option<EntryKind>) -> Option<Entry>
-    ensures { result ≡ option_map (entry_at moment pass) adds }
+fn entry_of(moment: u64, pass: u32, entry: Option<EntryKind>) -> Option<Entry>
+    ensures { result ≡ option_map (entry_at moment pass) entry }
 {
-    match adds {
+    match entry {
         None => None,
         Some(kind) => Some(Entry { moment, pass, kind }),
     }
 }
 
-impl LookUps for ListPool {
+impl PoolQueries for ListPool {
     ghost state = { λ p. p.pool };
 
     fn sound(&self) {
@@ -173,10 +173,10 @@ impl Machine for ListPool {
         request: &Request,
         steps: &mut Steps<L>,
     ) -> Result<Answer, AllocError> {
-        let Told { reply, adds } = tell(self.alloc, self, who, moment, request, steps)?;
+        let Decision { reply, entry } = decide(self.alloc, self, who, moment, request, steps)?;
         Ok(Answer {
             reply,
-            entry: entry_of(moment, pass, adds),
+            entry: entry_of(moment, pass, entry),
         })
     }
 

@@ -2,17 +2,17 @@
 ghost use Rattle.std.specs.Prelude.{◌≡◌, ◌<◌, length, IfSome};
 ghost use Rattle.swarm_model.specs.Slices.{is_open, admit};
 
-use crate::LookUps;
+use crate::PoolQueries;
 use task_props::Slice;
 
-fn is_open<P: LookUps>(pool: &P, slice: &Slice) -> bool
+fn is_open<P: PoolQueries>(pool: &P, slice: &Slice) -> bool
     ensures { result ≡ is_open (P.state pool.now) slice.now }
 {
     slice.wait_for_capacity || pool.capable(&slice.properties.dimensions)
 }
 
 /// The place of the first open slice, at a place or after it.
-pub(crate) fn admit<P: LookUps>(pool: &P, slices: &[Slice], from: usize) -> Option<usize>
+pub(crate) fn admit<P: PoolQueries>(pool: &P, slices: &[Slice], from: usize) -> Option<usize>
     ensures value { result ≡ admit (P.state pool.now) slices.now from }
     ensures within { IfSome result (λ place. place < length slices.now) }
 {

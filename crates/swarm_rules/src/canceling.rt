@@ -2,38 +2,44 @@ ghost use Rattle.std.specs.Prelude.{◌≡◌, IfOk};
 ghost use Rattle.swarm_model.specs.declared.rule.Rule.TheVariants as rule;
 ghost use Rattle.swarm_model.specs.Answers.{may, denied, cancels, is_killed, stop, cancel_row, with, named_task, cancel};
 
-use crate::LookUps;
+use crate::PoolQueries;
 use crate::reading::named_task;
-use crate::replies::refuses;
+use crate::replies::refusal;
 use dimensions::{Text, TryCopy};
 use std::alloc::{AllocError, Global};
 use std::sync::ledger::Ledger;
-use swarm_model::{Attempt, EntryKind, Permission, Reply, Rule, Steps, TaskRow, TaskState, Told};
+use swarm_model::{
+    Attempt, Decision, EntryKind, Permission, Reply, Rule, Steps, TaskRow, TaskState,
+};
 use swarm_policy::allowed;
 
 /// Whether the caller sent the task, or may do this with every task of the pool.
-fn may<P: LookUps>(pool: &P, who: &Text, permission: Permission, task: &TaskRow) -> bool
+fn may<P: PoolQueries>(pool: &P, who: &Text, permission: Permission, task: &TaskRow) -> bool
     ensures { result ≡ may (P.state pool.now) who.now permission task.now }
 {
     task.creator == *who || allowed(pool.settings(), who, permission)
 }
 
-fn denied<P: LookUps>(alloc: Global, pool: &P, permission: Permission) -> Result<Told, AllocError>
-    ensures { IfOk result (λ told. told ≡ denied (P.state pool.now) permission) }
+fn denied<P: PoolQueries>(
+    alloc: Global,
+    pool: &P,
+    permission: Permission,
+) -> Result<Decision, AllocError>
+    ensures { IfOk result (λ decision. decision ≡ denied (P.state pool.now) permission) }
 {
     let pool = pool.settings().name.try_copy(alloc)?;
-    Ok(refuses(Rule::Denied { permission, pool }))
+    Ok(refusal(Rule::Denied { permission, pool }))
 }
 
-fn cancels(canceled: bool, was_running: bool, adds: Option<EntryKind>) -> Told
-    ensures { result ≡ cancels canceled was_running adds }
+fn cancels(canceled: bool, was_running: bool, entry: Option<EntryKind>) -> Decision
+    ensures { result ≡ cancels canceled was_running entry }
 {
-    Told {
+    Decision {
         reply: Reply::Canceled {
             canceled,
             was_running,
         },
-        adds,
+        entry,
     }
 }
 
@@ -47,7 +53,7 @@ fn is_killed(attempt: &Option<Attempt>) -> bool
 }
 
 /// A run goes on, unless it is to stop, too; it is asked to stop once.
-fn stop(kill: bool, task: &TaskRow) -> Told
+fn stop(kill: bool, task: &TaskRow) -> Decision
     ensures { result ≡ stop kill task.now }
 {
     if !kill {
@@ -60,7 +66,7 @@ fn stop(kill: bool, task: &TaskRow) -> Told
 }
 
 /// A task that waits ends; one that has ended stays as it is.
-fn cancel_row(kill: bool, task: &TaskRow) -> Told
+fn cancel_row(kill: bool, task: &TaskRow) -> Decision
     ensures { result ≡ cancel_row kill task.now }
 {
     if task.has_state(TaskState::Pending) {
@@ -72,14 +78,14 @@ fn cancel_row(kill: bool, task: &TaskRow) -> Told
     }
 }
 
-fn cancel_by<P: LookUps>(
+fn cancel_by<P: PoolQueries>(
     alloc: Global,
     pool: &P,
     who: &Text,
     kill: bool,
     task: &TaskRow,
-) -> Result<Told, AllocError>
-    ensures { IfOk result (λ told. told ≡ cancel (P.state pool.now) who.now kill task.now) }
+) -> Result<Decision, AllocError>
+    ensures { IfOk result (λ decision. decision ≡ cancel (P.state pool.now) who.now kill task.now) }
 {
     if !may(pool, who, Permission::CancelTask, task) {
         return denied(alloc, pool, Permission::CancelTask);
@@ -88,7 +94,7 @@ fn cancel_by<P: LookUps>(
 }
 
 /// What a caller is told who wants a task no more.
-pub(crate) fn cancel<P: LookUps, L: Ledger>(
+pub(crate) fn cancel<P: PoolQueries, L: Ledger>(
     alloc: Global,
     pool: &P,
     who: &Text,
@@ -96,11 +102,11 @@ pub(crate) fn cancel<P: LookUps, L: Ledger>(
     try_no: u32,
     kill: bool,
     steps: &mut Steps<L>,
-) -> Result<Told, AllocError>
-    ensures { IfOk result (λ told. told ≡ with (named_task (P.state pool.now) number try_no) rule.NoTask (cancel (P.state pool.now) who.now kill)) }
+) -> Result<Decision, AllocError>
+    ensures { IfOk result (λ decision. decision ≡ with (named_task (P.state pool.now) number try_no) rule.NoTask (cancel (P.state pool.now) who.now kill)) }
 {
     match named_task(pool, number, try_no, steps) {
-        None => Ok(refuses(Rule::NoTask)),
+        None => Ok(refusal(Rule::NoTask)),
         Some(task) => cancel_by(alloc, pool, who, kill, task),
     }
 }

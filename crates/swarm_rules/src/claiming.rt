@@ -3,27 +3,27 @@ ghost use Rattle.swarm_model.specs.declared.rule.Rule.TheVariants as rule;
 ghost use Rattle.swarm_model.specs.Finding.{bot_named};
 ghost use Rattle.swarm_model.specs.Answers.{with, claim_again, unfit_of, claims, claim};
 
-use crate::LookUps;
-use crate::replies::{answers, refuses, unfit_told};
+use crate::PoolQueries;
+use crate::replies::{refusal, reply_with_entry, unfit_refusal};
 use crate::rows::{is_empty, try_of};
-use crate::runs::{busy_told, run};
+use crate::runs::{busy_refusal, run};
 use dimensions::{Text, TryCopy};
 use std::alloc::{AllocError, Global};
 use std::sync::ledger::Ledger;
-use swarm_model::{BotRow, EntryKind, Reply, Rule, Steps, TaskRow, Told, Unfit};
+use swarm_model::{BotRow, Decision, EntryKind, Reply, Rule, Steps, TaskRow, Unfit};
 
 /// The bot asks once more by the id of a claim that it made.
-fn claim_again(alloc: Global, bot: &BotRow, task: &TaskRow) -> Result<Told, AllocError>
-    ensures { IfOk result (λ told. told ≡ claim_again bot.now task.now) }
+fn claim_again(alloc: Global, bot: &BotRow, task: &TaskRow) -> Result<Decision, AllocError>
+    ensures { IfOk result (λ decision. decision ≡ claim_again bot.now task.now) }
 {
     if task.state.is_final() {
-        Ok(refuses(Rule::ClaimOver {
+        Ok(refusal(Rule::ClaimOver {
             task: task.no,
             try_no: try_of(task),
             state: task.state,
         }))
     } else {
-        Ok(answers(run(alloc, task)?, EntryKind::Contact { b: bot.no }))
+        Ok(reply_with_entry(run(alloc, task)?, EntryKind::Contact { b: bot.no }))
     }
 }
 
@@ -43,12 +43,12 @@ fn unfit_of(bot: &BotRow) -> Option<Unfit>
 }
 
 /// The bot gets the task.
-fn claims(alloc: Global, bot: &BotRow, id: &Text, task: &TaskRow) -> Result<Told, AllocError>
-    ensures { IfOk result (λ told. told ≡ claims bot.now id.now task.now) }
+fn claims(alloc: Global, bot: &BotRow, id: &Text, task: &TaskRow) -> Result<Decision, AllocError>
+    ensures { IfOk result (λ decision. decision ≡ claims bot.now id.now task.now) }
 {
     let claim = id.try_copy(alloc)?;
     let reply = run(alloc, task)?;
-    Ok(answers(
+    Ok(reply_with_entry(
         reply,
         EntryKind::Claim {
             b: bot.no,
@@ -58,42 +58,42 @@ fn claims(alloc: Global, bot: &BotRow, id: &Text, task: &TaskRow) -> Result<Told
     ))
 }
 
-fn claim_row<P: LookUps, L: Ledger>(
+fn claim_row<P: PoolQueries, L: Ledger>(
     alloc: Global,
     pool: &P,
     id: &Text,
     bot: &BotRow,
     steps: &mut Steps<L>,
-) -> Result<Told, AllocError>
-    ensures { IfOk result (λ told. told ≡ claim (P.state pool.now) id.now bot.now) }
+) -> Result<Decision, AllocError>
+    ensures { IfOk result (λ decision. decision ≡ claim (P.state pool.now) id.now bot.now) }
 {
     if let Some(task) = pool.by_claim(bot.no, id, steps) {
         return claim_again(alloc, bot, task);
     }
     if let Some(why) = unfit_of(bot) {
-        return Ok(unfit_told(why));
+        return Ok(unfit_refusal(why));
     }
-    if let Some(told) = busy_told(pool, bot, steps) {
-        return Ok(told);
+    if let Some(decision) = busy_refusal(pool, bot, steps) {
+        return Ok(decision);
     }
     if let Some(task) = pool.first_for(&bot.dims, steps) {
         return claims(alloc, bot, id, task);
     }
-    Ok(answers(Reply::Skip, EntryKind::Contact { b: bot.no }))
+    Ok(reply_with_entry(Reply::Skip, EntryKind::Contact { b: bot.no }))
 }
 
 /// What a bot is told that asks for a task.
-pub(crate) fn claim<P: LookUps, L: Ledger>(
+pub(crate) fn claim<P: PoolQueries, L: Ledger>(
     alloc: Global,
     pool: &P,
     name: &Text,
     id: &Text,
     steps: &mut Steps<L>,
-) -> Result<Told, AllocError>
-    ensures { IfOk result (λ told. told ≡ with (bot_named (P.state pool.now) name.now) rule.NoBot (claim (P.state pool.now) id.now)) }
+) -> Result<Decision, AllocError>
+    ensures { IfOk result (λ decision. decision ≡ with (bot_named (P.state pool.now) name.now) rule.NoBot (claim (P.state pool.now) id.now)) }
 {
     match pool.bot_named(name) {
-        None => Ok(refuses(Rule::NoBot)),
+        None => Ok(refusal(Rule::NoBot)),
         Some(bot) => claim_row(alloc, pool, id, bot, steps),
     }
 }

@@ -3,25 +3,25 @@ ghost use Rattle.swarm_model.specs.declared.rule.Rule.TheVariants as rule;
 ghost use Rattle.swarm_model.specs.Finding.{bot_named};
 ghost use Rattle.swarm_model.specs.Answers.{with, event};
 
-use crate::LookUps;
-use crate::replies::{answers, refuses, unfit_told};
+use crate::PoolQueries;
+use crate::replies::{refusal, reply_with_entry, unfit_refusal};
 use dimensions::{Text, TryCopy};
 use std::alloc::{AllocError, Global};
-use swarm_model::{BotRow, EntryKind, EventKind, Reply, Rule, Told, Unfit};
+use swarm_model::{BotRow, Decision, EntryKind, EventKind, Reply, Rule, Unfit};
 
 fn event_row(
     alloc: Global,
     which: EventKind,
     message: &Text,
     bot: &BotRow,
-) -> Result<Told, AllocError>
-    ensures { IfOk result (λ told. told ≡ event which message.now bot.now) }
+) -> Result<Decision, AllocError>
+    ensures { IfOk result (λ decision. decision ≡ event which message.now bot.now) }
 {
     if bot.dead && bot.task.is_none() {
-        return Ok(unfit_told(Unfit::Dead));
+        return Ok(unfit_refusal(Unfit::Dead));
     }
     let text = message.try_copy(alloc)?;
-    Ok(answers(
+    Ok(reply_with_entry(
         Reply::Noted,
         EntryKind::Event {
             b: bot.no,
@@ -32,17 +32,17 @@ fn event_row(
 }
 
 /// What a bot is told that tells of itself.
-pub(crate) fn event<P: LookUps>(
+pub(crate) fn event<P: PoolQueries>(
     alloc: Global,
     pool: &P,
     name: &Text,
     which: EventKind,
     message: &Text,
-) -> Result<Told, AllocError>
-    ensures { IfOk result (λ told. told ≡ with (bot_named (P.state pool.now) name.now) rule.NoBot (event which message.now)) }
+) -> Result<Decision, AllocError>
+    ensures { IfOk result (λ decision. decision ≡ with (bot_named (P.state pool.now) name.now) rule.NoBot (event which message.now)) }
 {
     match pool.bot_named(name) {
-        None => Ok(refuses(Rule::NoBot)),
+        None => Ok(refusal(Rule::NoBot)),
         Some(bot) => event_row(alloc, which, message, bot),
     }
 }

@@ -9,22 +9,22 @@
 mod admitting;
 mod canceling;
 mod claiming;
+mod deciding;
 mod events;
 mod handshakes;
-mod look_ups;
 mod new_tasks;
 mod polling;
+mod pool_queries;
 mod reading;
 mod replies;
 mod reusing;
 mod rows;
 mod runs;
 mod settling;
-mod telling;
 mod terminating;
 mod updating;
 mod views;
 
-pub use look_ups::LookUps;
+pub use deciding::decide;
+pub use pool_queries::PoolQueries;
 pub use settling::due_entry;
-pub use telling::tell;

@@ -1,20 +1,20 @@
 ghost use Rattle.std.specs.Prelude.{◌≡◌, IfOk};
 ghost use Rattle.swarm_model.specs.declared.rule.Rule.TheVariants as rule;
 ghost use Rattle.swarm_model.specs.Finding.{bot_named};
-ghost use Rattle.swarm_model.specs.Answers.{with, nap, dims_unless, text_unless, polls, poll};
+ghost use Rattle.swarm_model.specs.Answers.{with, sleep_secs, dims_unless, text_unless, polls, poll};
 
-use crate::LookUps;
-use crate::replies::{answers, refuses, unfit_told};
+use crate::PoolQueries;
+use crate::replies::{refusal, reply_with_entry, unfit_refusal};
 use crate::rows::is_empty;
-use crate::runs::busy_told;
+use crate::runs::busy_refusal;
 use dimensions::{BotDims, Text, TryCopy};
 use std::alloc::{AllocError, Global};
 use std::sync::ledger::Ledger;
-use swarm_model::{BotRow, EntryKind, Reply, Rule, Steps, Told, Unfit};
+use swarm_model::{BotRow, Decision, EntryKind, Reply, Rule, Steps, Unfit};
 
 /// The seconds of the bot's next nap: it sleeps longer each time that it finds no work.
-fn nap(bot: &BotRow) -> u64
-    ensures { result ≡ nap bot.now }
+fn sleep_secs(bot: &BotRow) -> u64
+    ensures { result ≡ sleep_secs bot.now }
 {
     2_u64.pow(bot.streak.min(6)).min(60)
 }
@@ -47,12 +47,12 @@ fn polls(
     quarantined: &Text,
     hint: bool,
     reply: Reply,
-) -> Result<Told, AllocError>
-    ensures { IfOk result (λ told. told ≡ polls bot.now dims.now quarantined.now hint reply) }
+) -> Result<Decision, AllocError>
+    ensures { IfOk result (λ decision. decision ≡ polls bot.now dims.now quarantined.now hint reply) }
 {
     let dims = dims_unless(alloc, &bot.dims, dims)?;
     let q = text_unless(alloc, &bot.quarantined, quarantined)?;
-    Ok(answers(
+    Ok(reply_with_entry(
         reply,
         EntryKind::Poll {
             b: bot.no,
@@ -63,26 +63,28 @@ fn polls(
     ))
 }
 
-fn poll_row<P: LookUps, L: Ledger>(
+fn poll_row<P: PoolQueries, L: Ledger>(
     alloc: Global,
     pool: &P,
     dims: &BotDims,
     quarantined: &Text,
     bot: &BotRow,
     steps: &mut Steps<L>,
-) -> Result<Told, AllocError>
-    ensures { IfOk result (λ told. told ≡ poll (P.state pool.now) dims.now quarantined.now bot.now) }
+) -> Result<Decision, AllocError>
+    ensures { IfOk result (λ decision. decision ≡ poll (P.state pool.now) dims.now quarantined.now bot.now) }
 {
     if bot.dead {
-        return Ok(unfit_told(Unfit::Dead));
+        return Ok(unfit_refusal(Unfit::Dead));
     }
-    if let Some(told) = busy_told(pool, bot, steps) {
-        return Ok(told);
+    if let Some(decision) = busy_refusal(pool, bot, steps) {
+        return Ok(decision);
     }
     if bot.terminating {
         return polls(alloc, bot, dims, quarantined, false, Reply::Terminate);
     }
-    let sleep = Reply::Sleep { secs: nap(bot) };
+    let sleep = Reply::Sleep {
+        secs: sleep_secs(bot),
+    };
     if !is_empty(quarantined) {
         return polls(alloc, bot, dims, quarantined, false, sleep);
     }
@@ -93,18 +95,18 @@ fn poll_row<P: LookUps, L: Ledger>(
 }
 
 /// What a bot is told that asks what to do.
-pub(crate) fn poll<P: LookUps, L: Ledger>(
+pub(crate) fn poll<P: PoolQueries, L: Ledger>(
     alloc: Global,
     pool: &P,
     name: &Text,
     dims: &BotDims,
     quarantined: &Text,
     steps: &mut Steps<L>,
-) -> Result<Told, AllocError>
-    ensures { IfOk result (λ told. told ≡ with (bot_named (P.state pool.now) name.now) rule.NoBot (poll (P.state pool.now) dims.now quarantined.now)) }
+) -> Result<Decision, AllocError>
+    ensures { IfOk result (λ decision. decision ≡ with (bot_named (P.state pool.now) name.now) rule.NoBot (poll (P.state pool.now) dims.now quarantined.now)) }
 {
     match pool.bot_named(name) {
-        None => Ok(refuses(Rule::NoBot)),
+        None => Ok(refusal(Rule::NoBot)),
         Some(bot) => poll_row(alloc, pool, dims, quarantined, bot, steps),
     }
 }

@@ -3,13 +3,13 @@ ghost use Rattle.std.specs.Option.{option_copied};
 ghost use Rattle.swarm_model.specs.declared.rule.Rule.TheVariants as rule;
 ghost use Rattle.swarm_model.specs.Answers.{if_named, named_task, with, result_of, count_tasks};
 
-use crate::LookUps;
-use crate::replies::{refuses, says};
+use crate::PoolQueries;
+use crate::replies::{refusal, reply_only};
 use crate::rows::has_try;
 use crate::views::view_of;
 use std::alloc::{AllocError, Global};
 use std::sync::ledger::Ledger;
-use swarm_model::{Reply, Rule, Steps, TaskRow, TaskState, Told};
+use swarm_model::{Decision, Reply, Rule, Steps, TaskRow, TaskState};
 
 fn if_named(try_no: u32, task: &TaskRow) -> Option<&TaskRow>
     ensures { option_copied result ≡ if_named try_no task.now }
@@ -22,7 +22,7 @@ fn if_named(try_no: u32, task: &TaskRow) -> Option<&TaskRow>
 }
 
 /// The task, where it has the try that the number names.
-pub(crate) fn named_task<'a, P: LookUps, L: Ledger>(
+pub(crate) fn named_task<'a, P: PoolQueries, L: Ledger>(
     pool: &'a P,
     number: u32,
     try_no: u32,
@@ -37,26 +37,26 @@ pub(crate) fn named_task<'a, P: LookUps, L: Ledger>(
 }
 
 /// What a caller is told who asks what a task has come to.
-pub(crate) fn task_result<P: LookUps, L: Ledger>(
+pub(crate) fn task_result<P: PoolQueries, L: Ledger>(
     alloc: Global,
     pool: &P,
     number: u32,
     try_no: u32,
     steps: &mut Steps<L>,
-) -> Result<Told, AllocError>
-    ensures { IfOk result (λ told. told ≡ with (named_task (P.state pool.now) number try_no) rule.NoTask (result_of (P.state pool.now))) }
+) -> Result<Decision, AllocError>
+    ensures { IfOk result (λ decision. decision ≡ with (named_task (P.state pool.now) number try_no) rule.NoTask (result_of (P.state pool.now))) }
 {
     match named_task(pool, number, try_no, steps) {
-        None => Ok(refuses(Rule::NoTask)),
-        Some(task) => Ok(says(Reply::Result(view_of(alloc, pool, task, steps)?))),
+        None => Ok(refusal(Rule::NoTask)),
+        Some(task) => Ok(reply_only(Reply::Result(view_of(alloc, pool, task, steps)?))),
     }
 }
 
 /// What a caller is told who asks how many tasks are in a state.
-pub(crate) fn task_count<P: LookUps>(pool: &P, state: Option<TaskState>) -> Told
+pub(crate) fn task_count<P: PoolQueries>(pool: &P, state: Option<TaskState>) -> Decision
     ensures { result ≡ count_tasks (P.state pool.now) state }
 {
-    says(Reply::Count {
+    reply_only(Reply::Count {
         count: pool.count(state),
     })
 }

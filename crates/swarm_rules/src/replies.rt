@@ -1,35 +1,35 @@
 //! What a caller is told, and what it adds to the log.
 ghost use Rattle.std.specs.Prelude.{◌≡◌};
-ghost use Rattle.swarm_model.specs.Answers.{says, refuses, answers, unfit_told};
+ghost use Rattle.swarm_model.specs.Answers.{reply_only, refusal, reply_with_entry, unfit_refusal};
 
-use swarm_model::{EntryKind, Reply, Rule, Told, Unfit};
+use swarm_model::{Decision, EntryKind, Reply, Rule, Unfit};
 
 /// A reply that adds nothing.
-pub(crate) fn says(reply: Reply) -> Told
-    ensures { result ≡ says reply }
+pub(crate) fn reply_only(reply: Reply) -> Decision
+    ensures { result ≡ reply_only reply }
 {
-    Told { reply, adds: None }
+    Decision { reply, entry: None }
 }
 
 /// A reply that adds an entry.
-pub(crate) fn answers(reply: Reply, entry: EntryKind) -> Told
-    ensures { result ≡ answers reply entry }
+pub(crate) fn reply_with_entry(reply: Reply, entry: EntryKind) -> Decision
+    ensures { result ≡ reply_with_entry reply entry }
 {
-    Told {
+    Decision {
         reply,
-        adds: Some(entry),
+        entry: Some(entry),
     }
 }
 
-pub(crate) fn refuses(why: Rule) -> Told
-    ensures { result ≡ refuses why }
+pub(crate) fn refusal(why: Rule) -> Decision
+    ensures { result ≡ refusal why }
 {
-    says(Reply::No(why))
+    reply_only(Reply::No(why))
 }
 
 /// The refusal of a bot that gets no work.
-pub(crate) fn unfit_told(why: Unfit) -> Told
-    ensures { result ≡ unfit_told why }
+pub(crate) fn unfit_refusal(why: Unfit) -> Decision
+    ensures { result ≡ unfit_refusal why }
 {
-    refuses(Rule::BotUnfit { why })
+    refusal(Rule::BotUnfit { why })
 }

@@ -3,14 +3,14 @@ ghost use Rattle.std.specs.Prelude.{◌≡◌, ◌≤◌, length, IfOk};
 ghost use Rattle.std.specs.Option.{option_copied};
 ghost use Rattle.swarm_model.specs.Reuse.{source_for, reuse};
 
-use crate::LookUps;
+use crate::PoolQueries;
 use std::alloc::{AllocError, Global};
 use std::sync::ledger::Ledger;
 use swarm_model::{Reuse, Steps, TaskRow};
 use task_props::Slice;
 
 /// The task whose outcome the slice takes.
-fn source_for<'a, P: LookUps, L: Ledger>(
+fn source_for<'a, P: PoolQueries, L: Ledger>(
     alloc: Global,
     pool: &'a P,
     moment: u64,
@@ -28,7 +28,7 @@ fn source_for<'a, P: LookUps, L: Ledger>(
 }
 
 /// The first slice that has a source, with the number of that task.
-pub(crate) fn reuse<P: LookUps, L: Ledger>(
+pub(crate) fn reuse<P: PoolQueries, L: Ledger>(
     alloc: Global,
     pool: &P,
     moment: u64,

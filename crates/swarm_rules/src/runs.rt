@@ -3,17 +3,17 @@ ghost use Rattle.std.specs.Prelude.{◌≡◌, IfOk};
 ghost use Rattle.std.specs.Option.{option_copied, option_map};
 ghost use Rattle.swarm_model.specs.Answers.{run_on, busy, run_from, run};
 
-use crate::LookUps;
-use crate::replies::refuses;
+use crate::PoolQueries;
+use crate::replies::refusal;
 use crate::rows::try_of;
 use dimensions::TryCopy;
 use std::alloc::{AllocError, Global};
 use std::sync::ledger::Ledger;
-use swarm_model::{BotRow, Reply, Rule, Steps, TaskRow, Told};
+use swarm_model::{BotRow, Decision, Reply, Rule, Steps, TaskRow};
 use task_props::Slice;
 
 /// The task that the bot runs.
-fn run_on<'a, P: LookUps, L: Ledger>(
+fn run_on<'a, P: PoolQueries, L: Ledger>(
     pool: &'a P,
     bot: &BotRow,
     steps: &mut Steps<L>,
@@ -26,21 +26,21 @@ fn run_on<'a, P: LookUps, L: Ledger>(
     }
 }
 
-fn busy(task: &TaskRow) -> Told
+fn busy(task: &TaskRow) -> Decision
     ensures { result ≡ busy task.now }
 {
-    refuses(Rule::BotBusy {
+    refusal(Rule::BotBusy {
         task: task.no,
         try_no: try_of(task),
     })
 }
 
 /// The refusal of a bot that has a run.
-pub(crate) fn busy_told<P: LookUps, L: Ledger>(
+pub(crate) fn busy_refusal<P: PoolQueries, L: Ledger>(
     pool: &P,
     bot: &BotRow,
     steps: &mut Steps<L>,
-) -> Option<Told>
+) -> Option<Decision>
     ensures { result ≡ option_map busy (run_on (P.state pool.now) bot.now) }
 {
     match run_on(pool, bot, steps) {

@@ -7,7 +7,7 @@ ghost use Rattle.swarm_model.specs.Finding.{task_of};
 ghost use Rattle.swarm_model.specs.Soundness.{IsSoundTask};
 ghost use Rattle.swarm_model.specs.Deadlines.{if_come, last_state, next_of, settled, entry_of, due_entry};
 
-use crate::LookUps;
+use crate::PoolQueries;
 use crate::admitting::admit;
 use std::sync::ledger::Ledger;
 use swarm_model::{Cause, Deadline, Entry, EntryKind, Outcome, Steps, TaskRow, TaskState};
@@ -34,7 +34,7 @@ fn last_state(task: &TaskRow) -> TaskState
 }
 
 /// What becomes of a task whose slice has run out.
-fn next_of<P: LookUps>(pool: &P, task: &TaskRow) -> Outcome
+fn next_of<P: PoolQueries>(pool: &P, task: &TaskRow) -> Outcome
     requires { IsSoundTask (P.state pool.now) task.now }
     ensures { result ≡ next_of (P.state pool.now) task.now }
 {
@@ -46,7 +46,7 @@ fn next_of<P: LookUps>(pool: &P, task: &TaskRow) -> Outcome
 }
 
 /// The task of a number, of which the rules hold that hold of each.
-fn sound_task<'a, P: LookUps, L: Ledger>(
+fn sound_task<'a, P: PoolQueries, L: Ledger>(
     pool: &'a P,
     number: u32,
     steps: &mut Steps<L>,
@@ -58,7 +58,7 @@ fn sound_task<'a, P: LookUps, L: Ledger>(
     pool.task_of(number, steps)
 }
 
-fn outcome_of<P: LookUps, L: Ledger>(pool: &P, number: u32, steps: &mut Steps<L>) -> Outcome
+fn outcome_of<P: PoolQueries, L: Ledger>(pool: &P, number: u32, steps: &mut Steps<L>) -> Outcome
     ensures { result ≡ option_map_or (next_of (P.state pool.now)) (task_of (P.state pool.now) number) (outcome.Ended NoResource) }
 {
     match sound_task(pool, number, steps) {
@@ -68,7 +68,7 @@ fn outcome_of<P: LookUps, L: Ledger>(pool: &P, number: u32, steps: &mut Steps<L>
 }
 
 /// What the log says of a deadline.
-fn settled<P: LookUps, L: Ledger>(
+fn settled<P: PoolQueries, L: Ledger>(
     pool: &P,
     cause: Cause,
     number: u32,
@@ -86,7 +86,7 @@ fn settled<P: LookUps, L: Ledger>(
     }
 }
 
-fn entry_of<P: LookUps, L: Ledger>(
+fn entry_of<P: PoolQueries, L: Ledger>(
     pool: &P,
     pass: u32,
     deadline: Deadline,
@@ -102,7 +102,7 @@ fn entry_of<P: LookUps, L: Ledger>(
 }
 
 /// The entry of the earliest deadline, where it has come by the moment.
-pub fn due_entry<P: LookUps, L: Ledger>(
+pub fn due_entry<P: PoolQueries, L: Ledger>(
     pool: &P,
     moment: u64,
     pass: u32,

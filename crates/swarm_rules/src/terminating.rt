@@ -3,27 +3,27 @@ ghost use Rattle.swarm_model.specs.declared.rule.Rule.TheVariants as rule;
 ghost use Rattle.swarm_model.specs.Finding.{bot_named};
 ghost use Rattle.swarm_model.specs.Answers.{with, terminate};
 
-use crate::LookUps;
-use crate::replies::{answers, refuses, says};
+use crate::PoolQueries;
+use crate::replies::{refusal, reply_only, reply_with_entry};
 use dimensions::Text;
-use swarm_model::{BotRow, EntryKind, Reply, Rule, Told};
+use swarm_model::{BotRow, Decision, EntryKind, Reply, Rule};
 
-fn terminate_row(bot: &BotRow) -> Told
+fn terminate_row(bot: &BotRow) -> Decision
     ensures { result ≡ terminate bot.now }
 {
     if bot.terminating {
-        says(Reply::Terminating)
+        reply_only(Reply::Terminating)
     } else {
-        answers(Reply::Terminating, EntryKind::Terminate { b: bot.no })
+        reply_with_entry(Reply::Terminating, EntryKind::Terminate { b: bot.no })
     }
 }
 
 /// What a caller is told who ends a bot.
-pub(crate) fn terminate<P: LookUps>(pool: &P, name: &Text) -> Told
+pub(crate) fn terminate<P: PoolQueries>(pool: &P, name: &Text) -> Decision
     ensures { result ≡ with (bot_named (P.state pool.now) name.now) rule.NoBot terminate }
 {
     match pool.bot_named(name) {
-        None => refuses(Rule::NoBot),
+        None => refusal(Rule::NoBot),
         Some(bot) => terminate_row(bot),
     }
 }

@@ -3,13 +3,13 @@ ghost use Rattle.swarm_model.specs.declared.rule.Rule.TheVariants as rule;
 ghost use Rattle.swarm_model.specs.Finding.{bot_named};
 ghost use Rattle.swarm_model.specs.Answers.{is_kept, updates, report_again, report, not_claimant, report_on, update_row, update, with};
 
-use crate::LookUps;
+use crate::PoolQueries;
 use crate::reading::named_task;
-use crate::replies::{answers, refuses};
+use crate::replies::{refusal, reply_with_entry};
 use dimensions::{Text, TryCopy};
 use std::alloc::{AllocError, Global};
 use std::sync::ledger::Ledger;
-use swarm_model::{Attempt, BotRow, Chunk, EntryKind, Last, Reply, Rule, Steps, TaskRow, Told};
+use swarm_model::{Attempt, BotRow, Chunk, Decision, EntryKind, Last, Reply, Rule, Steps, TaskRow};
 
 /// Whether the report is the one that ended the run.
 fn is_kept(attempt: &Attempt, chunk: Option<Chunk>, last: &Option<Last>) -> bool
@@ -19,10 +19,10 @@ fn is_kept(attempt: &Attempt, chunk: Option<Chunk>, last: &Option<Last>) -> bool
 }
 
 /// The bot's report is taken, and it is told whether its run is to stop.
-fn updates(attempt: &Attempt, entry: EntryKind) -> Told
+fn updates(attempt: &Attempt, entry: EntryKind) -> Decision
     ensures { result ≡ updates attempt.now entry }
 {
-    answers(
+    reply_with_entry(
         Reply::Updated {
             must_stop: attempt.kill,
         },
@@ -37,13 +37,13 @@ fn report_again(
     chunk: Option<Chunk>,
     last: &Option<Last>,
     attempt: &Attempt,
-) -> Told
+) -> Decision
     ensures { result ≡ report_again bot.now task.now chunk last.now attempt.now }
 {
     if is_kept(attempt, chunk, last) {
         updates(attempt, EntryKind::Contact { b: bot.no })
     } else {
-        refuses(Rule::AttemptOver { state: task.state })
+        refusal(Rule::AttemptOver { state: task.state })
     }
 }
 
@@ -54,8 +54,8 @@ fn report(
     chunk: Option<Chunk>,
     last: &Option<Last>,
     attempt: &Attempt,
-) -> Result<Told, AllocError>
-    ensures { IfOk result (λ told. told ≡ report bot.now task.now chunk last.now attempt.now) }
+) -> Result<Decision, AllocError>
+    ensures { IfOk result (λ decision. decision ≡ report bot.now task.now chunk last.now attempt.now) }
 {
     if task.state.is_final() {
         return Ok(report_again(bot, task, chunk, last, attempt));
@@ -77,17 +77,21 @@ fn report(
 }
 
 /// The run is another bot's.
-fn not_claimant<P: LookUps>(alloc: Global, pool: &P, attempt: &Attempt) -> Result<Told, AllocError>
-    ensures { IfOk result (λ told. told ≡ not_claimant (P.state pool.now) attempt.now) }
+fn not_claimant<P: PoolQueries>(
+    alloc: Global,
+    pool: &P,
+    attempt: &Attempt,
+) -> Result<Decision, AllocError>
+    ensures { IfOk result (λ decision. decision ≡ not_claimant (P.state pool.now) attempt.now) }
 {
     let bot = match pool.bot_of(attempt.bot) {
         None => Text::new(alloc),
         Some(bot) => bot.name.try_copy(alloc)?,
     };
-    Ok(refuses(Rule::NotClaimant { bot }))
+    Ok(refusal(Rule::NotClaimant { bot }))
 }
 
-fn report_on<P: LookUps>(
+fn report_on<P: PoolQueries>(
     alloc: Global,
     pool: &P,
     bot: &BotRow,
@@ -95,8 +99,8 @@ fn report_on<P: LookUps>(
     chunk: Option<Chunk>,
     last: &Option<Last>,
     attempt: &Attempt,
-) -> Result<Told, AllocError>
-    ensures { IfOk result (λ told. told ≡ report_on (P.state pool.now) bot.now task.now chunk last.now attempt.now) }
+) -> Result<Decision, AllocError>
+    ensures { IfOk result (λ decision. decision ≡ report_on (P.state pool.now) bot.now task.now chunk last.now attempt.now) }
 {
     if attempt.bot != bot.no {
         return not_claimant(alloc, pool, attempt);
@@ -104,23 +108,23 @@ fn report_on<P: LookUps>(
     report(alloc, bot, task, chunk, last, attempt)
 }
 
-fn update_row<P: LookUps>(
+fn update_row<P: PoolQueries>(
     alloc: Global,
     pool: &P,
     bot: &BotRow,
     chunk: Option<Chunk>,
     last: &Option<Last>,
     task: &TaskRow,
-) -> Result<Told, AllocError>
-    ensures { IfOk result (λ told. told ≡ update_row (P.state pool.now) bot.now chunk last.now task.now) }
+) -> Result<Decision, AllocError>
+    ensures { IfOk result (λ decision. decision ≡ update_row (P.state pool.now) bot.now chunk last.now task.now) }
 {
     match &task.attempt {
-        None => Ok(refuses(Rule::NoTask)),
+        None => Ok(refusal(Rule::NoTask)),
         Some(attempt) => report_on(alloc, pool, bot, task, chunk, last, attempt),
     }
 }
 
-fn update_by<P: LookUps, L: Ledger>(
+fn update_by<P: PoolQueries, L: Ledger>(
     alloc: Global,
     pool: &P,
     number: u32,
@@ -129,17 +133,17 @@ fn update_by<P: LookUps, L: Ledger>(
     last: &Option<Last>,
     bot: &BotRow,
     steps: &mut Steps<L>,
-) -> Result<Told, AllocError>
-    ensures { IfOk result (λ told. told ≡ update (P.state pool.now) number try_no chunk last.now bot.now) }
+) -> Result<Decision, AllocError>
+    ensures { IfOk result (λ decision. decision ≡ update (P.state pool.now) number try_no chunk last.now bot.now) }
 {
     match named_task(pool, number, try_no, steps) {
-        None => Ok(refuses(Rule::NoTask)),
+        None => Ok(refusal(Rule::NoTask)),
         Some(task) => update_row(alloc, pool, bot, chunk, last, task),
     }
 }
 
 /// What a bot is told that reports on a run.
-pub(crate) fn update<P: LookUps, L: Ledger>(
+pub(crate) fn update<P: PoolQueries, L: Ledger>(
     alloc: Global,
     pool: &P,
     name: &Text,
@@ -148,11 +152,11 @@ pub(crate) fn update<P: LookUps, L: Ledger>(
     chunk: Option<Chunk>,
     last: &Option<Last>,
     steps: &mut Steps<L>,
-) -> Result<Told, AllocError>
-    ensures { IfOk result (λ told. told ≡ with (bot_named (P.state pool.now) name.now) rule.NoBot (update (P.state pool.now) number try_no chunk last.now)) }
+) -> Result<Decision, AllocError>
+    ensures { IfOk result (λ decision. decision ≡ with (bot_named (P.state pool.now) name.now) rule.NoBot (update (P.state pool.now) number try_no chunk last.now)) }
 {
     match pool.bot_named(name) {
-        None => Ok(refuses(Rule::NoBot)),
+        None => Ok(refusal(Rule::NoBot)),
         Some(bot) => update_by(alloc, pool, number, try_no, chunk, last, bot, steps),
     }
 }

@@ -4,7 +4,7 @@ ghost use Rattle.std.specs.Option.{option_copied, option_map, option_map_or, opt
 ghost use Rattle.swarm_model.specs.Finding.{task_of};
 ghost use Rattle.swarm_model.specs.Views.{last_of, shown_from, attempt_shown, run_of, exit_code_of, files_of, bot_name_of, view_of};
 
-use crate::LookUps;
+use crate::PoolQueries;
 use dimensions::{Seq, Text, TryCopy};
 use std::alloc::{AllocError, Global};
 use std::sync::ledger::Ledger;
@@ -80,7 +80,7 @@ fn files_of(alloc: Global, task: &TaskRow) -> Result<Seq<File>, AllocError>
     }
 }
 
-fn bot_name_of<P: LookUps>(
+fn bot_name_of<P: PoolQueries>(
     alloc: Global,
     pool: &P,
     task: &TaskRow,
@@ -97,7 +97,7 @@ fn bot_name_of<P: LookUps>(
 }
 
 /// The run whose outcome the task took.
-fn deduped_from<P: LookUps, L: Ledger>(
+fn deduped_from<P: PoolQueries, L: Ledger>(
     pool: &P,
     task: &TaskRow,
     steps: &mut Steps<L>,
@@ -114,7 +114,7 @@ fn deduped_from<P: LookUps, L: Ledger>(
 }
 
 /// The task whose run made the output that this task shows: its own, or that of its source.
-fn shown_from<'a, P: LookUps, L: Ledger>(
+fn shown_from<'a, P: PoolQueries, L: Ledger>(
     pool: &'a P,
     task: &'a TaskRow,
     steps: &mut Steps<L>,
@@ -127,7 +127,7 @@ fn shown_from<'a, P: LookUps, L: Ledger>(
     }
 }
 
-fn attempt_shown<'a, P: LookUps, L: Ledger>(
+fn attempt_shown<'a, P: PoolQueries, L: Ledger>(
     pool: &'a P,
     task: &'a TaskRow,
     steps: &mut Steps<L>,
@@ -140,7 +140,7 @@ fn attempt_shown<'a, P: LookUps, L: Ledger>(
     }
 }
 
-fn length_of<P: LookUps, L: Ledger>(pool: &P, task: &TaskRow, steps: &mut Steps<L>) -> u32
+fn length_of<P: PoolQueries, L: Ledger>(pool: &P, task: &TaskRow, steps: &mut Steps<L>) -> u32
     ensures { result ≡ option_map_or (λ attempt. attempt.length) (attempt_shown (P.state pool.now) task.now) 0 }
 {
     match attempt_shown(pool, task, steps) {
@@ -150,7 +150,7 @@ fn length_of<P: LookUps, L: Ledger>(pool: &P, task: &TaskRow, steps: &mut Steps<
 }
 
 /// What a reader is shown of a task.
-pub(crate) fn view_of<P: LookUps, L: Ledger>(
+pub(crate) fn view_of<P: PoolQueries, L: Ledger>(
     alloc: Global,
     pool: &P,
     task: &TaskRow,

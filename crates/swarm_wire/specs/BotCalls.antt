@@ -11,27 +11,27 @@ use Rattle.swarm_wire.specs.declared.addressed.Addressed.{Addressed}
 use Rattle.json_fields.specs.Readings.{at, ◌>>=◌}
 use Rattle.json_fields.specs.Fields.{text_at, required_text_at}
 use Rattle.swarm_wire.specs.Names.{name_at}
-use Rattle.swarm_wire.specs.BotFields.{said_in, said_by, event_of, message_of}
+use Rattle.swarm_wire.specs.BotFields.{bot_info_in, bot_info_by, event_of, message_of}
 
 -- a bot comes to the pool of its dimensions
 unfoldable pub handshake_in : Data → Result Addressed PropFault
 handshake_in d = do
   name ← required_text_at (codes "bot_id") d
   text ← required_text_at (codes "session") d
-  raw ← said_in d
+  raw ← bot_info_in d
   bot ← name_at (codes "bot_id") name
   session ← name_at (codes "session") text
-  said ← said_by bot raw
-  Ok (record { pool = pool_of_bot said.dims; request = ask.Handshake bot session said.dims said.quarantined })
+  info ← bot_info_by bot raw
+  Ok (record { pool = pool_of_bot info.dims; request = ask.Handshake bot session info.dims info.quarantined })
 
 -- a bot asks the pool of its dimensions what to do
 unfoldable pub poll_in : Data → Result Addressed PropFault
 poll_in d = do
   name ← required_text_at (codes "bot_id") d
-  raw ← said_in d
+  raw ← bot_info_in d
   bot ← name_at (codes "bot_id") name
-  said ← said_by bot raw
-  Ok (record { pool = pool_of_bot said.dims; request = ask.Poll bot said.dims said.quarantined })
+  info ← bot_info_by bot raw
+  Ok (record { pool = pool_of_bot info.dims; request = ask.Poll bot info.dims info.quarantined })
 
 unfoldable pub claim_in : Data → Result Addressed PropFault
 claim_in d = do

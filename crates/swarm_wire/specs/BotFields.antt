@@ -15,8 +15,8 @@ use Rattle.task_props.specs.FieldRules.{rule_of}
 use Rattle.swarm_model.specs.declared.entry.EventKind.{EventKind}
 use Rattle.swarm_model.specs.declared.entry.EventKind.TheVariants.{Ping, Quarantine, Unquarantine}
 use Rattle.swarm_model.specs.Fits.{fits_message}
-use Rattle.swarm_wire.specs.declared.bot_fields.RawSaid.{RawSaid}
-use Rattle.swarm_wire.specs.declared.bot_fields.Said.{Said}
+use Rattle.swarm_wire.specs.declared.bot_fields.RawBotInfo.{RawBotInfo}
+use Rattle.swarm_wire.specs.declared.bot_fields.BotInfo.{BotInfo}
 use Rattle.json_fields.specs.Readings.{at, below, inside, each_from, ◌>>=◌}
 use Rattle.json_fields.specs.Fields.{object_of, text_at, each_at, items_at}
 use Rattle.swarm_wire.specs.SliceProperties.{text_item}
@@ -65,15 +65,15 @@ abbrev pub quarantine_of : List ℕ → Result (List ℕ) PropRule
 quarantine_of text = if nat_le (length text) 256 then Ok text else Err Count
 
 -- what a body says of a bot
-unfoldable pub said_in : Data → Result RawSaid PropFault
-said_in d = do
+unfoldable pub bot_info_in : Data → Result RawBotInfo PropFault
+bot_info_in d = do
   pairs ← each_at bot_pair_item (codes "dimensions") d
   message ← text_at (codes "quarantined") d
   Ok (record { pairs = pairs; quarantined = message })
 
 -- the same of a bot of this name, where no rule is broken
-unfoldable pub said_by : List ℕ → RawSaid → Result Said PropFault
-said_by name raw = do
+unfoldable pub bot_info_by : List ℕ → RawBotInfo → Result BotInfo PropFault
+bot_info_by name raw = do
   dims ← dims_of name raw.pairs
   message ← at (codes "quarantined") (quarantine_of raw.quarantined)
   Ok (record { dims = dims; quarantined = message })

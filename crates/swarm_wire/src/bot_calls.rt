@@ -5,7 +5,7 @@ ghost use Rattle.json_fields.specs.Readings.{Reads};
 ghost use Rattle.swarm_wire.specs.BotCalls.{handshake_in, poll_in, claim_in, event_in, terminate_in, FitsNamed};
 
 use crate::addressed::Addressed;
-use crate::bot_fields::{check_said, read_event, read_message, read_said};
+use crate::bot_fields::{check_bot_info, read_bot_info, read_event, read_message};
 use crate::names::read_name;
 use dimensions::Text;
 use json_fields::{read_required_text, read_text};
@@ -22,16 +22,16 @@ pub(crate) fn read_handshake(alloc: Global, body: &Value) -> Result<Addressed, P
 {
     let name = read_required_text(alloc, body, "bot_id")?;
     let text = read_required_text(alloc, body, "session")?;
-    let raw = read_said(alloc, body)?;
+    let raw = read_bot_info(alloc, body)?;
     let bot = read_name(alloc, "bot_id", name)?;
     let session = read_name(alloc, "session", text)?;
-    let said = check_said(alloc, bot.as_str(), raw)?;
-    let pool = Text::from_str(alloc, said.dims.pool())?;
+    let info = check_bot_info(alloc, bot.as_str(), raw)?;
+    let pool = Text::from_str(alloc, info.dims.pool())?;
     let request = Request::Handshake {
         bot,
         session,
-        dims: said.dims,
-        quarantined: said.quarantined,
+        dims: info.dims,
+        quarantined: info.quarantined,
     };
     Ok(Addressed { pool, request })
 }
@@ -43,14 +43,14 @@ pub(crate) fn read_poll(alloc: Global, body: &Value) -> Result<Addressed, PropFa
     ensures fits { IfOk result FitsNamed }
 {
     let name = read_required_text(alloc, body, "bot_id")?;
-    let raw = read_said(alloc, body)?;
+    let raw = read_bot_info(alloc, body)?;
     let bot = read_name(alloc, "bot_id", name)?;
-    let said = check_said(alloc, bot.as_str(), raw)?;
-    let pool = Text::from_str(alloc, said.dims.pool())?;
+    let info = check_bot_info(alloc, bot.as_str(), raw)?;
+    let pool = Text::from_str(alloc, info.dims.pool())?;
     let request = Request::Poll {
         bot,
-        dims: said.dims,
-        quarantined: said.quarantined,
+        dims: info.dims,
+        quarantined: info.quarantined,
     };
     Ok(Addressed { pool, request })
 }

@@ -6,7 +6,7 @@ ghost use Rattle.swarm_model.specs.Fits.{fits_message as spec_fits_message};
 ghost use Rattle.json_fields.specs.Readings.{Reads, at, each_from};
 ghost use Rattle.json_fields.specs.Fields.{each_at, items_at};
 ghost use Rattle.swarm_wire.specs.SliceProperties.{text_item};
-ghost use Rattle.swarm_wire.specs.BotFields.{bot_pair_in, bot_pair_item, is_of_pair as spec_is_of_pair, dims_fault as spec_dims_fault, dims_of, quarantine_of, said_in, said_by, message_of, event_named as spec_event_named, event_of};
+ghost use Rattle.swarm_wire.specs.BotFields.{bot_pair_in, bot_pair_item, is_of_pair as spec_is_of_pair, dims_fault as spec_dims_fault, dims_of, quarantine_of, bot_info_in, bot_info_by, message_of, event_named as spec_event_named, event_of};
 
 use crate::slice_properties::read_texts;
 use dimensions::{BotDims, DimFault, DimRule, Seq, Text};
@@ -20,14 +20,14 @@ use task_props::{PropFault, PropRule};
 
 /// What a bot says of itself, as it was read.
 #[derive(Drop)]
-pub(crate) struct RawSaid {
+pub(crate) struct RawBotInfo {
     pub pairs: Seq<(Text, Seq<Text>)>,
     pub quarantined: Text,
 }
 
 /// What a bot has, and why it takes no work, where it takes none.
 #[derive(Drop)]
-pub(crate) struct Said {
+pub(crate) struct BotInfo {
     pub dims: BotDims,
     pub quarantined: Text,
 }
@@ -133,25 +133,29 @@ fn read_quarantined(alloc: Global, text: Text) -> Result<Text, PropFault>
 }
 
 /// What a body says of a bot.
-#[tactic(auto, unfolding(crate::specs::BotFields::said_in))]
-pub(crate) fn read_said(alloc: Global, body: &Value) -> Result<RawSaid, PropFault>
-    ensures { Reads result (said_in (view body.now)) }
+#[tactic(auto, unfolding(crate::specs::BotFields::bot_info_in))]
+pub(crate) fn read_bot_info(alloc: Global, body: &Value) -> Result<RawBotInfo, PropFault>
+    ensures { Reads result (bot_info_in (view body.now)) }
 {
     let pairs = read_pairs(alloc, body)?;
     let quarantined = read_text(alloc, body, "quarantined")?;
-    Ok(RawSaid { pairs, quarantined })
+    Ok(RawBotInfo { pairs, quarantined })
 }
 
 /// The same, checked, of a bot of this name.
-#[tactic(auto, unfolding(crate::specs::BotFields::said_by))]
-pub(crate) fn check_said(alloc: Global, name: &str, raw: RawSaid) -> Result<Said, PropFault>
-    ensures exact { Reads result (said_by name.now raw) }
-    ensures checked { IfOk result (λ said. are_bot_checked name.now said.dims ≡ true) }
-    ensures short { IfOk result (λ said. length said.quarantined ≤ 256) }
+#[tactic(auto, unfolding(crate::specs::BotFields::bot_info_by))]
+pub(crate) fn check_bot_info(
+    alloc: Global,
+    name: &str,
+    raw: RawBotInfo,
+) -> Result<BotInfo, PropFault>
+    ensures exact { Reads result (bot_info_by name.now raw) }
+    ensures checked { IfOk result (λ info. are_bot_checked name.now info.dims ≡ true) }
+    ensures short { IfOk result (λ info. length info.quarantined ≤ 256) }
 {
     let dims = read_dims(alloc, name, raw.pairs.as_slice())?;
     let quarantined = read_quarantined(alloc, raw.quarantined)?;
-    Ok(Said { dims, quarantined })
+    Ok(BotInfo { dims, quarantined })
 }
 
 fn fits_message(kind: EventKind, text: &str) -> bool

@@ -3,10 +3,10 @@ use Rattle.std.proofs.Common.{◌≡◌, ℕ, List, [], ◌∷◌, map, refl, ap
 use Rattle.swarm_model.specs.declared.task_row.TaskRow.{TaskRow}
 use Rattle.swarm_model.specs.declared.entry.Outcome.{Outcome}
 use Rattle.swarm_model.specs.declared.entry.Outcome.TheVariants as outcome
-use Rattle.swarm_model.specs.Effects.{moved}
+use Rattle.swarm_model.specs.Effects.{expired_slice}
 use Rattle.task_rows.specs.Inside.{KeepsNumber}
 
-pub moved_keeps : (moment : ℕ) (to : Outcome) → KeepsNumber (moved moment to)
+pub moved_keeps : (moment : ℕ) (to : Outcome) → KeepsNumber (expired_slice moment to)
 moved_keeps moment (outcome.Slice place) task = refl
 moved_keeps moment (outcome.Ended state) task = refl
 

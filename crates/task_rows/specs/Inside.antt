@@ -9,10 +9,10 @@ use Rattle.swarm_model.specs.declared.entry.EntryKind.TheVariants as kind
 use Rattle.swarm_model.specs.Numbers.{AreNumbered}
 use Rattle.swarm_model.specs.Effects.{no_of_task, fresh_chunk}
 use Rattle.task_rows.specs.declared.rows.TaskRows.TheInside.{Inside}
-use Rattle.task_rows.specs.Plain.{Kept}
+use Rattle.task_rows.specs.Plain.{TaskRowsState}
 use Rattle.task_rows.specs.Acting.{run_of}
 
-abbrev pub kept_of : Inside → Kept
+abbrev pub kept_of : Inside → TaskRowsState
 kept_of rows = record { rows = rows.rows.items; ready = rows.ready }
 
 -- the output of the run takes one chunk more, with a spare buffer of this size

@@ -4,6 +4,6 @@ use Rattle.swarm_model.specs.declared.task_row.TaskRow.{TaskRow}
 use Rattle.swarm_model.specs.declared.entry.Entry.{Entry}
 
 -- the rows, and the entry that is made ready
-pub record Kept : Type 0 where
+pub record TaskRowsState : Type 0 where
   pub rows : List TaskRow
   pub ready : Option Entry

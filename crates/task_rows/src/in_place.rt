@@ -3,13 +3,13 @@ ghost use Rattle.std.specs.Prelude.{◌≡◌, None, map, IfSome, MatchOption};
 ghost use Rattle.std.specs.List.{All};
 ghost use Rattle.std.specs.Option.{option_copied};
 ghost use Rattle.swarm_model.specs.Numbers.{AreNumbered};
-ghost use Rattle.swarm_model.specs.Effects.{no_of_task, task_at, moved, fresh_chunk, chunk_at, finished_at, if_some};
+ghost use Rattle.swarm_model.specs.Effects.{no_of_task, task_at, expired_slice, fresh_chunk, chunk_at, ended_run_at, if_some};
 ghost use Rattle.task_rows.specs.Acting.{row_of, run_of, FitsBehind, StaysShort, HasFewSlices};
 ghost use Rattle.task_rows.specs.Inside.{KeepsNumber, StandsAt, TakesChunk, TakesFresh};
 
 use crate::output;
-use dimensions::Spare;
-use swarm_model::{Change, Chunk, Finish, Last, Shift, TaskRow, change_row};
+use dimensions::SpareBuffer;
+use swarm_model::{Change, Chunk, ExpireSlice, Finish, Last, TaskRow, change_row};
 
 /// The place of the row of a number, where there is one.
 fn place_of(rows: &[TaskRow], no: u32) -> Option<usize>
@@ -58,10 +58,10 @@ pub(crate) fn change<C: Change<TaskRow> + Drop>(rows: &mut Vec<TaskRow>, no: u32
 }
 
 /// The slice of the task of a number ran out.
-pub(crate) fn shift(rows: &mut Vec<TaskRow>, no: u32, by: Shift)
+pub(crate) fn shift(rows: &mut Vec<TaskRow>, no: u32, by: ExpireSlice)
     requires numbered { AreNumbered no_of_task 1 rows.old.items }
     requires few { IfSome (row_of rows.old.items no) HasFewSlices }
-    ensures rows { rows.new.items ≡ map (task_at no (moved by.moment by.to)) rows.old.items }
+    ensures rows { rows.new.items ≡ map (task_at no (expired_slice by.moment by.to)) rows.old.items }
     ensures numbered { AreNumbered no_of_task 1 rows.new.items }
 {
     match place_of(rows, no) {
@@ -70,7 +70,7 @@ pub(crate) fn shift(rows: &mut Vec<TaskRow>, no: u32, by: Shift)
     }
 }
 
-fn lengthen(rows: &mut Vec<TaskRow>, no: u32, chunk: Chunk, spare: &mut Spare<Chunk>)
+fn lengthen(rows: &mut Vec<TaskRow>, no: u32, chunk: Chunk, spare: &mut SpareBuffer<Chunk>)
     requires numbered { AreNumbered no_of_task 1 rows.old.items }
     requires room { TakesChunk spare.old (run_of rows.old.items no) }
     requires short { IfSome (run_of rows.old.items no) (FitsBehind chunk) }
@@ -98,7 +98,7 @@ pub(crate) fn keep_chunk(
     rows: &mut Vec<TaskRow>,
     no: u32,
     chunk: Option<Chunk>,
-    spare: &mut Spare<Chunk>,
+    spare: &mut SpareBuffer<Chunk>,
 )
     requires numbered { AreNumbered no_of_task 1 rows.old.items }
     requires room { TakesFresh spare.old (run_of rows.old.items no) chunk }
@@ -118,12 +118,12 @@ pub(crate) fn close(
     moment: u64,
     chunk: Option<Chunk>,
     last: Last,
-    spare: &mut Spare<Chunk>,
+    spare: &mut SpareBuffer<Chunk>,
 )
     requires numbered { AreNumbered no_of_task 1 rows.old.items }
     requires room { TakesFresh spare.old (run_of rows.old.items no) chunk }
     requires short { StaysShort (run_of rows.old.items no) chunk }
-    ensures rows { rows.new.items ≡ map (λ task. finished_at moment no chunk last (if_some (chunk_at no) (fresh_chunk (run_of rows.old.items no) chunk) task)) rows.old.items }
+    ensures rows { rows.new.items ≡ map (λ task. ended_run_at moment no chunk last (if_some (chunk_at no) (fresh_chunk (run_of rows.old.items no) chunk) task)) rows.old.items }
     ensures numbered { AreNumbered no_of_task 1 rows.new.items }
 {
     keep_chunk(rows, no, chunk, spare);

@@ -7,14 +7,14 @@ ghost use Rattle.task_rows.specs.Inside.{HasRoom, TakesChunk, TakesFresh};
 
 use crate::in_place::{fresh, row_of};
 use crate::output::make_chunk_room;
-use dimensions::Spare;
+use dimensions::SpareBuffer;
 use std::alloc::AllocError;
 use swarm_model::{Chunk, Entry, EntryKind, TaskRow, TaskState};
 
 /// Makes the room that the entry needs.
 pub(crate) fn make_room(
     rows: &mut Vec<TaskRow>,
-    spare: &mut Spare<Chunk>,
+    spare: &mut SpareBuffer<Chunk>,
     entry: &Entry,
 ) -> Result<(), AllocError>
     requires { AreNumbered no_of_task 1 rows.old.items }
@@ -30,7 +30,7 @@ pub(crate) fn make_room(
 
 fn make_fresh_room(
     rows: &[TaskRow],
-    spare: &mut Spare<Chunk>,
+    spare: &mut SpareBuffer<Chunk>,
     no: u32,
     chunk: Option<Chunk>,
 ) -> Result<(), AllocError>
@@ -43,7 +43,11 @@ fn make_fresh_room(
     }
 }
 
-fn make_run_room(rows: &[TaskRow], spare: &mut Spare<Chunk>, no: u32) -> Result<(), AllocError>
+fn make_run_room(
+    rows: &[TaskRow],
+    spare: &mut SpareBuffer<Chunk>,
+    no: u32,
+) -> Result<(), AllocError>
     requires { AreNumbered no_of_task 1 rows.now }
     ensures { OnOk result (TakesChunk spare.new (run_of rows.now no)) }
 {

@@ -5,12 +5,15 @@ ghost use Rattle.swarm_model.specs.Effects.{fresh_chunk, longer, lengthened};
 ghost use Rattle.task_rows.specs.Acting.{FitsBehind};
 ghost use Rattle.task_rows.specs.Inside.{TakesChunk};
 
-use dimensions::Spare;
+use dimensions::SpareBuffer;
 use std::alloc::AllocError;
 use swarm_model::{Attempt, Chunk, TaskRow};
 
 /// Makes room for a chunk more.
-pub(crate) fn make_chunk_room(task: &TaskRow, spare: &mut Spare<Chunk>) -> Result<(), AllocError>
+pub(crate) fn make_chunk_room(
+    task: &TaskRow,
+    spare: &mut SpareBuffer<Chunk>,
+) -> Result<(), AllocError>
     ensures { OnOk result (TakesChunk spare.new task.now.attempt) }
 {
     match &task.attempt {
@@ -29,17 +32,17 @@ pub(crate) fn fresh_chunk(attempt: &Option<Attempt>, chunk: Option<Chunk>) -> Op
     }
 }
 
-fn lengthen_run(attempt: &mut Attempt, chunk: Chunk, spare: &mut Spare<Chunk>)
+fn lengthen_run(attempt: &mut Attempt, chunk: Chunk, spare: &mut SpareBuffer<Chunk>)
     requires room { Takes (length attempt.old.chunks) spare.old }
     requires short { FitsBehind chunk attempt.old }
     ensures { attempt.new ≡ longer chunk attempt.old }
 {
     attempt.length += chunk.size;
-    attempt.chunks.push_within(chunk, spare);
+    attempt.chunks.push_reserved(chunk, spare);
 }
 
 /// The output of the run goes on by a chunk, in room that was made.
-pub(crate) fn lengthen(task: &mut TaskRow, chunk: Chunk, spare: &mut Spare<Chunk>)
+pub(crate) fn lengthen(task: &mut TaskRow, chunk: Chunk, spare: &mut SpareBuffer<Chunk>)
     requires room { TakesChunk spare.old task.old.attempt }
     requires short { IfSome task.old.attempt (FitsBehind chunk) }
     ensures { task.new ≡ lengthened chunk task.old }

@@ -3,13 +3,14 @@ ghost use Rattle.task_rows.specs.Acting.{row_of, run_of, chunk_in, IsAfter, IsAf
 
 use crate::in_place::{change, close, keep_chunk, row_of, shift};
 use crate::making::{chunk_of, make_room, row_from};
-use dimensions::{Growing, Spare, TryCopy};
+use dimensions::{ReservedVec, SpareBuffer, TryCopy};
 use std::alloc::{AllocError, Global};
 use std::marker::Model;
 use std::mem;
 use std::sync::ledger::Ledger;
 use swarm_model::{
-    Cancel, Chunk, Entry, EntryKind, Lose, MarkKill, ReadRows, Shift, Start, Steps, TaskRow,
+    Cancel, Chunk, Entry, EntryKind, ExpireSlice, LoseRun, MarkKill, ReadRows, StartRun, Steps,
+    TaskRow,
 };
 
 /// The rows of a pool's tasks. Tasks are numbered from 1 in the order of their acceptance.
@@ -21,14 +22,14 @@ pub struct TaskRows {
     alloc: Global,
     rows: Vec<TaskRow>,
     /// A larger buffer for the run whose chunks fill their own.
-    spare: Spare<Chunk>,
+    spare: SpareBuffer<Chunk>,
     ready: Option<Entry>,
 }
 
 impl Model for TaskRows {
-    ghost use Rattle.task_rows.specs.Plain.{Kept};
+    ghost use Rattle.task_rows.specs.Plain.{TaskRowsState};
 
-    ghost Value = { Kept };
+    ghost Value = { TaskRowsState };
 
     ghost use Rattle.task_rows.specs.Inside.{kept_of, IsKept};
 
@@ -45,7 +46,7 @@ impl TaskRows {
         TaskRows {
             alloc,
             rows: Vec::new(alloc),
-            spare: Spare::new(alloc),
+            spare: SpareBuffer::new(alloc),
             ready: None,
         }
     }
@@ -96,11 +97,11 @@ impl TaskRows {
                 } = copy;
                 match kind {
                     EntryKind::Claim { b, t: _, claim } => {
-                        let start = Start {
+                        let start = StartRun {
                             moment,
                             bot: b,
                             claim,
-                            chunks: Growing::new(self.alloc),
+                            chunks: ReservedVec::new(self.alloc),
                         };
                         change(&mut self.rows, no, start);
                     }
@@ -151,7 +152,7 @@ impl TaskRows {
                     } => close(&mut self.rows, no, moment, chunk, last, &mut self.spare),
                     other => {
                         drop(other);
-                        change(&mut self.rows, no, Lose { moment });
+                        change(&mut self.rows, no, LoseRun { moment });
                     }
                 }
             }
@@ -192,7 +193,11 @@ impl TaskRows {
         drop(self.ready.take());
         let moment = entry.moment;
         match &entry.kind {
-            EntryKind::Slice { to, .. } => shift(&mut self.rows, no, Shift { moment, to: *to }),
+            EntryKind::Slice { to, .. } => shift(
+                &mut self.rows,
+                no,
+                ExpireSlice { moment, to: *to },
+            ),
             _ => unreachable!(),
         }
     }

@@ -1,8 +1,8 @@
 //! Lists that several of the tests begin with.
 
 use dimensions::{Seq, Text};
-use task_props::Cache;
 use std::alloc::{AllocError, Global};
+use task_props::Cache;
 
 mod canonical_texts;
 mod dimension_sets;

@@ -3,10 +3,10 @@
 
 use crate::tests::{caches, pairs, texts};
 use dimensions::{DimSet, Seq, Text};
-use task_props::{File, Properties};
 use sha2::{Digest, Sha256};
 use std::alloc::{AllocError, Global};
 use std::test::Fail;
+use task_props::{File, Properties};
 
 const CANONICAL: &str =
     r#"{"caches":[["git","cache/git"]],"command":["say","\"hi\"","a\\b","two\nlines","\u0001","ü"],"dimensions":[["os","Linux|Mac"],["pool","default"]],"env":[["LANG","C"],["TZ","UTC"]],"execution_timeout_secs":3600,"grace_period_secs":45,"idempotent":true,"inputs":[["in/hello","2cf24dba5fb0a30e26e83b2ac5b9e29e1b161e5c1fa7425e73043362938b9824",5]],"io_timeout_secs":60,"outputs":["out/log"]}"#;

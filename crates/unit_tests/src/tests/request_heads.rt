@@ -1,6 +1,6 @@
 //! Tests of `request_head`, beside the heads that are sent over whole connections.
 
-use request_head::{After, Head, Judged, Method, judge};
+use request_head::{After, Head, HeadCheck, Method, check_head};
 
 #[test]
 fn all_that_a_head_says(rt: HostRuntime) {
@@ -14,38 +14,38 @@ fn all_that_a_head_says(rt: HostRuntime) {
         caller: Some("user:a@b.c"),
         after: After::Front(12),
     };
-    assert!(rt; judge(text.as_bytes()) == Judged::Good(head));
+    assert!(rt; check_head(text.as_bytes()) == HeadCheck::Good(head));
 }
 
 #[test]
 fn heads_that_are_refused(rt: HostRuntime) {
     for (text, judged) in [
         // Not the bytes of one whole head.
-        ("", Judged::Bad),
-        ("GET / HTTP/1.1\r\nx: y\r\n", Judged::Bad),
-        ("GET / HTTP/1.1\r\n\r\nx", Judged::Bad),
+        ("", HeadCheck::Bad),
+        ("GET / HTTP/1.1\r\nx: y\r\n", HeadCheck::Bad),
+        ("GET / HTTP/1.1\r\n\r\nx", HeadCheck::Bad),
         (
             "POST /a HTTP/1.1\r\ncontent-length: 1 2\r\n\r\n",
-            Judged::Bad,
+            HeadCheck::Bad,
         ),
         (
             "PUT /blobs/a HTTP/1.0\r\nhost: h\r\n\r\n",
-            Judged::LengthRequired,
+            HeadCheck::LengthRequired,
         ),
         (
             "POST /a HTTP/1.1\r\ntransfer-encoding:\r\n\r\n",
-            Judged::LengthRequired,
+            HeadCheck::LengthRequired,
         ),
         (
             "POST /a/blobs/ HTTP/1.1\r\ncontent-length: 65537\r\n\r\n",
-            Judged::TooLarge { limit: 65536 },
+            HeadCheck::TooLarge { limit: 65536 },
         ),
         (
             "POST /blobs/ HTTP/1.1\r\ncontent-length: 4294967296\r\n\r\n",
-            Judged::TooLarge { limit: 16777216 },
+            HeadCheck::TooLarge { limit: 16777216 },
         ),
     ] {
-        assert!(rt; judge(text.as_bytes()) == judged, "{text}");
+        assert!(rt; check_head(text.as_bytes()) == judged, "{text}");
     }
 }
 
@@ -79,7 +79,10 @@ fn methods_and_targets(rt: HostRuntime) {
             caller: None,
             after: After::Absent,
         };
-        assert!(rt; judge(text.as_bytes()) == Judged::Good(head), "{text}");
+        assert!(rt;
+            check_head(text.as_bytes()) == HeadCheck::Good(head),
+            "{text}"
+        );
     }
 }
 
@@ -109,8 +112,8 @@ fn sizes_and_connections(rt: HostRuntime) {
         ),
         ("GET /a HTTP/1.1\r\nconnection: \"close\"\r\n\r\n", 0, false),
     ] {
-        match judge(text.as_bytes()) {
-            Judged::Good(head) => {
+        match check_head(text.as_bytes()) {
+            HeadCheck::Good(head) => {
                 assert_eq!(rt; head.size, size, "{text}");
                 assert_eq!(rt; head.closes, closes, "{text}");
             }

@@ -7,14 +7,13 @@ ghost use Rattle.task_rows.specs.Acting.{AddsRow, EndsSlice, HasFewSlices, Stays
 
 use crate::tests::{bot_pairs, pairs};
 use dimensions::{BotDims, DimSet, Seq, Text};
-use task_props::Properties;
 use std::alloc::{AllocError, Global};
 use std::marker::Brand;
 use std::process::Abort;
 use std::sync::ledger::{Blank, Ledger};
 use std::test::Fail;
 use swarm_model::{Chunk, Entry, EntryKind, Last, Outcome, ReadRows, Steps, TaskRow, TaskState};
-use task_props::{NewTask, Slice};
+use task_props::{NewTask, Properties, Slice};
 use task_rows::TaskRows;
 
 fn slice(alloc: Global) -> Result<Slice, Fail> {

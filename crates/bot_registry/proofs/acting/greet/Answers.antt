@@ -2,7 +2,7 @@
 use Rattle.std.proofs.Common.{◌≡◌, None, sym, ◌∙◌}
 use Rattle.bot_registry.specs.Acting.{row_of}
 use Rattle.bot_registry.proofs.Lent.{lent_none}
-use Rattle.bot_registry.proofs.Becoming.{with_bot-new}
+use Rattle.bot_registry.proofs.RowEffects.{with_bot-new}
 use Rattle.bot_registry.proofs.acting.greet.Goals as goal
 
 pub returns-else-is_some : goal.returns-else-is_some

@@ -1,20 +1,20 @@
 -- A new bot adds its number; any other entry leaves the numbers and the names.
 use Rattle.std.proofs.Common.{sym, ◌∙◌}
-use Rattle.swarm_model.specs.Effects.{greeted}
+use Rattle.swarm_model.specs.Effects.{session_row}
 use Rattle.bot_registry.specs.Acting.{row_of}
 use Rattle.bot_registry.specs.Inside.{rows_after}
 use Rattle.bot_registry.proofs.Lent.{lent_none, lent_some}
-use Rattle.bot_registry.proofs.Becoming.{known_stays, other_stays, other_kind, still_named, new_named}
+use Rattle.bot_registry.proofs.RowEffects.{known_stays, other_stays, other_kind, still_named, new_named}
 use Rattle.bot_registry.proofs.names.follow.Goals as goal
 
 pub returns-then-is_none : goal.returns-then-is_none
 returns-then-is_none c = λ moment.
-    let row = greeted moment c.in-Handshake.b c.in-Handshake.id c.in-Handshake.session c.in-Handshake.dims c.in-Handshake.q in
+    let row = session_row moment c.in-Handshake.b c.in-Handshake.id c.in-Handshake.session c.in-Handshake.dims c.in-Handshake.q in
     rw c.in-Handshake.is (new_named row c.args.rows.now c.add.new.numbers.items (sym c.row_of.ensures ∙ lent_none c.row_of.result c.if-is_none.ensures) c.add.ensures)
 
 pub returns-else-is_none : goal.returns-else-is_none
 returns-else-is_none c = λ moment.
-    let row = greeted moment c.in-Handshake.b c.in-Handshake.id c.in-Handshake.session c.in-Handshake.dims c.in-Handshake.q in
+    let row = session_row moment c.in-Handshake.b c.in-Handshake.id c.in-Handshake.session c.in-Handshake.dims c.in-Handshake.q in
     let known = lent_some _ _ c.row_of.result (row_of c.args.rows.now c.in-Handshake.b) c.row_of.ensures c.if-is_none.ensures (rw c.in-Handshake.is at c.requires.follows) in
     rw c.in-Handshake.is (still_named c.args.rows.now _ c.args.numbers.now.items (known_stays row known.0 c.args.rows.now c.requires.numbered known.1 known.2) c.requires.named)
 

@@ -1,7 +1,7 @@
 use Rattle.std.proofs.Common.{rules, tests, ◌==◌}
 use Rattle.std.proofs.lemmas.Iterator.Search.{any_from_yields_List}
 use Rattle.std.proofs.lemmas.Iterator.Splits.{YieldsList-from_slice_split}
-use Rattle.request_head.specs.Says.{is_close}
+use Rattle.request_head.specs.HeadFields.{is_close}
 use Rattle.request_head.proofs.connection.has_close.Goals as goal
 
 pub returns : goal.returns

@@ -1,7 +1,7 @@
 -- What the answer adds may follow.
 use Rattle.std.proofs.Common.{sym, ap, ◌∙◌}
 use Rattle.swarm_model.specs.declared.answer.Answer.{Answer}
-use Rattle.swarm_laws.proofs.Following.{answer_follows}
+use Rattle.swarm_laws.proofs.Legality.{answer_follows}
 use Rattle.swarm_history.proofs.OwnPoints.{sound_history}
 use Rattle.swarm_history.proofs.serving.respond.Goals as goal
 

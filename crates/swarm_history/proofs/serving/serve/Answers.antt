@@ -14,8 +14,8 @@ use Rattle.swarm_history.proofs.OwnPoints.{sound_history, early_point, due_next,
 use Rattle.swarm_history.proofs.serving.serve.Goals as goal
 
 -- what the test of a front says of the log
-ahead_is : (size found : ℕ) (front : Option ℕ) (told truth : Bool) → found ≡ size → told ≡ is_ahead found front → told ≡ truth → is_ahead size front ≡ truth
-ahead_is size found front told truth counted tests is = ap (λ n. is_ahead n front) (sym counted) ∙ sym tests ∙ is
+ahead_is : (size found : ℕ) (front : Option ℕ) (decision truth : Bool) → found ≡ size → decision ≡ is_ahead found front → decision ≡ truth → is_ahead size front ≡ truth
+ahead_is size found front decision truth counted tests is = ap (λ n. is_ahead n front) (sym counted) ∙ sym tests ∙ is
 
 -- the moment that was reckoned
 moment_is : (s : PoolState) (moment last low at : ℕ) → last ≡ s.last → low ≡ min moment (2 ^ 40) → at ≡ max last low → at ≡ moment_of s moment

@@ -1,7 +1,7 @@
 -- An entry that is due may follow.
 use Rattle.std.proofs.Common.{arith, sym}
 use Rattle.swarm_model.specs.Deadlines.{due_entry}
-use Rattle.swarm_laws.proofs.Following.{due_follows}
+use Rattle.swarm_laws.proofs.Legality.{due_follows}
 use Rattle.swarm_history.proofs.OwnPoints.{sound_history}
 use Rattle.swarm_history.proofs.settling.settle.Goals as goal
 

@@ -1,7 +1,7 @@
 use Rattle.std.proofs.Common.{refl, ap, None}
 use Rattle.std.specs.Prelude.{Ok, Err}
-use Rattle.swarm_http.specs.Shown.{refusal}
-use Rattle.swarm_http.specs.Outcomes.{point, stopped, unshown}
+use Rattle.swarm_http.specs.Replies.{refusal}
+use Rattle.swarm_http.specs.Outcomes.{answered, aborted, no_reply_memory}
 use Rattle.swarm_http.proofs.Asking.{is_called}
 use Rattle.swarm_http.proofs.answer.call_door.Goals as goal
 
@@ -10,7 +10,7 @@ returns-in-Ok-whole_reply-clause-answers g c = λ head body same means.
     let d = c.in-Ok.ensures in
     let s = g.D.Door.state c.args.door.now in
     record {
-      outcome = point (record { who = c.args.who.now; asked = c.args.asked.now }) c.now-moment.result c.in-Ok.answered;
+      outcome = answered (record { who = c.args.who.now; asked = c.args.asked.now }) c.now-moment.result c.in-Ok.answered;
       acts = is_called s.settings s.writer head body c.args.who.now c.args.asked.now c.now-moment.result c.args.after c.front_of.result (Ok c.in-Ok.answered) s.seen (g.D.Door.state c.call.new.self).seen
           same c.front_of.ensures means d.done d.elsewhere;
       moments = c.now-moment.ensures;
@@ -22,7 +22,7 @@ returns-in-Ok-clause-answers g c = λ head body same means.
     let d = c.in-Ok.ensures in
     let s = g.D.Door.state c.args.door.now in
     record {
-      outcome = unshown (record { who = c.args.who.now; asked = c.args.asked.now }) c.now-moment.result c.in-Ok.answered;
+      outcome = no_reply_memory (record { who = c.args.who.now; asked = c.args.asked.now }) c.now-moment.result c.in-Ok.answered;
       acts = is_called s.settings s.writer head body c.args.who.now c.args.asked.now c.now-moment.result c.args.after c.front_of.result (Ok c.in-Ok.answered) s.seen (g.D.Door.state c.call.new.self).seen
           same c.front_of.ensures means d.done d.elsewhere;
       moments = c.now-moment.ensures;
@@ -34,7 +34,7 @@ returns-clause-answers g c = λ head body same means.
     let d = c.in-Err.ensures in
     let s = g.D.Door.state c.args.door.now in
     record {
-      outcome = stopped (record { who = c.args.who.now; asked = c.args.asked.now }) c.now-moment.result c.in-Err.why;
+      outcome = aborted (record { who = c.args.who.now; asked = c.args.asked.now }) c.now-moment.result c.in-Err.why;
       acts = is_called s.settings s.writer head body c.args.who.now c.args.asked.now c.now-moment.result c.args.after c.front_of.result (Err c.in-Err.why) s.seen (g.D.Door.state c.call.new.self).seen
           same c.front_of.ensures means d.done d.elsewhere;
       moments = c.now-moment.ensures;

@@ -1,6 +1,6 @@
 use Rattle.std.proofs.Common.{refl, ap, ◌∙◌, Ok}
 use Rattle.swarm_wire.specs.Asking.{asked_of}
-use Rattle.swarm_http.specs.Meanings.{with_front, broken_front}
+use Rattle.swarm_http.specs.Requests.{with_front, broken_front}
 use Rattle.swarm_http.specs.Steps.{told}
 use Rattle.swarm_http.proofs.answer.read_asked.Goals as goal
 

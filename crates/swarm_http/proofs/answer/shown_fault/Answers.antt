@@ -1,6 +1,6 @@
 use Rattle.std.proofs.Common.{refl, ap, sym, ◌∙◌, Err}
 use Rattle.swarm_model.specs.declared.rule.Rule.TheVariants as rule
-use Rattle.swarm_http.specs.Meanings.{unless_broken, with_front}
+use Rattle.swarm_http.specs.Requests.{unless_broken, with_front}
 use Rattle.swarm_http.specs.Sends.{rule_of}
 use Rattle.swarm_http.specs.Steps.{told}
 use Rattle.swarm_http.proofs.answer.shown_fault.Goals as goal

@@ -10,7 +10,7 @@ returns-in-Ok-Whole g c =
       taken = r.taken;
       moves = r.moves;
       output = r.output;
-      outcome = (received_whole says.1 says.2 r.outcome (record { said = says.3; body_is = refl }), r.faults);
+      outcome = (received_whole says.1 says.2 r.outcome (record { line = says.3; body_is = refl }), r.faults);
     }
 
 pub returns-in-Ok-Dropped : goal.returns-in-Ok-Dropped
@@ -21,7 +21,7 @@ returns-in-Ok-Dropped g c =
       taken = r.taken;
       moves = r.moves;
       output = r.output;
-      outcome = (received_whole says.1 says.2 r.outcome.1 (record { said = says.3; body_is = tt }), r.faults);
+      outcome = (received_whole says.1 says.2 r.outcome.1 (record { line = says.3; body_is = tt }), r.faults);
     }
 
 pub returns-in-Ok-Ended : goal.returns-in-Ok-Ended

@@ -10,7 +10,7 @@ pub take_body-requires-clause-says : goal.take_body-requires-clause-says
 take_body-requires-clause-says g c =
     let j = c.in-Good.ensures in
     let k = rw c.front.ensures at j in
-    (k.head, says_head c.requires.short c.requires.end k.head k.is_head k.due.0, k.due.1.size, c.said_of-said.ensures k.head k.due.1)
+    (k.head, says_head c.requires.short c.requires.end k.head k.is_head k.due.0, k.due.1.size, c.request_line_of-line.ensures k.head k.due.1)
 
 pub returns-in-Bad : goal.returns-in-Bad
 returns-in-Bad g c =

@@ -1,5 +1,5 @@
 use Rattle.std.proofs.Common.{sym, ap, ◌∙◌, None}
-use Rattle.swarm_http.specs.Shown.{refusal}
+use Rattle.swarm_http.specs.Replies.{refusal}
 use Rattle.swarm_http.specs.Sends.{rule_of}
 use Rattle.swarm_http.proofs.Texts.{bad_head, length_required, body_too_large, blob_too_large, no_route, bad_method, bad_json, front_broken, no_caller, no_pool, no_task, task_not_built, update_not_built, log_full, want_of_memory}
 use Rattle.swarm_http.proofs.send.refusal_bytes.Goals as goal

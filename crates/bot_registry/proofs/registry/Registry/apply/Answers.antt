@@ -3,18 +3,18 @@ use Rattle.std.proofs.Common.{arith, sym, ap, ◌∙◌, List, subst, ◌≤◌,
 use Rattle.std.specs.Prelude.{vec_len, vec_capacity}
 use Rattle.swarm_model.specs.declared.entry.Entry.{Entry}
 use Rattle.swarm_model.specs.declared.bot_row.BotRow.{BotRow}
-use Rattle.bot_registry.specs.Plain.{Kept}
+use Rattle.bot_registry.specs.Plain.{RegistryState}
 use Rattle.bot_registry.specs.Acting.{Follows}
 use Rattle.swarm_model.specs.Effects.{after}
 use Rattle.bot_registry.specs.Inside.{kept_of, rows_after}
-use Rattle.bot_registry.proofs.Becoming.{rows_stay, since_stays, room_for, follows_in, rows_after-is, ready_is, room_of}
+use Rattle.bot_registry.proofs.RowEffects.{rows_stay, since_stays, room_for, follows_in, rows_after-is, ready_is, room_of}
 use Rattle.bot_registry.proofs.Folding.{since_weaker}
 use Rattle.bot_registry.proofs.registry.Registry.apply.Goals as goal
 
 pub act-requires-clause-room : goal.act-requires-clause-room
 act-requires-clause-room c =
     let is = sym c.take.ensures.value ∙ c.in-Some.is in
-    let same = ready_is c.self.inside.ready c.in-Some.copy c.args.entry.now is (ap (λ (k : Kept). k.ready) c.self.view_is ∙ c.requires.ready) in
+    let same = ready_is c.self.inside.ready c.in-Some.copy c.args.entry.now is (ap (λ (k : RegistryState). k.ready) c.self.view_is ∙ c.requires.ready) in
     let follows = subst (λ (e : Entry). Follows (kept_of c.self.inside) e.kind) (sym same) (rw (← c.self.view_is) at c.requires.follows) in
     room_for (kept_of c.self.inside) c.in-Some.copy.kind (vec_len c.self.inside.rows) (vec_capacity c.self.inside.rows) follows
     (room_of c.self.inside.ready c.in-Some.copy is c.self.invariant.prepared).row
@@ -22,7 +22,7 @@ act-requires-clause-room c =
 pub follow-requires-clause-follows : goal.follow-requires-clause-follows
 follow-requires-clause-follows c =
     let is = sym c.take.ensures.value ∙ c.in-Some.is in
-    let same = ready_is c.self.inside.ready c.in-Some.copy c.args.entry.now is (ap (λ (k : Kept). k.ready) c.self.view_is ∙ c.requires.ready) in
+    let same = ready_is c.self.inside.ready c.in-Some.copy c.args.entry.now is (ap (λ (k : RegistryState). k.ready) c.self.view_is ∙ c.requires.ready) in
     let follows = subst (λ (e : Entry). Follows (kept_of c.self.inside) e.kind) (sym same) (rw (← c.self.view_is) at c.requires.follows) in
     rw c.deref.ensures.value (follows_in (kept_of c.self.inside) c.in-Some.copy.kind (vec_len c.self.inside.by_name) (vec_capacity c.self.inside.by_name) follows
     (room_of c.self.inside.ready c.in-Some.copy is c.self.invariant.prepared).number)
@@ -36,7 +36,7 @@ heard_since-self-inside-requires-clause-since c =
 pub invariant_of-self : goal.invariant_of-self
 invariant_of-self c =
     let is = sym c.take.ensures.value ∙ c.in-Some.is in
-    let same = ready_is c.self.inside.ready c.in-Some.copy c.args.entry.now is (ap (λ (k : Kept). k.ready) c.self.view_is ∙ c.requires.ready) in
+    let same = ready_is c.self.inside.ready c.in-Some.copy c.args.entry.now is (ap (λ (k : RegistryState). k.ready) c.self.view_is ∙ c.requires.ready) in
     let follows = subst (λ (e : Entry). Follows (kept_of c.self.inside) e.kind) (sym same) (rw (← c.self.view_is) at c.requires.follows) in
     let early = subst (λ (e : Entry). e.moment ≤ 2 ^ 40) (sym same) c.requires.early in
     let all = rows_stay c.in-Some.copy.moment c.in-Some.copy.kind (kept_of c.self.inside) early follows
@@ -53,7 +53,7 @@ invariant_of-self c =
 pub returns-clause-rows : goal.returns-clause-rows
 returns-clause-rows c = λ s of.
     let is = sym c.take.ensures.value ∙ c.in-Some.is in
-    let same = ready_is c.self.inside.ready c.in-Some.copy c.args.entry.now is (ap (λ (k : Kept). k.ready) c.self.view_is ∙ c.requires.ready) in
-    let rows = of ∙ sym (ap (λ (k : Kept). k.rows) c.self.view_is) in
+    let same = ready_is c.self.inside.ready c.in-Some.copy c.args.entry.now is (ap (λ (k : RegistryState). k.ready) c.self.view_is ∙ c.requires.ready) in
+    let rows = of ∙ sym (ap (λ (k : RegistryState). k.rows) c.self.view_is) in
     c.act.ensures ∙ ap (λ (bots : List BotRow). rows_after c.in-Some.copy.moment c.in-Some.copy.kind bots) (sym rows)
     ∙ rows_after-is s c.in-Some.copy.moment c.in-Some.copy.pass c.in-Some.copy.kind ∙ ap (λ (e : Entry). (after s e).bots) same

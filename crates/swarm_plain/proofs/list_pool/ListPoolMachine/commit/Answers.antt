@@ -4,15 +4,15 @@ use Rattle.std.specs.List.{sum_by}
 use Rattle.std.proofs.lemmas.List.Sums.{sum_by-append}
 use Rattle.swarm_model.specs.declared.pool_settings.PoolSettings.{PoolSettings}
 use Rattle.std.specs.Option.{option_map}
-use Rattle.swarm_model.specs.Kept.{Kept, IsRight, KeepsFinals}
-use Rattle.swarm_laws.proofs.Keeping.{is_right, keeps_finals}
+use Rattle.swarm_model.specs.MachineState.{MachineState, IsRight, KeepsFinals}
+use Rattle.swarm_laws.proofs.MachineLaws.{is_right, keeps_finals}
 use Rattle.swarm_plain.specs.declared.list_pool.Ready.{Ready}
 use Rattle.swarm_model.specs.declared.entry.Entry.{Entry}
 use Rattle.swarm_model.specs.Effects.{opening, after}
 use Rattle.swarm_model.specs.Entries.{weight}
 use Rattle.swarm_laws.specs.Served.{is_served, ends_run}
 use Rattle.swarm_model.specs.History.{replay}
-use Rattle.swarm_laws.proofs.Finds.{served_kind, report_ends}
+use Rattle.swarm_laws.proofs.EntryPreconditions.{served_kind, report_ends}
 use Rattle.swarm_plain.specs.Inside.{state_of}
 use Rattle.swarm_plain.specs.Invariant.{IsReady, kept_of}
 use Rattle.swarm_plain.proofs.Legality.{rooms, legal_more}
@@ -66,10 +66,10 @@ returns c =
     let none = ap (option_map (λ (r : Ready). r.entry)) c.take.ensures.after in
     let follows = rw (← c.self.view_is) at c.requires.follows in
     let history = kept_history c.self.inside c.self.invariant in
-    let new : Kept = record { pool = state_of c.apply.new.self; log = c.push.new.rows.items; ready = None; held = [] } in
+    let new : MachineState = record { pool = state_of c.apply.new.self; log = c.push.new.rows.items; ready = None; held = [] } in
     record {
-      right = subst (λ (k : Kept). IsRight k c.args.entry) c.self.view_is (is_right (kept_of c.self.inside) history c.args.entry follows);
-      finals = subst (λ (k : Kept). KeepsFinals k new) c.self.view_is (keeps_finals (kept_of c.self.inside) history c.args.entry follows new pool_is);
-      added = (λ i. let x : Kept = record { pool = pool_is i; log = c.push.ensures i; ready = none i; held = [] } in x)
-          ∙ ap (λ (k : Kept). let x : Kept = record k { pool = after k.pool c.args.entry; log = k.log ++ c.args.entry ∷ []; ready = None } in x) c.self.view_is;
+      right = subst (λ (k : MachineState). IsRight k c.args.entry) c.self.view_is (is_right (kept_of c.self.inside) history c.args.entry follows);
+      finals = subst (λ (k : MachineState). KeepsFinals k new) c.self.view_is (keeps_finals (kept_of c.self.inside) history c.args.entry follows new pool_is);
+      added = (λ i. let x : MachineState = record { pool = pool_is i; log = c.push.ensures i; ready = none i; held = [] } in x)
+          ∙ ap (λ (k : MachineState). let x : MachineState = record k { pool = after k.pool c.args.entry; log = k.log ++ c.args.entry ∷ []; ready = None } in x) c.self.view_is;
     }

@@ -3,7 +3,7 @@ use Rattle.std.proofs.Common.{refl}
 use Rattle.swarm_model.specs.declared.entry.EntryKind.TheVariants as kind
 use Rattle.swarm_model.specs.Effects.{bot_after}
 use Rattle.swarm_plain.specs.Inside.{state_of}
-use Rattle.swarm_plain.proofs.Becoming.{stays, changed, state_after}
+use Rattle.swarm_plain.proofs.RowEffects.{stays, changed, state_after}
 use Rattle.swarm_plain.proofs.rows.Rows.event.Goals as goal
 
 pub returns : goal.returns

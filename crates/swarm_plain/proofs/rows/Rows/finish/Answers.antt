@@ -5,9 +5,9 @@ use Rattle.swarm_model.specs.declared.attempt.Chunk.{Chunk}
 use Rattle.swarm_model.specs.declared.task_row.TaskRow.{TaskRow}
 use Rattle.swarm_model.specs.declared.entry.EntryKind.{EntryKind}
 use Rattle.swarm_model.specs.declared.entry.EntryKind.TheVariants as kind
-use Rattle.swarm_model.specs.Effects.{attempt_of, bot_after, bot_at, heard, freed, finished_at, if_some, chunk_at, put_chunk, task_after}
+use Rattle.swarm_model.specs.Effects.{attempt_of, bot_after, bot_at, heard, idle_bot, ended_run_at, if_some, chunk_at, put_chunk, task_after}
 use Rattle.swarm_plain.specs.Inside.{state_of}
-use Rattle.swarm_plain.proofs.Becoming.{changed, numbered_at, none_fresh, state_after}
+use Rattle.swarm_plain.proofs.RowEffects.{changed, numbered_at, none_fresh, state_after}
 use Rattle.swarm_plain.proofs.rows.Rows.finish.Goals as goal
 
 pub change-requires-3-clause-numbered : goal.change-requires-3-clause-numbered
@@ -25,8 +25,8 @@ returns c =
       settings = refl;
       state = state_after s m k c.change.new.rows.items c.change-3.new.rows.items
           (changed (task_after s m k) s.tasks c.change.new.rows.items
-          (c.change.ensures ∙ ap (λ (o : Option Chunk). map (λ (x : TaskRow). finished_at m c.args.t c.args.chunk c.args.last (if_some (chunk_at c.args.t) o x)) s.tasks) no_output))
+          (c.change.ensures ∙ ap (λ (o : Option Chunk). map (λ (x : TaskRow). ended_run_at m c.args.t c.args.chunk c.args.last (if_some (chunk_at c.args.t) o x)) s.tasks) no_output))
           (changed (bot_after m k) s.bots c.change-3.new.rows.items
-          (c.change-3.ensures ∙ ap (map (bot_at c.args.b freed)) c.change-2.ensures ∙ map-map (bot_at c.args.b freed) (bot_at c.args.b (heard m)) s.bots))
+          (c.change-3.ensures ∙ ap (map (bot_at c.args.b idle_bot)) c.change-2.ensures ∙ map-map (bot_at c.args.b idle_bot) (bot_at c.args.b (heard m)) s.bots))
           (ap (put_chunk s m) (sym no_output));
     }

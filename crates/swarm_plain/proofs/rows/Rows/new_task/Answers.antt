@@ -2,7 +2,7 @@
 use Rattle.std.proofs.Common.{refl}
 use Rattle.swarm_model.specs.declared.entry.EntryKind.TheVariants as kind
 use Rattle.swarm_plain.specs.Inside.{state_of}
-use Rattle.swarm_plain.proofs.Becoming.{stays, grows, state_after}
+use Rattle.swarm_plain.proofs.RowEffects.{stays, grows, state_after}
 use Rattle.swarm_plain.proofs.rows.Rows.new_task.Goals as goal
 
 pub returns : goal.returns

@@ -1,6 +1,6 @@
 -- The new row comes behind the others, with the next number.
 use Rattle.std.proofs.Common.{◌≡◌, Some, ap, sym, ◌∙◌}
-use Rattle.task_rows.specs.Plain.{Kept}
+use Rattle.task_rows.specs.Plain.{TaskRowsState}
 use Rattle.task_rows.proofs.Numbered.{pushed_numbered}
 use Rattle.task_rows.proofs.Adding.{adds}
 use Rattle.task_rows.proofs.rows.TaskRows.add_row.Goals as goal
@@ -15,8 +15,8 @@ invariant_of-self c =
 
 pub returns-clause-rows : goal.returns-clause-rows
 returns-clause-rows c = λ s of.
-    let ready : c.self.inside.ready ≡ Some c.args.entry.now = ap (λ (kept : Kept). kept.ready) c.self.view_is ∙ c.requires.ready in
+    let ready : c.self.inside.ready ≡ Some c.args.entry.now = ap (λ (kept : TaskRowsState). kept.ready) c.self.view_is ∙ c.requires.ready in
     let copy : c.in-Some.copy ≡ c.args.entry.now = cc (ready, c.in-Some.is, c.take.ensures.value) in
     let added = rw copy at c.row_from-row.ensures.row in
-    let rows = of ∙ sym (ap (λ (kept : Kept). kept.rows) c.self.view_is) in
+    let rows = of ∙ sym (ap (λ (kept : TaskRowsState). kept.rows) c.self.view_is) in
     rw c.push_reserved.ensures.items (adds c.self.inside.rows.items c.args.no c.args.entry.now c.row_from-row.result c.requires.adds added s rows)

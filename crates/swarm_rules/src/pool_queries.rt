@@ -15,7 +15,7 @@ use swarm_model::{BotRow, Deadline, PoolSettings, Steps, TaskRow, TaskState};
 use task_props::Digest;
 
 /// What the rules ask of a pool's rows.
-pub trait LookUps {
+pub trait PoolQueries {
     ghost use Rattle.swarm_model.specs.declared.pool_state.PoolState.{PoolState};
 
     /// The state that the rows stand for.

@@ -18,8 +18,8 @@ use Rattle.swarm_model.specs.declared.entry.EventKind.{EventKind}
 use Rattle.swarm_model.specs.declared.entry.EventKind.TheVariants as event
 use Rattle.swarm_model.specs.Numbers.{AreNumbered, change_at}
 use Rattle.swarm_model.specs.Finding.{is_bot}
-use Rattle.swarm_model.specs.Effects.{no_of_bot, bot_after, after, greeted, noted, freed_at, if_some, bot_at, heard, runs_task}
-use Rattle.bot_registry.specs.Plain.{Kept}
+use Rattle.swarm_model.specs.Effects.{no_of_bot, bot_after, after, session_row, event_effect, idle_bot_at, if_some, bot_at, heard, runs_task}
+use Rattle.bot_registry.specs.Plain.{RegistryState}
 use Rattle.bot_registry.specs.Acting.{row_of, IsNewBot, Follows}
 use Rattle.bot_registry.specs.Inside.{IsHeard, HeardSince, with_bot, rows_after, HasRoom, IsNextBot, FollowsIn}
 use Rattle.bot_registry.specs.Names.{name_of, AreByName}
@@ -79,14 +79,14 @@ if_no false x y e = refl
 own_no : (number : ℕ) (row bot : BotRow) → row.no ≡ number → (change_at no_of_bot number (λ old. row) bot).no ≡ bot.no
 own_no number row bot is = grind (arith, nat_tests)
 
-noted_no : (moment : ℕ) (e : EventKind) (text : List ℕ) (bot : BotRow) → (noted moment e text bot).no ≡ bot.no
-noted_no moment event.Ping text bot = refl
-noted_no moment event.Quarantine text bot = refl
-noted_no moment event.Unquarantine text bot = refl
+event_effect_no : (moment : ℕ) (e : EventKind) (text : List ℕ) (bot : BotRow) → (event_effect moment e text bot).no ≡ bot.no
+event_effect_no moment event.Ping text bot = refl
+event_effect_no moment event.Quarantine text bot = refl
+event_effect_no moment event.Unquarantine text bot = refl
 
-freed_no : (b : ℕ) (last : Option Last) (bot : BotRow) → (if_some (freed_at b) last bot).no ≡ bot.no
-freed_no b None bot = refl
-freed_no b (Some last) bot = if_no (bot.no == b) _ bot refl
+idle_bot_no : (b : ℕ) (last : Option Last) (bot : BotRow) → (if_some (idle_bot_at b) last bot).no ≡ bot.no
+idle_bot_no b None bot = refl
+idle_bot_no b (Some last) bot = if_no (bot.no == b) _ bot refl
 
 pub heard_no : (moment b : ℕ) (bot : BotRow) → (bot_at b (heard moment) bot).no ≡ bot.no
 heard_no moment b bot = if_no (bot.no == b) _ bot refl
@@ -94,12 +94,12 @@ heard_no moment b bot = if_no (bot.no == b) _ bot refl
 after_no : (moment : ℕ) (k : EntryKind) (bot : BotRow) → (bot_after moment k bot).no ≡ bot.no
 after_no moment (kind.Silence t) bot = if_no (runs_task t bot) _ bot refl
 after_no moment (kind.Dead b) bot = if_no (bot.no == b) _ bot refl
-after_no moment (kind.Handshake b id session dims q) bot = own_no b (greeted moment b id session dims q) bot refl
+after_no moment (kind.Handshake b id session dims q) bot = own_no b (session_row moment b id session dims q) bot refl
 after_no moment (kind.Poll b dims q hint) bot = if_no (bot.no == b) _ bot refl
 after_no moment (kind.Claim b t claim) bot = if_no (bot.no == b) _ bot refl
 after_no moment (kind.Contact b) bot = heard_no moment b bot
-after_no moment (kind.Event b e text) bot = if_no (bot.no == b) _ bot (noted_no moment e text bot)
-after_no moment (kind.Update b t try_no chunk last) bot = freed_no b last (bot_at b (heard moment) bot) ∙ heard_no moment b bot
+after_no moment (kind.Event b e text) bot = if_no (bot.no == b) _ bot (event_effect_no moment e text bot)
+after_no moment (kind.Update b t try_no chunk last) bot = idle_bot_no b last (bot_at b (heard moment) bot) ∙ heard_no moment b bot
 after_no moment (kind.Terminate b) bot = if_no (bot.no == b) _ bot refl
 after_no moment k bot = refl
 
@@ -109,14 +109,14 @@ if_name : (b : Bool) (x y : BotRow) → x.name ≡ y.name → (if b then x else 
 if_name true x y e = e
 if_name false x y e = refl
 
-noted_name : (moment : ℕ) (e : EventKind) (text : List ℕ) (bot : BotRow) → (noted moment e text bot).name ≡ bot.name
-noted_name moment event.Ping text bot = refl
-noted_name moment event.Quarantine text bot = refl
-noted_name moment event.Unquarantine text bot = refl
+event_effect_name : (moment : ℕ) (e : EventKind) (text : List ℕ) (bot : BotRow) → (event_effect moment e text bot).name ≡ bot.name
+event_effect_name moment event.Ping text bot = refl
+event_effect_name moment event.Quarantine text bot = refl
+event_effect_name moment event.Unquarantine text bot = refl
 
-freed_name : (b : ℕ) (last : Option Last) (bot : BotRow) → (if_some (freed_at b) last bot).name ≡ bot.name
-freed_name b None bot = refl
-freed_name b (Some last) bot = if_name (bot.no == b) _ bot refl
+idle_bot_name : (b : ℕ) (last : Option Last) (bot : BotRow) → (if_some (idle_bot_at b) last bot).name ≡ bot.name
+idle_bot_name b None bot = refl
+idle_bot_name b (Some last) bot = if_name (bot.no == b) _ bot refl
 
 -- every entry but a handshake
 abbrev pub IsOther : EntryKind → Type 0
@@ -130,8 +130,8 @@ after_name moment (kind.Handshake b id session dims q) other bot = absurd other
 after_name moment (kind.Poll b dims q hint) other bot = if_name (bot.no == b) _ bot refl
 after_name moment (kind.Claim b t claim) other bot = if_name (bot.no == b) _ bot refl
 after_name moment (kind.Contact b) other bot = if_name (bot.no == b) _ bot refl
-after_name moment (kind.Event b e text) other bot = if_name (bot.no == b) _ bot (noted_name moment e text bot)
-after_name moment (kind.Update b t try_no chunk last) other bot = freed_name b last (bot_at b (heard moment) bot) ∙ if_name (bot.no == b) _ bot refl
+after_name moment (kind.Event b e text) other bot = if_name (bot.no == b) _ bot (event_effect_name moment e text bot)
+after_name moment (kind.Update b t try_no chunk last) other bot = idle_bot_name b last (bot_at b (heard moment) bot) ∙ if_name (bot.no == b) _ bot refl
 after_name moment (kind.Terminate b) other bot = if_name (bot.no == b) _ bot refl
 after_name moment k other bot = refl
 
@@ -196,14 +196,14 @@ if_heard : (b : Bool) (x y : BotRow) → IsHeard x → IsHeard y → IsHeard (if
 if_heard true x y hx hy = hx
 if_heard false x y hx hy = hy
 
-noted_heard : (moment : ℕ) (e : EventKind) (text : List ℕ) (bot : BotRow) → moment ≤ 2 ^ 40 → IsHeard (noted moment e text bot)
-noted_heard moment event.Ping text bot early = early
-noted_heard moment event.Quarantine text bot early = early
-noted_heard moment event.Unquarantine text bot early = early
+event_effect_heard : (moment : ℕ) (e : EventKind) (text : List ℕ) (bot : BotRow) → moment ≤ 2 ^ 40 → IsHeard (event_effect moment e text bot)
+event_effect_heard moment event.Ping text bot early = early
+event_effect_heard moment event.Quarantine text bot early = early
+event_effect_heard moment event.Unquarantine text bot early = early
 
-freed_heard : (b : ℕ) (last : Option Last) (bot : BotRow) → IsHeard bot → IsHeard (if_some (freed_at b) last bot)
-freed_heard b None bot h = h
-freed_heard b (Some last) bot h = if_heard (bot.no == b) _ bot h h
+idle_bot_heard : (b : ℕ) (last : Option Last) (bot : BotRow) → IsHeard bot → IsHeard (if_some (idle_bot_at b) last bot)
+idle_bot_heard b None bot h = h
+idle_bot_heard b (Some last) bot h = if_heard (bot.no == b) _ bot h h
 
 after_heard : (moment : ℕ) (k : EntryKind) (bot : BotRow) → moment ≤ 2 ^ 40 → IsHeard bot → IsHeard (bot_after moment k bot)
 after_heard moment (kind.Silence t) bot early h = if_heard (runs_task t bot) _ bot h h
@@ -212,8 +212,8 @@ after_heard moment (kind.Handshake b id session dims q) bot early h = if_heard (
 after_heard moment (kind.Poll b dims q hint) bot early h = if_heard (bot.no == b) _ bot early h
 after_heard moment (kind.Claim b t claim) bot early h = if_heard (bot.no == b) _ bot early h
 after_heard moment (kind.Contact b) bot early h = if_heard (bot.no == b) _ bot early h
-after_heard moment (kind.Event b e text) bot early h = if_heard (bot.no == b) _ bot (noted_heard moment e text bot early) h
-after_heard moment (kind.Update b t try_no chunk last) bot early h = freed_heard b last _ (if_heard (bot.no == b) _ bot early h)
+after_heard moment (kind.Event b e text) bot early h = if_heard (bot.no == b) _ bot (event_effect_heard moment e text bot early) h
+after_heard moment (kind.Update b t try_no chunk last) bot early h = idle_bot_heard b last _ (if_heard (bot.no == b) _ bot early h)
 after_heard moment (kind.Terminate b) bot early h = if_heard (bot.no == b) _ bot h h
 after_heard moment k bot early h = h
 
@@ -223,14 +223,14 @@ if_since : (since : ℕ) (b : Bool) (x y : BotRow) → HeardSince since x → He
 if_since since true x y hx hy = hx
 if_since since false x y hx hy = hy
 
-noted_since : (since moment : ℕ) (e : EventKind) (text : List ℕ) (bot : BotRow) → since ≤ moment → HeardSince since (noted moment e text bot)
-noted_since since moment event.Ping text bot le = on_false (heard moment bot).dead _ le
-noted_since since moment event.Quarantine text bot le = on_false (heard moment bot).dead _ le
-noted_since since moment event.Unquarantine text bot le = on_false (heard moment bot).dead _ le
+event_effect_since : (since moment : ℕ) (e : EventKind) (text : List ℕ) (bot : BotRow) → since ≤ moment → HeardSince since (event_effect moment e text bot)
+event_effect_since since moment event.Ping text bot le = on_false (heard moment bot).dead _ le
+event_effect_since since moment event.Quarantine text bot le = on_false (heard moment bot).dead _ le
+event_effect_since since moment event.Unquarantine text bot le = on_false (heard moment bot).dead _ le
 
-freed_since : (since b : ℕ) (last : Option Last) (bot : BotRow) → HeardSince since bot → HeardSince since (if_some (freed_at b) last bot)
-freed_since since b None bot h = h
-freed_since since b (Some last) bot h = if_since since (bot.no == b) _ bot h h
+idle_bot_since : (since b : ℕ) (last : Option Last) (bot : BotRow) → HeardSince since bot → HeardSince since (if_some (idle_bot_at b) last bot)
+idle_bot_since since b None bot h = h
+idle_bot_since since b (Some last) bot h = if_since since (bot.no == b) _ bot h h
 
 after_since : (since moment : ℕ) (k : EntryKind) (bot : BotRow) → since ≤ moment → HeardSince since bot → HeardSince since (bot_after moment k bot)
 after_since since moment (kind.Silence t) bot le h = if_since since (runs_task t bot) _ bot tt h
@@ -239,9 +239,9 @@ after_since since moment (kind.Handshake b id session dims q) bot le h = if_sinc
 after_since since moment (kind.Poll b dims q hint) bot le h = if_since since (bot.no == b) _ bot (on_false (heard moment bot).dead _ le) h
 after_since since moment (kind.Claim b t claim) bot le h = if_since since (bot.no == b) _ bot (on_false (heard moment bot).dead _ le) h
 after_since since moment (kind.Contact b) bot le h = if_since since (bot.no == b) _ bot (on_false (heard moment bot).dead _ le) h
-after_since since moment (kind.Event b e text) bot le h = if_since since (bot.no == b) _ bot (noted_since since moment e text bot le) h
+after_since since moment (kind.Event b e text) bot le h = if_since since (bot.no == b) _ bot (event_effect_since since moment e text bot le) h
 after_since since moment (kind.Update b t try_no chunk last) bot le h =
-    freed_since since b last _ (if_since since (bot.no == b) _ bot (on_false (heard moment bot).dead _ le) h)
+    idle_bot_since since b last _ (if_since since (bot.no == b) _ bot (on_false (heard moment bot).dead _ le) h)
 after_since since moment (kind.Terminate b) bot le h = if_since since (bot.no == b) _ bot h h
 after_since since moment k bot le h = h
 
@@ -255,7 +255,7 @@ all_added P row (Some old) here = All-nil P
 
 pub since_stays : (since moment : ℕ) (k : EntryKind) (rows : List BotRow) → since ≤ moment → All (HeardSince since) rows → All (HeardSince since) (rows_after moment k rows)
 since_stays since moment (kind.Handshake b id session dims q) rows le all =
-    All-append (HeardSince since) _ _ (map_since since moment (kind.Handshake b id session dims q) rows le all) (all_added (HeardSince since) (greeted moment b id session dims q) (row_of rows b) le)
+    All-append (HeardSince since) _ _ (map_since since moment (kind.Handshake b id session dims q) rows le all) (all_added (HeardSince since) (session_row moment b id session dims q) (row_of rows b) le)
 since_stays since moment k rows le all = map_since since moment k rows le all
 
 -- ---- numbers and early moments, for all rows
@@ -272,19 +272,19 @@ pub record AreRows (rows : List BotRow) : Type 0 where
   pub numbered : AreNumbered no_of_bot 1 rows
   pub heard : All IsHeard rows
 
-greeted_after : (moment : ℕ) (row : BotRow) (rows : List BotRow) (o : Option BotRow) → o ≡ row_of rows row.no → MatchOption o (row.no ≡ length rows + 1) (λ bot. ⊤) → IsHeard row →
+session_row_after : (moment : ℕ) (row : BotRow) (rows : List BotRow) (o : Option BotRow) → o ≡ row_of rows row.no → MatchOption o (row.no ≡ length rows + 1) (λ bot. ⊤) → IsHeard row →
     AreRows rows → AreRows (map (change_at no_of_bot row.no (λ old. row)) rows) → AreRows (with_bot row rows)
-greeted_after moment row rows None is next heard old all =
+session_row_after moment row rows None is next heard old all =
     let none : with_bot row rows ≡ rows ++ row ∷ [] = with_bot-new row rows (sym is) in
     rw none (record {
       numbered = numbered-push 1 rows row old.numbered (omega (arith, next));
       heard = All-push IsHeard rows row old.heard heard;
     })
-greeted_after moment row rows (Some bot) is next heard old all = rw (with_bot-known row bot rows (sym is)) all
+session_row_after moment row rows (Some bot) is next heard old all = rw (with_bot-known row bot rows (sym is)) all
 
-pub rows_stay : (moment : ℕ) (k : EntryKind) (kept : Kept) → moment ≤ 2 ^ 40 → Follows kept k → AreRows kept.rows → AreRows (rows_after moment k kept.rows)
+pub rows_stay : (moment : ℕ) (k : EntryKind) (kept : RegistryState) → moment ≤ 2 ^ 40 → Follows kept k → AreRows kept.rows → AreRows (rows_after moment k kept.rows)
 rows_stay moment (kind.Handshake b id session dims q) kept early follows old =
-    greeted_after moment (greeted moment b id session dims q) kept.rows (row_of kept.rows b) refl (next_of (row_of kept.rows b) follows) early old
+    session_row_after moment (session_row moment b id session dims q) kept.rows (row_of kept.rows b) refl (next_of (row_of kept.rows b) follows) early old
     (record { numbered = numbered_after moment (kind.Handshake b id session dims q) kept.rows old.numbered; heard = heard_after moment (kind.Handshake b id session dims q) kept.rows early old.heard })
   where
     next_of : (o : Option BotRow) → MatchOption o (IsNewBot kept b id) (λ bot. bot.name ≡ id) → MatchOption o (b ≡ length kept.rows + 1) (λ bot. ⊤)
@@ -294,7 +294,7 @@ rows_stay moment k kept early follows old =
     record { numbered = numbered_after moment k kept.rows old.numbered; heard = heard_after moment k kept.rows early old.heard }
 
 -- where a handshake needs room, there may be one bot more
-pub room_for : (kept : Kept) (k : EntryKind) (len capacity : ℕ) → Follows kept k → (length kept.rows < kept.most → len < capacity) → HasRoom kept.rows len capacity k
+pub room_for : (kept : RegistryState) (k : EntryKind) (len capacity : ℕ) → Follows kept k → (length kept.rows < kept.most → len < capacity) → HasRoom kept.rows len capacity k
 room_for kept (kind.Handshake b id session dims q) len capacity follows room = by_row (row_of kept.rows b) follows
   where
     by_row : (o : Option BotRow) → MatchOption o (IsNewBot kept b id) (λ bot. bot.name ≡ id) → MatchOption o (len < capacity) (λ bot. ⊤)
@@ -302,7 +302,7 @@ room_for kept (kind.Handshake b id session dims q) len capacity follows room = b
     by_row (Some bot) same = tt
 room_for kept k len capacity follows room = tt
 
-pub follows_in : (kept : Kept) (k : EntryKind) (len capacity : ℕ) → Follows kept k → (length kept.rows < kept.most → len < capacity) → FollowsIn kept.rows len capacity k
+pub follows_in : (kept : RegistryState) (k : EntryKind) (len capacity : ℕ) → Follows kept k → (length kept.rows < kept.most → len < capacity) → FollowsIn kept.rows len capacity k
 follows_in kept (kind.Handshake b id session dims q) len capacity follows room = by_row (row_of kept.rows b) follows
   where
     by_row : (o : Option BotRow) → MatchOption o (IsNewBot kept b id) (λ bot. bot.name ≡ id) → MatchOption o (IsNextBot kept.rows len capacity b id) (λ bot. bot.name ≡ id)

@@ -6,19 +6,19 @@ use Rattle.std.proofs.lemmas.Option.{same_Some}
 use Rattle.swarm_model.specs.declared.pool_state.PoolState.{PoolState}
 use Rattle.swarm_model.specs.declared.deadline.Cause.{Cause}
 use Rattle.swarm_model.specs.declared.deadline.Cause.TheVariants as cause
-use Rattle.swarm_model.specs.declared.answer.Told.{Told}
+use Rattle.swarm_model.specs.declared.answer.Decision.{Decision}
 use Rattle.swarm_model.specs.declared.entry.Entry.{Entry}
 use Rattle.swarm_model.specs.declared.entry.EntryKind.{EntryKind}
 use Rattle.swarm_model.specs.declared.request.Request.{Request}
 use Rattle.swarm_model.specs.Fits.{fits}
-use Rattle.swarm_model.specs.Answers.{tell, answer, entry_at}
+use Rattle.swarm_model.specs.Answers.{decide, answer, entry_at}
 use Rattle.swarm_model.specs.Deadlines.{due_entry, settled}
 use Rattle.swarm_model.specs.Entries.{asks, is_deadline, Asked}
 use Rattle.swarm_model.specs.History.{MayFollow, IsDue, IsAnswered}
 use Rattle.swarm_model.specs.Points.{IsSettled}
 use Rattle.swarm_model.specs.Soundness.{IsSound}
 use Rattle.swarm_laws.proofs.Earliest.{due_at, due_ahead, due_on_time}
-use Rattle.swarm_laws.proofs.Standing.{IsOwn, IsAsked, tell_stands}
+use Rattle.swarm_laws.proofs.EntryRequest.{IsOwn, IsAsked, tell_stands}
 
 -- what is answered has its cause
 caused : (s : PoolState) (e : Entry) (b : Bool) (r : Option Asked) (asked : Asked) → b ≡ false → r ≡ Some asked → IsAnswered s e asked → MatchBool b (IsDue s e) (IsSomeAnd r (IsAnswered s e))
@@ -32,26 +32,26 @@ module _ (s : PoolState) (who : List ℕ) (moment pass : ℕ) (before : s.last �
         not_before = before;
         not_late = late;
         has_cause = caused s (entry_at moment pass k) (is_deadline k) (asks s k) f.asked f.no_deadline f.is
-            (record { nothing_due = none; may_ask = f.may_ask; gives = ap (option_map (entry_at moment pass)) f.adds });
+            (record { nothing_due = none; may_ask = f.may_ask; gives = ap (option_map (entry_at moment pass)) f.entry });
       }
 
   -- the request itself may be asked
-  own_asked : (request : Request) → IsTrue (fits s.settings request) → (k : EntryKind) → (tell s who moment request).adds ≡ Some k → IsOwn s who moment request k → IsAsked s moment k
-  own_asked request may k adds f =
+  own_asked : (request : Request) → IsTrue (fits s.settings request) → (k : EntryKind) → (decide s who moment request).entry ≡ Some k → IsOwn s who moment request k → IsAsked s moment k
+  own_asked request may k entry f =
       record {
         asked = f.asked;
         is = f.is;
         may_ask = subst (λ (r : Request). IsTrue (fits s.settings r)) (sym f.same_request) may;
-        adds = ap (λ (r : Request). (tell s f.asked.who moment r).adds) f.same_request ∙ ap (λ (t : Told). t.adds) f.alike ∙ adds;
+        entry = ap (λ (r : Request). (decide s f.asked.who moment r).entry) f.same_request ∙ ap (λ (t : Decision). t.entry) f.alike ∙ entry;
         no_deadline = f.no_deadline;
       }
 
-  stands_follows : (request : Request) → IsTrue (fits s.settings request) → (k : EntryKind) → (tell s who moment request).adds ≡ Some k → IsOwn s who moment request k ⊎ IsAsked s moment k →
+  stands_follows : (request : Request) → IsTrue (fits s.settings request) → (k : EntryKind) → (decide s who moment request).entry ≡ Some k → IsOwn s who moment request k ⊎ IsAsked s moment k →
       MayFollow s (entry_at moment pass k)
-  stands_follows request may k adds (inl f) = asked_follows k (own_asked request may k adds f)
-  stands_follows request may k adds (inr f) = asked_follows k f
+  stands_follows request may k entry (inl f) = asked_follows k (own_asked request may k entry f)
+  stands_follows request may k entry (inr f) = asked_follows k f
 
-  adds_follows : (request : Request) → IsTrue (fits s.settings request) → (r : Option EntryKind) → (tell s who moment request).adds ≡ r → IfSome r (λ k. IsOwn s who moment request k ⊎ IsAsked s moment k) → (e : Entry) →
+  adds_follows : (request : Request) → IsTrue (fits s.settings request) → (r : Option EntryKind) → (decide s who moment request).entry ≡ r → IfSome r (λ k. IsOwn s who moment request k ⊎ IsAsked s moment k) → (e : Entry) →
       option_map (entry_at moment pass) r ≡ Some e → MayFollow s e
   adds_follows request may None g h e gives = absurd (cc (gives))
   adds_follows request may (Some k) g h e gives = subst (MayFollow s) (same_Some _ _ gives) (stands_follows request may k g h)
@@ -60,7 +60,7 @@ module _ (s : PoolState) (who : List ℕ) (moment pass : ℕ) (before : s.last �
 pub answer_follows : (s : PoolState) (who : List ℕ) (moment pass : ℕ) (request : Request) (e : Entry) → IsSound s → s.last ≤ moment → moment ≤ 2 ^ 40 →
     due_entry s moment pass ≡ None → IsTrue (fits s.settings request) → (answer s who moment pass request).entry ≡ Some e → MayFollow s e
 answer_follows s who moment pass request e o before late none may gives =
-    adds_follows s who moment pass before late none request may (tell s who moment request).adds refl (tell_stands s who moment request o may) e gives
+    adds_follows s who moment pass before late none request may (decide s who moment request).entry refl (tell_stands s who moment request o may) e gives
 
 -- what is settled is of a deadline
 settled_is : (s : PoolState) (c : Cause) (number : ℕ) → is_deadline (settled s c number) ≡ true

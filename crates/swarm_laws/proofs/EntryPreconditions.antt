@@ -28,7 +28,7 @@ use Rattle.swarm_model.specs.declared.pool_state.PoolState.{PoolState}
 use Rattle.swarm_model.specs.declared.deadline.Deadline.{Deadline}
 use Rattle.swarm_model.specs.declared.deadline.Cause.{Cause}
 use Rattle.swarm_model.specs.declared.deadline.Cause.TheVariants as cause
-use Rattle.swarm_model.specs.declared.answer.Told.{Told}
+use Rattle.swarm_model.specs.declared.answer.Decision.{Decision}
 use Rattle.swarm_model.specs.declared.reuse.Reuse.{Reuse}
 use Rattle.swarm_model.specs.declared.rule.Rule.TheVariants as rule
 use Rattle.swarm_model.specs.declared.rule.Unfit.TheVariants as unfit
@@ -44,12 +44,12 @@ use Rattle.swarm_model.specs.Finding.{is_final, is_task, task_of, bot_named, is_
 use Rattle.swarm_model.specs.Fits.{fits, is_name}
 use Rattle.swarm_model.specs.Slices.{is_open, admit, current_slice, first}
 use Rattle.swarm_model.specs.Reuse.{sent, reuse, ended_well, is_young, ran_hash}
-use Rattle.swarm_model.specs.Answers.{tell, entry_at, again, takes_over, accepted, accepted_at, tasks_full, named_task, result_of, greet, handshake, poll, busy, run_on, claim, claim_again, claimed, claims, unfit_of, unfit_told, event, terminate, answers, with, has_try, if_named, may, denied, cancel, cancel_row, stop, is_killed, is_kept, updates, report, report_again, report_on, not_claimant, update, update_row}
+use Rattle.swarm_model.specs.Answers.{decide, entry_at, resubmitted, reuse_outcome, accepted, accepted_at, tasks_full, named_task, result_of, known_bot, handshake, poll, busy, run_on, claim, claim_again, claimed, claims, unfit_of, unfit_refusal, event, terminate, reply_with_entry, with, has_try, if_named, may, denied, cancel, cancel_row, stop, is_killed, is_kept, updates, report, report_again, report_on, not_claimant, update, update_row}
 use Rattle.swarm_model.specs.Deadlines.{settled, slice_end, slice_limit, silence_end, silence_limit, runner_of, bot_end, deadlines, due_entry}
 use Rattle.swarm_model.specs.Entries.{asks, is_deadline, Asked}
 use Rattle.swarm_model.specs.History.{MayFollow, IsDue, IsAnswered}
 use Rattle.swarm_laws.specs.Served.{is_served, ends_run}
-use Rattle.swarm_laws.proofs.Findings.{Finds, HasTask, waits, runs, served_of, ends_of}
+use Rattle.swarm_laws.proofs.Preconditions.{Finds, HasTask, waits, runs, served_of, ends_of}
 use Rattle.swarm_laws.proofs.Lists.{Among, Found, find_is, all_filter_map}
 use Rattle.swarm_laws.proofs.Earliest.{due_at, due_has}
 use Rattle.swarm_laws.proofs.Answering.{by_when, by_map, by_with}
@@ -78,8 +78,8 @@ pub record IsNamed (s : PoolState) (number try_no : ℕ) (row : TaskRow) : Type 
   pub named : row.no ≡ number
   pub has : (try_no == 0 || has_try try_no row.attempt) ≡ true
 
-abbrev Adds : PoolState → Told → Type 0
-Adds s told = IfSome told.adds (Finds s)
+abbrev Adds : PoolState → Decision → Type 0
+Adds s told = IfSome told.entry (Finds s)
 
 -- a new task that is accepted comes to one of its slices
 accepted_finds : (s : PoolState) (who : List ℕ) (request : NewTask) (o : Option ℕ) → is_checked request ≡ true → sent s who request.request_uuid ≡ None → admit s request.task_slices 0 ≡ o → Adds s (accepted_at s who request o)
@@ -90,7 +90,7 @@ accepted_finds s who request None checked unsent h =
 
 -- and so does one that takes the outcome of another
 taken_finds : (s : PoolState) (who : List ℕ) (m : ℕ) (request : NewTask) (r : Reuse) → is_checked request ≡ true → sent s who request.request_uuid ≡ None → reuse s m request.task_slices ≡ Some r →
-    Adds s (takes_over s who request r)
+    Adds s (reuse_outcome s who request r)
 taken_finds s who m request r checked unsent h =
     let f = reuse_is s m 0 request.task_slices r h in
     let found = f.fits.found in
@@ -177,7 +177,7 @@ update_fits settings name task try_no chunk last may =
 -- a handshake finds its bot, or room for a new one
 handshake_finds : (s : PoolState) (name session : List ℕ) (dims : BotDims) (q : List ℕ) → Adds s (handshake s name session dims q)
 handshake_finds s name session dims q =
-    by_map (Adds s) (greet name session dims q) (bot_named s name) _ (λ bot e. cond_both (same bot.session session) _ _ (Adds s) (λ t. tt) (λ t.
+    by_map (Adds s) (known_bot name session dims q) (bot_named s name) _ (λ bot e. cond_both (same bot.session session) _ _ (Adds s) (λ t. tt) (λ t.
     let f = bot_is s name bot e in inr (record { bot = bot; among = f.among; named = refl; called = f.passes }))) (λ unknown.
     by_when (Adds s) (nat_le s.settings.most_bots (length s.bots)) _ _ (λ t. tt) (λ t. inl (record { unknown = unknown; next = refl })))
 
@@ -194,22 +194,22 @@ poll_finds s dims q bot =
 claim_finds : (s : PoolState) (id : List ℕ) (bot : BotRow) → Among bot s.bots → Adds s (claim s id bot)
 claim_finds s id bot a =
     by_map (Adds s) (claim_again bot) (claimed s bot.no id) _ (λ task e. cond_both (is_final task.state) _ _ (Adds s) (λ t. tt) (λ t. tt)) (λ fresh.
-    by_map (Adds s) unfit_told (unfit_of bot) _ (λ why e. tt) (λ fit.
+    by_map (Adds s) unfit_refusal (unfit_of bot) _ (λ why e. tt) (λ fit.
     by_map (Adds s) busy (run_on s bot) _ (λ task e. tt) (λ idle.
     by_map (Adds s) (claims bot id) (first s bot.dims) _ (λ task gets.
     record { bot = bot; among = a; named = refl; fresh = fresh; fit = fit; idle = idle; task = task; gets = gets; task_named = refl }) (λ e. tt))))
 
 -- nor does an event
 event_finds : (s : PoolState) (which : EventKind) (text : List ℕ) (bot : BotRow) → Adds s (event which text bot)
-event_finds s which text bot = by_when (Adds s) (bot.dead && is_none bot.task) (unfit_told unfit.Dead) (answers reply.Noted (kind.Event bot.no which text)) (λ t. tt) (λ t. tt)
+event_finds s which text bot = by_when (Adds s) (bot.dead && is_none bot.task) (unfit_refusal unfit.Dead) (reply_with_entry reply.Noted (kind.Event bot.no which text)) (λ t. tt) (λ t. tt)
 
 -- so does every request that the pool may be asked
-tell_finds : (s : PoolState) (who : List ℕ) (m : ℕ) (request : Request) → IsTrue (fits s.settings request) → Adds s (tell s who m request)
+tell_finds : (s : PoolState) (who : List ℕ) (m : ℕ) (request : Request) → IsTrue (fits s.settings request) → Adds s (decide s who m request)
 tell_finds s who m (ask.New request) may =
     let checked = (and_parts (is_checked request) (same (pool_of_task request) s.settings.name) may).0 in
-    by_map (Adds s) (again request) (sent s who request.request_uuid) _ (λ row e. cond_both (same_task row.request request) _ _ (Adds s) (λ t. tt) (λ t. tt)) (λ unsent.
+    by_map (Adds s) (resubmitted request) (sent s who request.request_uuid) _ (λ row e. cond_both (same_task row.request request) _ _ (Adds s) (λ t. tt) (λ t. tt)) (λ unsent.
     by_when (Adds s) (nat_le s.settings.most_tasks (length s.tasks)) (tasks_full s) _ (λ t. tt) (λ t.
-    by_map (Adds s) (takes_over s who request) (reuse s m request.task_slices) (accepted s who request) (λ found e. taken_finds s who m request found checked unsent e) (λ e.
+    by_map (Adds s) (reuse_outcome s who request) (reuse s m request.task_slices) (accepted s who request) (λ found e. taken_finds s who m request found checked unsent e) (λ e.
     accepted_finds s who request (admit s request.task_slices 0) checked unsent refl)))
 tell_finds s who m (ask.Cancel task try_no kill) may =
     by_with (Adds s) (named_task s task try_no) rule.NoTask (cancel s who kill) tt (λ row e. cancel_finds s who kill row (named_is s task try_no row e).among)
@@ -273,7 +273,7 @@ due_finds s m pass e h =
     subst (λ (x : Entry). Finds s x.kind) found.is (settled_finds s found.d.cause found.d.number (due_has (IsOfRow s) s m pass e (deadline_row s) h))
 
 -- the entry of an answer has the kind that the answer adds
-adds_finds : (s : PoolState) (m pass : ℕ) (adds : Option EntryKind) (e : Entry) → IfSome adds (Finds s) → option_map (entry_at m pass) adds ≡ Some e → Finds s e.kind
+adds_finds : (s : PoolState) (m pass : ℕ) (entry : Option EntryKind) (e : Entry) → IfSome entry (Finds s) → option_map (entry_at m pass) entry ≡ Some e → Finds s e.kind
 adds_finds s m pass None e h g = absurd (cc (g))
 adds_finds s m pass (Some k) e h g = subst (λ (x : Entry). Finds s x.kind) (same_Some _ _ g) h
 
@@ -285,7 +285,7 @@ finds s e follows = by_cause (is_deadline e.kind) (asks s e.kind) follows.has_ca
     by_cause true o h = due_finds s e.moment e.pass e h
     by_cause false None h = absurd h
     by_cause false (Some asked) h =
-        adds_finds s e.moment e.pass (tell s asked.who e.moment asked.request).adds e (tell_finds s asked.who e.moment asked.request h.may_ask) h.gives
+        adds_finds s e.moment e.pass (decide s asked.who e.moment asked.request).entry e (tell_finds s asked.who e.moment asked.request h.may_ask) h.gives
 
 -- an entry of a kind that no request and no deadline adds does not come
 pub served_kind : (s : PoolState) (e : Entry) → MayFollow s e → IsTrue (is_served e.kind)

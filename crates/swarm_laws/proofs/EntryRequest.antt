@@ -15,7 +15,7 @@ use Rattle.swarm_model.specs.declared.pool_settings.Permission.TheVariants as pe
 use Rattle.swarm_model.specs.declared.task_row.TaskRow.{TaskRow}
 use Rattle.swarm_model.specs.declared.bot_row.BotRow.{BotRow}
 use Rattle.swarm_model.specs.declared.pool_state.PoolState.{PoolState}
-use Rattle.swarm_model.specs.declared.answer.Told.{Told}
+use Rattle.swarm_model.specs.declared.answer.Decision.{Decision}
 use Rattle.swarm_model.specs.declared.rule.Rule.TheVariants as rule
 use Rattle.swarm_model.specs.declared.rule.Unfit.TheVariants as unfit
 use Rattle.swarm_model.specs.declared.reply.Reply.{Reply}
@@ -30,13 +30,13 @@ use Rattle.swarm_model.specs.Words.{is_between}
 use Rattle.swarm_model.specs.Fits.{fits, fits_task}
 use Rattle.swarm_model.specs.Slices.{admit, first}
 use Rattle.swarm_model.specs.Reuse.{sent, reuse}
-use Rattle.swarm_model.specs.Answers.{tell, again, takes_over, accepted, accepted_at, tasks_full, named_task, result_of, greet, handshake, poll, polls, busy, run_on, claim, claim_again, claimed, claims, nap, run, unfit_of, unfit_told, event, terminate, answers, dims_unless, text_unless, with, has_try, if_named, may, denied, cancel, cancel_row, stop, is_killed, is_kept, updates, report, report_again, report_on, not_claimant, update, update_row}
+use Rattle.swarm_model.specs.Answers.{decide, resubmitted, reuse_outcome, accepted, accepted_at, tasks_full, named_task, result_of, known_bot, handshake, poll, polls, busy, run_on, claim, claim_again, claimed, claims, sleep_secs, run, unfit_of, unfit_refusal, event, terminate, reply_with_entry, dims_unless, text_unless, with, has_try, if_named, may, denied, cancel, cancel_row, stop, is_killed, is_kept, updates, report, report_again, report_on, not_claimant, update, update_row}
 use Rattle.swarm_model.specs.Entries.{asks, is_deadline, by_nobody, cancel_of, update_of, poll_of, claim_of, event_of, terminate_of, handshake_of, Asked}
 use Rattle.swarm_model.specs.Soundness.{IsSound}
 use Rattle.swarm_laws.proofs.Lists.{Found, find_is}
 use Rattle.swarm_laws.proofs.Answering.{by_when, by_map, by_with}
-use Rattle.swarm_laws.proofs.Findings.{waits, runs}
-use Rattle.swarm_laws.proofs.Finds.{IsNamed, named_is, update_fits}
+use Rattle.swarm_laws.proofs.Preconditions.{waits, runs}
+use Rattle.swarm_laws.proofs.EntryPreconditions.{IsNamed, named_is, update_fits}
 use Rattle.swarm_laws.proofs.Rows.{find_task, find_bot, bot_is}
 use Rattle.swarm_laws.proofs.Alike.{same_is, same_self, dims_told, text_told}
 
@@ -45,7 +45,7 @@ pub record IsOwn (s : PoolState) (who : List ℕ) (m : ℕ) (request : Request) 
   pub asked : Asked
   pub is : asks s k ≡ Some asked
   pub same_request : asked.request ≡ request
-  pub alike : tell s asked.who m request ≡ tell s who m request
+  pub alike : decide s asked.who m request ≡ decide s who m request
   pub no_deadline : is_deadline k ≡ false
 
 -- or for another one, which may be asked and adds it, too
@@ -53,11 +53,11 @@ pub record IsAsked (s : PoolState) (m : ℕ) (k : EntryKind) : Type 0 where
   pub asked : Asked
   pub is : asks s k ≡ Some asked
   pub may_ask : IsTrue (fits s.settings asked.request)
-  pub adds : (tell s asked.who m asked.request).adds ≡ Some k
+  pub entry : (decide s asked.who m asked.request).entry ≡ Some k
   pub no_deadline : is_deadline k ≡ false
 
-abbrev pub Stands : PoolState → List ℕ → ℕ → Request → Told → Type 0
-Stands s who m request told = IfSome told.adds (λ k. IsOwn s who m request k ⊎ IsAsked s m k)
+abbrev pub Stands : PoolState → List ℕ → ℕ → Request → Decision → Type 0
+Stands s who m request told = IfSome told.entry (λ k. IsOwn s who m request k ⊎ IsAsked s m k)
 
 -- a new task stands for itself
 new_stands : (s : PoolState) (who : List ℕ) (m : ℕ) (task : NewTask) (o : Option ℕ) → Stands s who m (ask.New task) (accepted_at s who task o)
@@ -86,16 +86,16 @@ module _ (s : PoolState) (o : IsSound s) (who : List ℕ) (m : ℕ) (name : List
   by_row request_of = ap (option_map request_of) (find_bot s o bot bot.no found.among refl)
 
   -- that it was heard stands for the handshake with what its row holds
-  heard : (request : Request) (reply : Reply) → Stands s who m request (answers reply (kind.Contact bot.no))
-  heard request reply = inr (record { asked = handshake_of bot; is = by_row handshake_of; may_ask = (bot_is s o bot found.among).known; adds = again; no_deadline = refl })
+  heard : (request : Request) (reply : Reply) → Stands s who m request (reply_with_entry reply (kind.Contact bot.no))
+  heard request reply = inr (record { asked = handshake_of bot; is = by_row handshake_of; may_ask = (bot_is s o bot found.among).known; entry = again; no_deadline = refl })
     where
-      again : (handshake s bot.name bot.session bot.dims bot.quarantined).adds ≡ Some (kind.Contact bot.no)
+      again : (handshake s bot.name bot.session bot.dims bot.quarantined).entry ≡ Some (kind.Contact bot.no)
       again = rw (ap (bot_named s) name_is ∙ named, same_self bot.session) refl
 
   -- a handshake of a known bot stands for itself, or says that the bot was heard
-  greet_stands : (session : List ℕ) (dims : BotDims) (q : List ℕ) → Stands s who m (ask.Handshake name session dims q) (greet name session dims q bot)
+  greet_stands : (session : List ℕ) (dims : BotDims) (q : List ℕ) → Stands s who m (ask.Handshake name session dims q) (known_bot name session dims q bot)
   greet_stands session dims q =
-      cond_both (same bot.session session) (answers (reply.Shaken name) (kind.Contact bot.no)) (answers (reply.Shaken name) (kind.Handshake bot.no name session dims q)) (Stands s who m (ask.Handshake name session dims q))
+      cond_both (same bot.session session) (reply_with_entry (reply.Shaken name) (kind.Contact bot.no)) (reply_with_entry (reply.Shaken name) (kind.Handshake bot.no name session dims q)) (Stands s who m (ask.Handshake name session dims q))
       (λ t. heard (ask.Handshake name session dims q) (reply.Shaken name))
       (λ t. inl (record { asked = by_nobody (ask.Handshake name session dims q); is = refl; same_request = refl; alike = refl; no_deadline = refl }))
 
@@ -118,16 +118,16 @@ module _ (s : PoolState) (o : IsSound s) (who : List ℕ) (m : ℕ) (name : List
       by_when P bot.dead _ _ (λ t. tt) (λ t.
       by_map P busy (run_on s bot) _ (λ x e. tt) (λ e.
       by_when P bot.terminating _ _ (λ t. polls_stands dims q false reply.Terminate) (λ t.
-      by_when P (not (is_empty q)) _ _ (λ t. polls_stands dims q false (reply.Sleep (nap bot))) (λ t.
-      by_when P (is_some (first s dims)) _ _ (λ t. polls_stands dims q true reply.ClaimHint) (λ t. polls_stands dims q false (reply.Sleep (nap bot)))))))
+      by_when P (not (is_empty q)) _ _ (λ t. polls_stands dims q false (reply.Sleep (sleep_secs bot))) (λ t.
+      by_when P (is_some (first s dims)) _ _ (λ t. polls_stands dims q true reply.ClaimHint) (λ t. polls_stands dims q false (reply.Sleep (sleep_secs bot)))))))
     where
-      P : Told → Type 0
+      P : Decision → Type 0
       P = Stands s who m (ask.Poll name dims q)
 
   claim_stands : (id : List ℕ) → Stands s who m (ask.Claim name id) (claim s id bot)
   claim_stands id =
       by_map P (claim_again bot) (claimed s bot.no id) _ (λ task e. cond_both (is_final task.state) _ _ P (λ t. tt) (λ t. heard (ask.Claim name id) (run task))) (λ fresh.
-      by_map P unfit_told (unfit_of bot) _ (λ why e. tt) (λ fit.
+      by_map P unfit_refusal (unfit_of bot) _ (λ why e. tt) (λ fit.
       by_map P busy (run_on s bot) _ (λ task e. tt) (λ idle.
       by_map P (claims bot id) (first s bot.dims) _ (λ task e.
       inl (record {
@@ -138,12 +138,12 @@ module _ (s : PoolState) (o : IsSound s) (who : List ℕ) (m : ℕ) (name : List
         no_deadline = refl;
       })) (λ e. heard (ask.Claim name id) reply.Skip))))
     where
-      P : Told → Type 0
+      P : Decision → Type 0
       P = Stands s who m (ask.Claim name id)
 
   event_stands : (which : EventKind) (text : List ℕ) → Stands s who m (ask.Event name which text) (event which text bot)
   event_stands which text =
-      by_when (Stands s who m (ask.Event name which text)) (bot.dead && is_none bot.task) (unfit_told unfit.Dead) (answers reply.Noted (kind.Event bot.no which text)) (λ t. tt) (λ t.
+      by_when (Stands s who m (ask.Event name which text)) (bot.dead && is_none bot.task) (unfit_refusal unfit.Dead) (reply_with_entry reply.Noted (kind.Event bot.no which text)) (λ t. tt) (λ t.
       inl (record {
         asked = event_of which text bot;
         is = by_row (event_of which text);
@@ -173,7 +173,7 @@ module _ (s : PoolState) (o : IsSound s) (who : List ℕ) (m : ℕ) (name : List
       request : Request
       request = ask.Update name number try_no chunk last
 
-      P : Told → Type 0
+      P : Decision → Type 0
       P = Stands s who m request
 
   terminate_stands : Stands s who m (ask.Terminate name) (terminate bot)
@@ -183,20 +183,20 @@ module _ (s : PoolState) (o : IsSound s) (who : List ℕ) (m : ℕ) (name : List
 
 -- a task that is canceled, or whose run is to stop, stands for its creator's cancel of both
 module _ (s : PoolState) (o : IsSound s) (who : List ℕ) (m number try_no : ℕ) (kill : Bool) (may_ask : IsTrue (fits_task number try_no)) (row : TaskRow) (f : IsNamed s number try_no row) where
-  abbrev P : Told → Type 0
+  abbrev P : Decision → Type 0
   P = Stands s who m (ask.Cancel number try_no kill)
 
   -- the creator may ask for it
   its_row : named_task s row.no 0 ≡ Some row
   its_row = ap (option_and_then (if_named 0)) (find_task s o row row.no f.among refl)
 
-  by_creator : (k : EntryKind) → option_map cancel_of (task_of s row.no) ≡ asks s k → (tell s row.creator m (ask.Cancel row.no 0 true)).adds ≡ Some k → is_deadline k ≡ false → IsAsked s m k
-  by_creator k is adds no_deadline =
+  by_creator : (k : EntryKind) → option_map cancel_of (task_of s row.no) ≡ asks s k → (decide s row.creator m (ask.Cancel row.no 0 true)).entry ≡ Some k → is_deadline k ≡ false → IsAsked s m k
+  by_creator k is entry no_deadline =
       record {
         asked = cancel_of row;
         is = sym is ∙ ap (option_map cancel_of) (find_task s o row row.no f.among refl);
         may_ask = subst (λ (n : ℕ). IsTrue (fits_task n 0)) (sym f.named) (and_from (is_between 1 262144 number) true (and_parts (is_between 1 262144 number) _ may_ask).0 refl);
-        adds = adds;
+        entry = entry;
         no_deadline = no_deadline;
       }
 
@@ -213,15 +213,15 @@ module _ (s : PoolState) (o : IsSound s) (who : List ℕ) (m number try_no : ℕ
       by_when P (runs row) (stop kill row) _ (stop_stands kill w) (λ r. tt)))
 
 -- what an answer adds stands for the request, or for another one that adds it
-pub tell_stands : (s : PoolState) (who : List ℕ) (m : ℕ) (request : Request) → IsSound s → IsTrue (fits s.settings request) → Stands s who m request (tell s who m request)
+pub tell_stands : (s : PoolState) (who : List ℕ) (m : ℕ) (request : Request) → IsSound s → IsTrue (fits s.settings request) → Stands s who m request (decide s who m request)
 tell_stands s who m (ask.New task) o may =
-    by_map P (again task) (sent s who task.request_uuid) _ (λ row e. cond_both (same_task row.request task) _ _ P (λ t. tt) (λ t. tt)) (λ unsent.
+    by_map P (resubmitted task) (sent s who task.request_uuid) _ (λ row e. cond_both (same_task row.request task) _ _ P (λ t. tt) (λ t. tt)) (λ unsent.
     by_when P (nat_le s.settings.most_tasks (length s.tasks)) (tasks_full s) _ (λ t. tt) (λ t.
-    by_map P (takes_over s who task) (reuse s m task.task_slices) (accepted s who task)
+    by_map P (reuse_outcome s who task) (reuse s m task.task_slices) (accepted s who task)
     (λ found e. inl (record { asked = record { who = who; request = ask.New task }; is = refl; same_request = refl; alike = refl; no_deadline = refl })) (λ e.
     new_stands s who m task (admit s task.task_slices 0))))
   where
-    P : Told → Type 0
+    P : Decision → Type 0
     P = Stands s who m (ask.New task)
 tell_stands s who m (ask.Cancel number try_no kill) o may =
     by_with (Stands s who m (ask.Cancel number try_no kill)) (named_task s number try_no) rule.NoTask (cancel s who kill) tt
@@ -229,11 +229,11 @@ tell_stands s who m (ask.Cancel number try_no kill) o may =
 tell_stands s who m (ask.Result task try_no) o may = by_with (Stands s who m (ask.Result task try_no)) (named_task s task try_no) rule.NoTask (result_of s) tt (λ row e. tt)
 tell_stands s who m (ask.Count state) o may = tt
 tell_stands s who m (ask.Handshake name session dims q) o may =
-    by_map P (greet name session dims q) (bot_named s name) _ (λ bot e. greet_stands s o who m name bot e session dims q) (λ unknown.
+    by_map P (known_bot name session dims q) (bot_named s name) _ (λ bot e. greet_stands s o who m name bot e session dims q) (λ unknown.
     by_when P (nat_le s.settings.most_bots (length s.bots)) _ _ (λ t. tt) (λ t.
     inl (record { asked = by_nobody (ask.Handshake name session dims q); is = refl; same_request = refl; alike = refl; no_deadline = refl })))
   where
-    P : Told → Type 0
+    P : Decision → Type 0
     P = Stands s who m (ask.Handshake name session dims q)
 tell_stands s who m (ask.Poll name dims q) o may =
     by_with (Stands s who m (ask.Poll name dims q)) (bot_named s name) rule.NoBot (poll s dims q) tt (λ bot e. poll_stands s o who m name bot e dims q)

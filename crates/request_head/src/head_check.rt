@@ -2,7 +2,7 @@ ghost use Rattle.std.specs.Prelude.{◌≡◌, All, IsUtf8, length, map, MatchOp
 ghost use Rattle.httparse.specs.Grammar.{RequestHead};
 ghost use Rattle.httparse.specs.Spans.{IsWithin, IsHeaderWithin, span_bytes, header_bytes};
 ghost use Rattle.request_head.specs.Heads.{IsNoHead};
-ghost use Rattle.request_head.specs.Says.{limit_at as spec_limit_at, caller_told as spec_caller_told, refusal};
+ghost use Rattle.request_head.specs.HeadFields.{limit_at as spec_limit_at, caller_told as spec_caller_told, refusal};
 ghost use Rattle.request_head.specs.Numbers.{value_or_zero};
 ghost use Rattle.request_head.specs.Judging.{IsJudged, IsDue, Refuses, Covers, IsWholeHead};
 
@@ -21,7 +21,7 @@ const BLOB_LIMIT: u32 = 16777216;
 
 /// What is judged of the bytes of a head.
 #[derive(Clone, Copy, Debug, PartialEq, Eq)]
-pub enum Judged<'a> {
+pub enum HeadCheck<'a> {
     /// They are no request head, or one with more than 64 fields, or one whose Content-Length is
     /// not one field of 1 to 10 digits.
     Bad,
@@ -74,26 +74,26 @@ fn body_size<'a>(
     length: Number,
     encoded: bool,
     limit: u32,
-) -> Result<u32, Judged<'a>>
+) -> Result<u32, HeadCheck<'a>>
     ensures { MatchResult result
         (λ size. (refusal method length encoded limit ≡ None) × (size ≡ value_or_zero length))
         (λ answer. Refuses (refusal method length encoded limit) answer) }
 {
     if length.is_broken() {
-        return Err(Judged::Bad);
+        return Err(HeadCheck::Bad);
     }
     if encoded || (method.has_body() && length.is_absent()) {
-        return Err(Judged::LengthRequired);
+        return Err(HeadCheck::LengthRequired);
     }
     let size = length.value_or_zero();
     if size > u64::from(limit) {
-        return Err(Judged::TooLarge { limit });
+        return Err(HeadCheck::TooLarge { limit });
     }
     Ok(size as u32)
 }
 
 // The answer that is due to the head that these spans cover.
-fn judge_head<'a>(text: &'a [u8], head: &RequestSpans, headers: &[HeaderSpan]) -> Judged<'a>
+fn judge_head<'a>(text: &'a [u8], head: &RequestSpans, headers: &[HeaderSpan]) -> HeadCheck<'a>
     requires method { IsWithin (length text.now) head.now.method }
     requires path { IsWithin (length text.now) head.now.path }
     requires path_text { IsUtf8 (span_bytes text.now head.now.path) }
@@ -106,7 +106,7 @@ fn judge_head<'a>(text: &'a [u8], head: &RequestSpans, headers: &[HeaderSpan]) -
     let plain = lacks(text, headers, b"transfer-encoding");
     let limit = limit_at(target.as_bytes());
     match body_size(method, length, !plain, limit) {
-        Ok(size) => Judged::Good(Head {
+        Ok(size) => HeadCheck::Good(Head {
             method,
             target,
             size,
@@ -119,12 +119,12 @@ fn judge_head<'a>(text: &'a [u8], head: &RequestSpans, headers: &[HeaderSpan]) -
 }
 
 /// Judges the bytes through the end of a head. It takes no memory.
-pub fn judge(text: &[u8]) -> Judged<'_>
+pub fn check_head(text: &[u8]) -> HeadCheck<'_>
     ensures { IsJudged text.now result }
 {
     let mut headers = [EMPTY_HEADER_SPAN; 64];
     match whole_head(text, &mut headers) {
         Some(head) => judge_head(text, &head, &headers[..head.headers]),
-        None => Judged::Bad,
+        None => HeadCheck::Bad,
     }
 }

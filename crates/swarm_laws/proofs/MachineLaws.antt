@@ -9,10 +9,10 @@ use Rattle.swarm_model.specs.Answers.{answer, named_task}
 use Rattle.swarm_model.specs.Claims.{IsRightClaim}
 use Rattle.swarm_model.specs.Effects.{opening, after}
 use Rattle.swarm_model.specs.History.{replay, MayFollow, tally}
-use Rattle.swarm_model.specs.Kept.{Kept, IsHistory, IsRight, KeepsFinals, ShowsVerdict}
+use Rattle.swarm_model.specs.MachineState.{MachineState, IsHistory, IsRight, KeepsFinals, ShowsVerdict}
 use Rattle.swarm_model.specs.Soundness.{IsSound}
 use Rattle.swarm_model.specs.Verdicts.{is_new, verdict, verdict_tally}
-use Rattle.swarm_laws.proofs.Finds.{IsNamed, named_is}
+use Rattle.swarm_laws.proofs.EntryPreconditions.{IsNamed, named_is}
 use Rattle.swarm_laws.proofs.Rows.{find_task}
 use Rattle.swarm_laws.proofs.Sound.{sound_always}
 use Rattle.swarm_laws.proofs.ClaimLaw.{claims_right}
@@ -21,7 +21,7 @@ use Rattle.swarm_laws.proofs.Finals.{final_through}
 use Rattle.swarm_laws.proofs.TallyLaw.{tally_counts_verdicts, tally_adds_up}
 use Rattle.swarm_laws.proofs.Shown.{tell_shows}
 
-module _ (kept : Kept) (h : IsHistory kept) where
+module _ (kept : MachineState) (h : IsHistory kept) where
   -- the rows are those of the log
   abbrev rows : PoolState
   rows = replay (opening kept.pool.settings) kept.log
@@ -62,7 +62,7 @@ module _ (kept : Kept) (h : IsHistory kept) where
         subst (λ (s : PoolState). IsRightClaim s kept.log e.moment b t) (sym h.replayed) (claims_right kept.pool.settings kept.log e b t claim h.legal.caused may_follow is)
 
     -- and what has ended stays
-    pub keeps_finals : (new : Kept) → new.pool ≡ after kept.pool e → KeepsFinals kept new
+    pub keeps_finals : (new : MachineState) → new.pool ≡ after kept.pool e → KeepsFinals kept new
     keeps_finals new is t task there final =
         ap (λ (s : PoolState). task_of s t) (is ∙ ap (λ (s : PoolState). after s e) h.replayed)
         ∙ final_through kept.pool.settings kept.log e t task h.legal.caused may_follow (ap (λ (s : PoolState). task_of s t) (sym h.replayed) ∙ there) final

@@ -18,14 +18,14 @@ use Rattle.swarm_model.specs.History.{replay, IsLegal}
 use Rattle.swarm_model.specs.Verdicts.{verdict}
 
 -- the rows, the log, the entry that is made ready, and the bytes that are held, by their digests
-pub record Kept : Type 0 where
+pub record MachineState : Type 0 where
   pub pool : PoolState
   pub log : List Entry
   pub ready : Option Entry
   pub held : List (List ℕ × List ℕ)
 
 -- the rows are the replay of the log, and the log is legal
-pub record IsHistory (kept : Kept) : Type 0 where
+pub record IsHistory (kept : MachineState) : Type 0 where
   pub replayed : kept.pool ≡ replay (opening kept.pool.settings) kept.log
   pub legal : IsLegal (opening kept.pool.settings) kept.log
 
@@ -51,19 +51,19 @@ held_after Unknown held digest bytes = held
 held_after (Differs actual) held digest bytes = held
 
 -- bytes were brought for a held name; nothing is ready any more
-pub record Fills (old new : Kept) (digest bytes : List ℕ) (result : Filled) : Type 0 where
+pub record Fills (old new : MachineState) (digest bytes : List ℕ) (result : Filled) : Type 0 where
   pub told : result ≡ filled old.pool digest bytes
   pub holds : new ≡ record old { ready = None; held = held_after result old.held digest bytes }
 
 -- a result shows the state that the log tells of its task
-abbrev pub ShowsVerdict : Kept → Reply → Type 0
+abbrev pub ShowsVerdict : MachineState → Reply → Type 0
 ShowsVerdict kept (reply.Result view) = verdict kept.log view.task_id ≡ view.state
 ShowsVerdict kept other = ⊤
 
 -- a task that has ended stays as it is
-abbrev pub KeepsFinals : Kept → Kept → Type 0
+abbrev pub KeepsFinals : MachineState → MachineState → Type 0
 KeepsFinals old new = (t : ℕ) (task : TaskRow) → task_of old.pool t ≡ Some task → IsTrue (is_final task.state) → task_of new.pool t ≡ Some task
 
 -- a claim that is added is right for the rows and the log before it
-abbrev pub IsRight : Kept → Entry → Type 0
+abbrev pub IsRight : MachineState → Entry → Type 0
 IsRight kept entry = (b t : ℕ) (claim : List ℕ) → entry.kind ≡ kind.Claim b t claim → IsRightClaim kept.pool kept.log entry.moment b t

@@ -13,13 +13,13 @@ use Rattle.swarm_model.specs.declared.entry.EntryKind.TheVariants as kind
 use Rattle.swarm_model.specs.declared.entry.Outcome.{Outcome}
 use Rattle.swarm_model.specs.declared.entry.Outcome.TheVariants as outcome
 use Rattle.swarm_model.specs.Deadlines.{next_of}
-use Rattle.swarm_model.specs.Effects.{task_after, added_tasks, moved, new_row, after}
+use Rattle.swarm_model.specs.Effects.{task_after, added_tasks, expired_slice, new_row, after}
 use Rattle.swarm_model.specs.History.{MayFollow}
 use Rattle.swarm_model.specs.Reuse.{sent, is_sent}
 use Rattle.swarm_model.specs.Soundness.{IsSound, sent_key, AreSentApart}
 use Rattle.swarm_laws.proofs.Lists.{Among, Found, each, each_one, find_is, find_none}
-use Rattle.swarm_laws.proofs.Findings.{Finds}
-use Rattle.swarm_laws.proofs.Finds.{finds}
+use Rattle.swarm_laws.proofs.Preconditions.{Finds}
+use Rattle.swarm_laws.proofs.EntryPreconditions.{finds}
 use Rattle.swarm_laws.proofs.Rows.{task_by, all_tasks, one_task}
 use Rattle.swarm_laws.proofs.Numbers.{task_no}
 use Rattle.swarm_laws.proofs.Alike.{same_is, is_same}
@@ -75,7 +75,7 @@ key_same s m k o f x a =
       finishes = λ last w. refl;
     })
   where
-    by_outcome : (to : Outcome) → sent_key (moved m to x) ≡ sent_key x
+    by_outcome : (to : Outcome) → sent_key (expired_slice m to x) ≡ sent_key x
     by_outcome (outcome.Slice place) = refl
     by_outcome (outcome.Ended state) = refl
 

@@ -1,8 +1,8 @@
 ghost use Rattle.std.specs.Prelude.{◌≡◌, IfOk, IsTrue};
 ghost use Rattle.swarm_model.specs.Fits.{fits};
-ghost use Rattle.swarm_model.specs.Answers.{tell};
+ghost use Rattle.swarm_model.specs.Answers.{decide};
 
-use crate::LookUps;
+use crate::PoolQueries;
 use crate::canceling::cancel;
 use crate::claiming::claim;
 use crate::events::event;
@@ -15,19 +15,19 @@ use crate::updating::update;
 use dimensions::Text;
 use std::alloc::{AllocError, Global};
 use std::sync::ledger::Ledger;
-use swarm_model::{Request, Steps, Told};
+use swarm_model::{Decision, Request, Steps};
 
 /// The reply to a request at a moment, and the entry that it adds.
-pub fn tell<P: LookUps, L: Ledger>(
+pub fn decide<P: PoolQueries, L: Ledger>(
     alloc: Global,
     pool: &P,
     who: &Text,
     moment: u64,
     request: &Request,
     steps: &mut Steps<L>,
-) -> Result<Told, AllocError>
+) -> Result<Decision, AllocError>
     requires { IsTrue (fits (P.state pool.now).settings request.now) }
-    ensures { IfOk result (λ told. told ≡ tell (P.state pool.now) who.now moment request.now) }
+    ensures { IfOk result (λ decision. decision ≡ decide (P.state pool.now) who.now moment request.now) }
 {
     match request {
         Request::New(task) => new_task(alloc, pool, who, moment, task, steps),

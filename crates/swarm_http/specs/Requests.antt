@@ -5,7 +5,7 @@ use Rattle.request_head.specs.declared.method.Method.{Method}
 use Rattle.request_head.specs.declared.method.Method.TheVariants.{Get, Post, Put, Other}
 use Rattle.request_head.specs.declared.after.After.{After}
 use Rattle.request_head.specs.declared.after.After.TheVariants.{Absent, Front, Broken}
-use Rattle.request_head.specs.Says.{method_of, caller_of, after_of}
+use Rattle.request_head.specs.HeadFields.{method_of, caller_of, after_of}
 use Rattle.task_props.specs.declared.prop_rule.PropRule.TheVariants.{Grammar}
 use Rattle.swarm_model.specs.declared.pool_settings.Settings.{Settings}
 use Rattle.swarm_model.specs.declared.rule.Rule.{Rule}
@@ -68,16 +68,16 @@ front_of (Front front) = Some front
 front_of Broken = None
 
 -- a caller, and what it asks of a pool
-pub record Meant : Type 0 where
+pub record CallerRequest : Type 0 where
   pub who : List ℕ
   pub asked : Asked
 
-abbrev pub meant_by : List ℕ → Asked → Result Meant Rule
-meant_by who asked = Ok (record { who = who; asked = asked })
+abbrev pub caller_request_of : List ℕ → Asked → Result CallerRequest Rule
+caller_request_of who asked = Ok (record { who = who; asked = asked })
 
 -- what a request means: its route, its method, its caller, its body and its front are looked at in this order
-abbrev pub meaning : Settings → RequestHead → List ℕ → Result Meant Rule
-meaning settings head body =
+abbrev pub request_of : Settings → RequestHead → List ℕ → Result CallerRequest Rule
+request_of settings head body =
     then (routed (route_of head.target) (method_of head)) (λ route.
     then (called_by (caller_of head)) (λ who.
-    then (with_front (after_of head) (asked_of settings route body)) (meant_by who)))
+    then (with_front (after_of head) (asked_of settings route body)) (caller_request_of who)))

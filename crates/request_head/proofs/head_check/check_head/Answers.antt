@@ -1,5 +1,5 @@
 use Rattle.request_head.proofs.HeadLemmas.{covers_whole, judged_head}
-use Rattle.request_head.proofs.judged.judge.Goals as goal
+use Rattle.request_head.proofs.head_check.check_head.Goals as goal
 
 pub returns-in-Some : goal.returns-in-Some
 returns-in-Some c =
