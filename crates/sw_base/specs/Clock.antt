@@ -1,5 +1,5 @@
 -- What a clock hands in.
-use Rattle.std.specs.Prelude.{ℕ, zero, suc, ◌+◌, ◌-◌, ◌^◌, min, List, [], ◌∷◌, Option, length}
+use Rattle.std.specs.Prelude.{ℕ, zero, suc, ◌+◌, ◌-◌, ◌^◌, min, List, [], ◌∷◌, Option, length, slice_get, unwrap_or}
 use Rattle.std.specs.Io.KnownBytes.{Consumes}
 
 -- between two states of a clock these moments were handed in: they were the first that it told, and what it told beyond them is still ahead
@@ -10,3 +10,8 @@ HandsIn before after moments = (more : ℕ) → Consumes (before (length moments
 abbrev pub steps_from : ℕ → ℕ → ℕ → List ℕ
 steps_from at step zero = []
 steps_from at step (suc k) = at ∷ steps_from (min (at + step) (2 ^ 64 - 1)) step k
+
+-- the next k moments of a clock that was asked so often and answers those of a list, and 0 past the last
+abbrev pub listed_from : List ℕ → ℕ → ℕ → List ℕ
+listed_from moments asked zero = []
+listed_from moments asked (suc k) = unwrap_or (slice_get moments asked) 0 ∷ listed_from moments (min (asked + 1) (2 ^ 64 - 1)) k

@@ -7,7 +7,7 @@
 //! holds word for word over memory, where all is told, and over the console. A [`Failed`] comes
 //! only from a call in which the count of its side rose, and such a call moves no byte.
 //! A [`Clock`] answers moments, and where it tells them, the next ones are known before.
-//! [`MemoryLink`] and [`StepClock`] tell all; [`ConsoleLink`] tells what its reader and writer do;
+//! [`MemoryLink`], [`StepClock`] and [`ListClock`] tell all; [`ConsoleLink`] tells what its reader and writer do;
 //! [`SystemClock`] tells nothing.
 #![tactic(auto)]
 
@@ -15,6 +15,7 @@ mod clock;
 mod console_link;
 mod failed;
 mod link;
+mod list_clock;
 mod memory_link;
 mod step_clock;
 mod system_clock;
@@ -23,6 +24,7 @@ pub use clock::Clock;
 pub use console_link::ConsoleLink;
 pub use failed::Failed;
 pub use link::Link;
+pub use list_clock::ListClock;
 pub use memory_link::MemoryLink;
 pub use step_clock::StepClock;
 pub use system_clock::SystemClock;

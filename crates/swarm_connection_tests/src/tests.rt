@@ -6,7 +6,6 @@ use std::alloc::{AllocError, Global};
 mod cuts;
 mod deadlines;
 mod limits;
-mod list_clock;
 mod outcomes;
 mod pools;
 mod turns;

@@ -1,7 +1,6 @@
-use crate::ListClock;
 use std::alloc::Global;
+use sw_base::{Clock, ListClock, MemoryLink, StepClock};
 use swarm_cli::run;
-use swarm_http::{Clock, MemoryLink, StepClock};
 use transcript::{Transcript, TranscriptError, compare};
 
 /// Runs a transcript over a clock, its bytes in pieces of this size, and compares what was written

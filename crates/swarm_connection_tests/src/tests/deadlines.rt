@@ -1,11 +1,10 @@
 //! Slices that run out in a pool that has all the entries or tasks that it may have.
 
-use crate::tests::list_clock::ListClock;
-use crate::tests::pools::{limited, serve};
+use crate::tests::pools::{expect_replies, limited};
 use crate::tests::{LOG_FULL, TASK, new_task, one_task_is_all, pending, reply, request};
 use std::alloc::{AllocError, Global};
 use std::test::Fail;
-use swarm_http::Ended;
+use sw_base::ListClock;
 
 /// A request for a task with a slice of each of these seconds, and whether it waits. The command
 /// of a slice is its place.
@@ -54,15 +53,20 @@ fn a_log_of_one_entry(rt: HostRuntime) -> Result<(), Fail> {
     let get = get(alloc, "10")?;
     let small = new_task(alloc, TASK)?;
     let requests = format!(in alloc; "{small}{small}{count}{count}{count}{get}{small}{count}")?;
-    let mut clock = ListClock::new(alloc, &[1000, 1000, 1000, 1599, 1600, 1600, 1601, 1599])?;
-    let served = serve(alloc, &settings, &mut clock, requests.as_bytes())?;
+    let mut clock = ListClock::new(&[1000, 1000, 1000, 1599, 1600, 1600, 1601, 1599]);
     let first = pending(alloc, 1, "10")?;
     let one = reply(alloc, "200 OK", 1, r#"{"count":1}"#)?;
     let expected = format!(in alloc;
         "{first}{LOG_FULL}{one}{one}{LOG_FULL}{LOG_FULL}{LOG_FULL}{one}"
     )?;
-    assert_eq!(rt; served.ended, Ended::Closed);
-    assert_eq!(rt; served.link.output(), expected.as_bytes());
+    expect_replies(
+        &rt,
+        alloc,
+        &settings,
+        &mut clock,
+        requests.as_bytes(),
+        expected.as_bytes(),
+    )?;
     Ok(())
 }
 
@@ -74,13 +78,18 @@ fn a_log_that_fills_within_a_call(rt: HostRuntime) -> Result<(), Fail> {
     let asked = task(alloc, &[(60, true), (60, true)])?;
     let get = get(alloc, "10")?;
     let requests = format!(in alloc; "{asked}{get}{get}{get}{get}")?;
-    let mut clock = ListClock::new(alloc, &[1000, 5000, 900, 1119, 1120])?;
-    let served = serve(alloc, &settings, &mut clock, requests.as_bytes())?;
+    let mut clock = ListClock::new(&[1000, 5000, 900, 1119, 1120]);
     let first = pending(alloc, 1, "10")?;
     let between = view(alloc, 2, "10", 1, "PENDING", "null")?;
     let expected = format!(in alloc; "{first}{LOG_FULL}{between}{between}{LOG_FULL}")?;
-    assert_eq!(rt; served.ended, Ended::Closed);
-    assert_eq!(rt; served.link.output(), expected.as_bytes());
+    expect_replies(
+        &rt,
+        alloc,
+        &settings,
+        &mut clock,
+        requests.as_bytes(),
+        expected.as_bytes(),
+    )?;
     Ok(())
 }
 
@@ -95,15 +104,20 @@ fn the_earliest_deadlines_of_a_full_log(rt: HostRuntime) -> Result<(), Fail> {
     let get_one = get(alloc, "10")?;
     let get_two = get(alloc, "20")?;
     let requests = format!(in alloc; "{one}{two}{get_one}{get_one}{get_two}")?;
-    let mut clock = ListClock::new(alloc, &[1000, 1000, 5000, 0, 1109])?;
-    let served = serve(alloc, &settings, &mut clock, requests.as_bytes())?;
+    let mut clock = ListClock::new(&[1000, 1000, 5000, 0, 1109]);
     let first = pending(alloc, 1, "10")?;
     let second = pending(alloc, 2, "20")?;
     let one_ended = view(alloc, 4, "10", 0, "EXPIRED", "1100")?;
     let two_waits = view(alloc, 4, "20", 1, "PENDING", "null")?;
     let expected = format!(in alloc; "{first}{second}{LOG_FULL}{one_ended}{two_waits}")?;
-    assert_eq!(rt; served.ended, Ended::Closed);
-    assert_eq!(rt; served.link.output(), expected.as_bytes());
+    expect_replies(
+        &rt,
+        alloc,
+        &settings,
+        &mut clock,
+        requests.as_bytes(),
+        expected.as_bytes(),
+    )?;
     Ok(())
 }
 
@@ -115,14 +129,19 @@ fn a_full_pool_and_no_open_slice(rt: HostRuntime) -> Result<(), Fail> {
     let asked = task(alloc, &[(60, true), (60, true)])?;
     let unopened = task(alloc, &[(60, false)])?;
     let requests = format!(in alloc; "{asked}{unopened}{unopened}")?;
-    let mut clock = ListClock::new(alloc, &[1000, 1059, 1060])?;
-    let served = serve(alloc, &settings, &mut clock, requests.as_bytes())?;
+    let mut clock = ListClock::new(&[1000, 1059, 1060]);
     let first = pending(alloc, 1, "10")?;
     let before = one_task_is_all(alloc, 1)?;
     let after = one_task_is_all(alloc, 2)?;
     let expected = format!(in alloc; "{first}{before}{after}")?;
-    assert_eq!(rt; served.ended, Ended::Closed);
-    assert_eq!(rt; served.link.output(), expected.as_bytes());
+    expect_replies(
+        &rt,
+        alloc,
+        &settings,
+        &mut clock,
+        requests.as_bytes(),
+        expected.as_bytes(),
+    )?;
     Ok(())
 }
 
@@ -135,12 +154,17 @@ fn the_weight_of_deadlines(rt: HostRuntime) -> Result<(), Fail> {
     let asked = task(alloc, &[(60, true), (60, true)])?;
     let get = get(alloc, "10")?;
     let requests = format!(in alloc; "{asked}{get}")?;
-    let mut clock = ListClock::new(alloc, &[1000, 5000])?;
-    let served = serve(alloc, &settings, &mut clock, requests.as_bytes())?;
+    let mut clock = ListClock::new(&[1000, 5000]);
     let first = pending(alloc, 1, "10")?;
     let ended = view(alloc, 3, "10", 1, "EXPIRED", "1120")?;
     let expected = format!(in alloc; "{first}{ended}")?;
-    assert_eq!(rt; served.ended, Ended::Closed);
-    assert_eq!(rt; served.link.output(), expected.as_bytes());
+    expect_replies(
+        &rt,
+        alloc,
+        &settings,
+        &mut clock,
+        requests.as_bytes(),
+        expected.as_bytes(),
+    )?;
     Ok(())
 }

@@ -1,10 +1,10 @@
 //! A pool that has all the tasks, entries or weight that it may have.
 
-use crate::tests::pools::{limited, serve};
+use crate::tests::pools::{expect_replies, limited};
 use crate::tests::{LOG_FULL, NEW_TASK, new_task, one_task_is_all, pending};
 use std::alloc::{AllocError, Global};
 use std::test::Fail;
-use swarm_http::{Ended, StepClock};
+use swarm_http::StepClock;
 
 /// What a pool answers a request for a task.
 #[derive(Clone, Copy, Debug, PartialEq, Eq)]
@@ -50,10 +50,16 @@ fn limits_of_a_pool(rt: HostRuntime) -> Result<(), Fail> {
     ] {
         let settings = limited(alloc, most_tasks, most_entries, most_weight)?;
         let mut clock = StepClock { at: 1000, step: 0 };
-        let served = serve(alloc, &settings, &mut clock, input.as_slice())?;
-        assert_eq!(rt; served.ended, Ended::Closed);
         let expected = replies(alloc, &[one, two])?;
-        assert_eq!(rt; served.link.output(), expected.as_bytes());
+        let input = input.as_slice();
+        expect_replies(
+            &rt,
+            alloc,
+            &settings,
+            &mut clock,
+            input,
+            expected.as_bytes(),
+        )?;
     }
     Ok(())
 }
@@ -83,10 +89,16 @@ fn the_weight_of_a_second_slice(rt: HostRuntime) -> Result<(), Fail> {
     ] {
         let settings = limited(alloc, 2, 2, most_weight)?;
         let mut clock = StepClock { at: 1000, step: 0 };
-        let served = serve(alloc, &settings, &mut clock, input.as_slice())?;
-        assert_eq!(rt; served.ended, Ended::Closed);
         let expected = replies(alloc, &[one, two])?;
-        assert_eq!(rt; served.link.output(), expected.as_bytes());
+        let input = input.as_slice();
+        expect_replies(
+            &rt,
+            alloc,
+            &settings,
+            &mut clock,
+            input,
+            expected.as_bytes(),
+        )?;
     }
     Ok(())
 }

@@ -1,10 +1,10 @@
 //! A task that could take the outcome of an earlier run, in a pool that takes no more tasks.
 
-use crate::tests::pools::{limited, serve};
+use crate::tests::pools::{expect_replies, limited};
 use crate::tests::{one_task_is_all, reply, request};
 use std::alloc::{AllocError, Global};
 use std::test::Fail;
-use swarm_http::{Ended, StepClock};
+use swarm_http::StepClock;
 
 const NEW_TASK: &str = "/prpc/swarming.v2.Tasks/NewTask";
 
@@ -81,11 +81,17 @@ fn a_full_pool_takes_no_outcome(rt: HostRuntime) -> Result<(), Fail> {
     for most_tasks in [1, 2] {
         let settings = limited(alloc, most_tasks, 4_194_304, 134_217_728)?;
         let mut clock = StepClock { at: 1000, step: 0 };
-        let served = serve(alloc, &settings, &mut clock, requests.as_bytes())?;
-        assert_eq!(rt; served.ended, Ended::Closed);
         let mut expected = first_replies(alloc)?;
         expected.push_str(last_reply(alloc, most_tasks)?.as_str())?;
-        assert_eq!(rt; served.link.output(), expected.as_bytes());
+        let input = requests.as_bytes();
+        expect_replies(
+            &rt,
+            alloc,
+            &settings,
+            &mut clock,
+            input,
+            expected.as_bytes(),
+        )?;
     }
     Ok(())
 }

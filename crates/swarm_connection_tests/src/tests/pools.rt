@@ -5,6 +5,7 @@ ghost use Rattle.swarm_model.specs.Settings.{AreOpen, are_settings};
 
 use dimensions::{Seq, TryCopy};
 use std::alloc::{AllocError, Global};
+use std::process::Abort;
 use swarm_history::PlainDoor;
 use swarm_http::{Clock, Ended, MemoryLink, session};
 use swarm_model::{PoolSettings, Settings};
@@ -49,20 +50,16 @@ pub(crate) fn limited(
     })
 }
 
-/// How a session ended, and what it wrote.
-#[derive(Drop)]
-pub(crate) struct Served {
-    pub(crate) ended: Ended,
-    pub(crate) link: MemoryLink,
-}
-
-/// Serves a connection over a new pool of these settings.
-pub(crate) fn serve<C: Clock>(
+/// Serves a connection over a new pool of these settings, which has to end where the input ends and
+/// to be answered with these bytes.
+pub(crate) fn expect_replies<R: Abort, C: Clock>(
+    rt: &R,
     alloc: Global,
     settings: &Settings,
     clock: &mut C,
     input: &[u8],
-) -> Result<Served, AllocError>
+    replies: &[u8],
+) -> Result<(), AllocError>
     requires one { length settings.now.pools ≡ 1 }
     requires rules { IsTrue (are_settings settings.now) }
     requires open { AreOpen settings.now }
@@ -70,5 +67,7 @@ pub(crate) fn serve<C: Clock>(
     let mut door = PlainDoor::<ListPool>::new(alloc, settings)?;
     let mut link = MemoryLink::new(alloc, Vec::from_slice(alloc, input)?, 1000, Vec::new(alloc));
     let ended = session(alloc, settings, &mut door, clock, &mut link);
-    Ok(Served { ended, link })
+    assert_eq!(rt; ended, Ended::Closed);
+    assert_eq!(rt; link.output(), replies);
+    Ok(())
 }

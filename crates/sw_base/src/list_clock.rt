@@ -1,10 +1,10 @@
-ghost use Rattle.std.specs.Prelude.{None};
+ghost use Rattle.std.specs.Prelude.{Some};
+ghost use Rattle.sw_base.specs.Clock.{listed_from};
 
-use swarm_http::Clock;
+use crate::Clock;
 
-/// A clock that answers the moments of a list in turn, and 0 past the last of them. It tells none
-/// ahead.
-#[derive(Drop)]
+/// A clock that answers the moments of a list in turn, and 0 past the last of them.
+#[derive(Clone, Copy, Debug)]
 pub struct ListClock<'a> {
     moments: &'a [u64],
     asked: usize,
@@ -22,7 +22,7 @@ impl<'a> ListClock<'a> {
 }
 
 impl<'a> Clock for ListClock<'a> {
-    ghost ahead = { λ c k. None };
+    ghost ahead = { λ c k. Some (listed_from c.moments.now c.asked k) };
 
     fn now(&mut self) -> u64 {
         let moment = self.moments.get(self.asked).copied().unwrap_or(0);
