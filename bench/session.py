@@ -1,7 +1,7 @@
 #!/usr/bin/env python3
 """Figures of `swarm session`: requests per second, and the greatest memory.
 
-Usage: bench/session.py [PROGRAM]
+Usage: bench/session.py [--before OTHER] [PROGRAM]
 
 Each line is one run of the program over one connection of pipelined requests from a file: what is
 asked, how many requests, seconds, requests per second, microseconds a request, and the greatest
@@ -9,10 +9,15 @@ memory of the process in MiB, which is never less than the script's own, some 14
 counted; a run that answers otherwise is an error. The program is built by the first
 `./swarm session`.
 
+With --before OTHER, the program OTHER and PROGRAM serve a few of these connections in turn, five
+times each, and each line has the best of OTHER, the best of PROGRAM, and how many times as fast
+PROGRAM is.
+
 The lines on settling are about one CountTasks, on a connection that was held open until the slices
 of so many tasks had run out: the deadlines that it settles, the seconds from writing it to its
 reply, deadlines per second, microseconds a deadline, and the memory.
 """
+import argparse
 import json
 import os
 import subprocess
@@ -146,10 +151,38 @@ def show(name, count, seconds, memory):
     )
 
 
+def compare(before, program):
+    """Both programs in turn over each connection, five times: the best of each."""
+    count, new = request(b"CountTasks", COUNT), request(b"NewTask", NEW_TASK)
+    long = request(b"NewTask", long_task(64, MOST_BODY - 1, False))
+    for name, rows, asked, times in (
+        ("CountTasks over 1 task", 1, count, 65000),
+        ("NewTask among at most 1000", 0, new, 1000),
+        ("NewTask, 64 pairs, 65535 bytes", 0, long, 500),
+        ("GetResult of the first of 500", 500, request(b"GetResult", b'{"task_id":"10"}'), 65000),
+    ):
+        best = {before: None, program: None}
+        for _ in range(5):
+            for it in best:
+                seconds, _, good = run(it, [(new, rows), (asked, times)])
+                if good != rows + times:
+                    sys.exit("%s: %s answered %d of %d requests well" % (name, it, good, rows + times))
+                best[it] = min(best[it] or seconds, seconds)
+        old, now = best[before], best[program]
+        print("%-42s %8d %8.3f s %8.3f s %6.2f times" % (name, times, old, now, old / now), flush=True)
+
+
 def main():
-    program = sys.argv[1] if len(sys.argv) > 1 else os.path.join(HERE, "crates/swarm/out/swarm")
-    if not os.access(program, os.X_OK):
-        sys.exit("%s is not there: run ./swarm session first" % program)
+    parser = argparse.ArgumentParser(usage="bench/session.py [--before OTHER] [PROGRAM]")
+    parser.add_argument("--before", metavar="OTHER")
+    parser.add_argument("program", nargs="?", default=os.path.join(HERE, "crates/swarm/out/swarm"))
+    words = parser.parse_args()
+    program = words.program
+    for it in (program, words.before):
+        if it and not os.access(it, os.X_OK):
+            sys.exit("%s is not there: run ./swarm session first" % it)
+    if words.before:
+        return compare(words.before, program)
     for count in (1000, 8125, 16250, 32500, 65000):
         measure(program, "CountTasks over 1 task", 1, request(b"CountTasks", COUNT), count)
     for count in (1000, 8125, 16250, 32500, 65000):

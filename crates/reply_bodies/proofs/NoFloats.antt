@@ -1,7 +1,7 @@
 -- No float is shown.
 use Rattle.std.proofs.Common.{◌≡◌, ℕ, List, [], ◌∷◌, false, refl}
 use Rattle.std.specs.Prelude.{ℤ, pos, negsuc, map, Option, Some, None}
-use Rattle.serde_json.specs.Data.{Data, string}
+use Rattle.serde_json.specs.Data.{Data, string, object}
 use Rattle.serde_json.specs.View.{items_of}
 use Rattle.serde_json.specs.Written.{has_float, items_have_float, members_have_float}
 use Rattle.task_props.specs.declared.file.File.{File}
@@ -11,11 +11,13 @@ use Rattle.swarm_model.specs.declared.rule.Rule.{Rule}
 use Rattle.swarm_model.specs.declared.rule.Rule.TheVariants as rule
 use Rattle.swarm_model.specs.declared.reply.Reply.{Reply}
 use Rattle.swarm_model.specs.declared.reply.Reply.TheVariants as reply
-use Rattle.reply_bodies.specs.Views.{whole, signed, or_null, file_data, run_data, last_members, task_data}
-use Rattle.reply_bodies.specs.Commands.{pair_data, cache_data, last_properties, properties_data, run_command}
-use Rattle.reply_bodies.specs.Bodies.{refusal_data, reply_data}
+use Rattle.json_values.specs.Values.{whole, signed, or_null}
+use Rattle.reply_bodies.specs.Views.{file_data, run_data, last_members, task_members}
+use Rattle.reply_bodies.specs.Commands.{pair_data, cache_data, last_properties, properties_data, run_members}
+use Rattle.reply_bodies.specs.Refusals.{refusal_members}
+use Rattle.reply_bodies.specs.Bodies.{reply_members}
 
-refusal_is_plain : (place : ℕ) (why : Rule) → has_float (refusal_data place why) ≡ false
+refusal_is_plain : (place : ℕ) (why : Rule) → members_have_float (refusal_members place why) ≡ false
 refusal_is_plain place rule.BadHead = refl
 refusal_is_plain place rule.LengthRequired = refl
 refusal_is_plain place (rule.TooLarge limit) = refl
@@ -50,7 +52,6 @@ signed_is_plain (pos n) = refl
 signed_is_plain (negsuc n) = refl
 
 file_is_plain : (file : File) → has_float (file_data file) ≡ false
-unfolding file_data
 file_is_plain file = refl
 
 plain_items : {A : Type 0} (show : A → Data) → ((a : A) → has_float (show a) ≡ false) → (list : List A) → items_have_float (items_of (map show list)) ≡ false
@@ -65,8 +66,8 @@ unfolding last_members
 last_are_plain place task =
     rw (files_are_plain task.files, or_null_is_plain (run_data place) (λ _. refl) task.run_id, or_null_is_plain whole (λ _. refl) task.started_ts) refl
 
-task_is_plain : (place : ℕ) (task : TaskView) → has_float (task_data place task) ≡ false
-unfolding task_data
+task_is_plain : (place : ℕ) (task : TaskView) → members_have_float (task_members place task) ≡ false
+unfolding task_members
 task_is_plain place task =
     rw (
       or_null_is_plain string (λ _. refl) task.bot_id,
@@ -94,22 +95,25 @@ properties_are_plain properties =
       last_properties_are_plain properties,
     ) refl
 
-run_is_plain : (place : ℕ) (run : ℕ × ℕ) (slice tolerance : ℕ) (properties : Properties) → has_float (run_command place run slice tolerance properties) ≡ false
-unfolding run_command
+run_is_plain : (place : ℕ) (run : ℕ × ℕ) (slice tolerance : ℕ) (properties : Properties) → members_have_float (run_members place run slice tolerance properties) ≡ false
+unfolding run_members
 run_is_plain place run slice tolerance properties = rw (properties_are_plain properties) refl
 
-pub reply_is_plain : (place : ℕ) (r : Reply) → has_float (reply_data place r) ≡ false
-reply_is_plain place (reply.New task state) = refl
-reply_is_plain place (reply.Canceled canceled was_running) = refl
-reply_is_plain place (reply.Result task) = task_is_plain place task
-reply_is_plain place (reply.Count count) = refl
-reply_is_plain place (reply.Shaken bot) = refl
-reply_is_plain place (reply.Sleep secs) = refl
-reply_is_plain place reply.ClaimHint = refl
-reply_is_plain place reply.Terminate = refl
-reply_is_plain place (reply.Run task try_no slice tolerance properties) = run_is_plain place (task, try_no) slice tolerance properties
-reply_is_plain place reply.Skip = refl
-reply_is_plain place reply.Noted = refl
-reply_is_plain place (reply.Updated must_stop) = refl
-reply_is_plain place reply.Terminating = refl
-reply_is_plain place (reply.No why) = refusal_is_plain place why
+reply_are_plain : (place : ℕ) (r : Reply) → members_have_float (reply_members place r) ≡ false
+reply_are_plain place (reply.New task state) = refl
+reply_are_plain place (reply.Canceled canceled was_running) = refl
+reply_are_plain place (reply.Result task) = task_is_plain place task
+reply_are_plain place (reply.Count count) = refl
+reply_are_plain place (reply.Shaken bot) = refl
+reply_are_plain place (reply.Sleep secs) = refl
+reply_are_plain place reply.ClaimHint = refl
+reply_are_plain place reply.Terminate = refl
+reply_are_plain place (reply.Run task try_no slice tolerance properties) = run_is_plain place (task, try_no) slice tolerance properties
+reply_are_plain place reply.Skip = refl
+reply_are_plain place reply.Noted = refl
+reply_are_plain place (reply.Updated must_stop) = refl
+reply_are_plain place reply.Terminating = refl
+reply_are_plain place (reply.No why) = refusal_is_plain place why
+
+pub reply_is_plain : (place : ℕ) (r : Reply) → has_float (object (reply_members place r)) ≡ false
+reply_is_plain place r = reply_are_plain place r

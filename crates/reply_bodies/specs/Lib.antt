@@ -1,4 +1,5 @@
 pub mod Ids
 pub mod Views
 pub mod Commands
+pub mod Refusals
 pub mod Bodies

@@ -1,34 +1,20 @@
 -- What is shown of a task.
-use Rattle.std.specs.Prelude.{ℕ, ℤ, List, map, Option, Some, None, codes}
+use Rattle.std.specs.Prelude.{ℕ, List, Option, codes}
 use Rattle.hex.specs.Hex.{encode_lower}
-use Rattle.serde_json.specs.Data.{Data, null, number, unsigned, string, array, object, Members, member, no_members}
-use Rattle.serde_json.specs.Find.{of_integer}
-use Rattle.serde_json.specs.View.{items_of}
+use Rattle.serde_json.specs.Data.{Data, string, object, Members, member, no_members}
+use Rattle.json_values.specs.Values.{whole, signed, or_null, list_data}
 use Rattle.task_props.specs.declared.file.File.{File}
 use Rattle.swarm_model.specs.declared.task_view.TaskView.{TaskView}
 use Rattle.swarm_model.specs.States.{state_name}
 use Rattle.reply_bodies.specs.Ids.{task_id, run_id}
 
-abbrev pub whole : ℕ → Data
-whole n = number (unsigned n)
-
-abbrev pub signed : ℤ → Data
-signed z = number (of_integer z)
-
--- what isn't there is null
-abbrev pub or_null : {A : Type 0} → (A → Data) → Option A → Data
-or_null show None = null
-or_null show (Some x) = show x
-
-unfoldable pub file_data : File → Data
+-- a file, by its path, its digest and its size
+abbrev pub file_data : File → Data
 file_data file =
     object
     (member (codes "digest") (string (encode_lower file.digest))
     (member (codes "path") (string file.path)
     (member (codes "size") (whole file.size) no_members)))
-
-abbrev pub files_data : List File → Data
-files_data files = array (items_of (map file_data files))
 
 abbrev pub run_data : ℕ → ℕ × ℕ → Data
 run_data place run = string (run_id place run)
@@ -36,7 +22,7 @@ run_data place run = string (run_id place run)
 -- the members from `files` on
 unfoldable pub last_members : ℕ → TaskView → Members
 last_members place task =
-    member (codes "files") (files_data task.files)
+    member (codes "files") (list_data file_data task.files)
     (member (codes "name") (string task.name)
     (member (codes "output_length") (whole task.output_length)
     (member (codes "priority") (whole task.priority)
@@ -47,10 +33,9 @@ last_members place task =
     (member (codes "user") (string task.user) no_members))))))))
 
 -- a task of the pool at a place
-unfoldable pub task_data : ℕ → TaskView → Data
-task_data place task =
-    object
-    (member (codes "bot_id") (or_null string task.bot_id)
+unfoldable pub task_members : ℕ → TaskView → Members
+task_members place task =
+    member (codes "bot_id") (or_null string task.bot_id)
     (member (codes "completed_ts") (or_null whole task.completed_ts)
     (member (codes "created_ts") (whole task.created_ts)
     (member (codes "current_task_slice") (whole task.current_task_slice)
@@ -58,4 +43,4 @@ task_data place task =
     (member (codes "dropped") (or_null whole task.dropped)
     (member (codes "duration_ms") (or_null whole task.duration_ms)
     (member (codes "exit_code") (or_null signed task.exit_code)
-    (last_members place task)))))))))
+    (last_members place task))))))))

@@ -82,7 +82,7 @@ abbrev pub kill_marked : TaskRow → TaskRow
 kill_marked task = record task { attempt = option_map killed task.attempt }
 
 -- a bot begins the task
-abbrev pub begun : ℕ → ℕ → List ℕ → TaskRow → TaskRow
+abbrev pub started_run : ℕ → ℕ → List ℕ → TaskRow → TaskRow
 started_run moment bot claim task =
     record task {
       state = Running;

@@ -1,0 +1,71 @@
+//! The items of lists.
+ghost use Rattle.std.specs.Prelude.{◌≡◌, IfOk};
+ghost use Rattle.serde_json.specs.Data.{string};
+ghost use Rattle.reply_bodies.specs.Commands.{pair_data, cache_data};
+ghost use Rattle.reply_bodies.specs.Views.{file_data};
+
+use dimensions::Text;
+use json_values::{ShowItem, with_text, with_whole};
+use serde_json::{Map, Value};
+use std::alloc::{AllocError, Global};
+use task_props::{Cache, File};
+
+/// Texts.
+pub(crate) struct Texts;
+
+/// Keys with their values.
+pub(crate) struct Pairs;
+
+/// Caches, each by its name and its path.
+pub(crate) struct Caches;
+
+/// Files, each by its path, its digest and its size.
+pub(crate) struct Files;
+
+impl ShowItem for Texts {
+    type Item = Text;
+
+    ghost value_of = { λ _. string };
+
+    fn show(&self, alloc: Global, text: &Text) -> Result<Value, AllocError> {
+        Value::try_from_str(alloc, text.as_str())
+    }
+}
+
+impl ShowItem for Pairs {
+    type Item = (Text, Text);
+
+    ghost value_of = { λ _. pair_data };
+
+    fn show(&self, alloc: Global, pair: &(Text, Text)) -> Result<Value, AllocError> {
+        let members = with_text(alloc, Map::new(alloc), "value", pair.1.as_str())?;
+        let members = with_text(alloc, members, "key", pair.0.as_str())?;
+        Ok(Value::Object(members))
+    }
+}
+
+impl ShowItem for Caches {
+    type Item = Cache;
+
+    ghost value_of = { λ _. cache_data };
+
+    fn show(&self, alloc: Global, cache: &Cache) -> Result<Value, AllocError> {
+        let members = with_text(alloc, Map::new(alloc), "path", cache.path.as_str())?;
+        let members = with_text(alloc, members, "name", cache.name.as_str())?;
+        Ok(Value::Object(members))
+    }
+}
+
+impl ShowItem for Files {
+    type Item = File;
+
+    ghost value_of = { λ _. file_data };
+
+    fn show(&self, alloc: Global, file: &File) -> Result<Value, AllocError> {
+        let digest = hex::encode(alloc, file.digest.as_slice())?;
+        let members = with_whole(alloc, Map::new(alloc), "size", u64::from(file.size))?;
+        let members = with_text(alloc, members, "path", file.path.as_str())?;
+        let members = with_text(alloc, members, "digest", digest.as_str())?;
+        Ok(Value::Object(members))
+    }
+}

@@ -1,0 +1,186 @@
+//! Refusals: the status and the code of each, and what else it tells.
+ghost use Rattle.std.specs.Prelude.{◌≡◌, ◌<◌, IfOk, codes};
+ghost use Rattle.http.specs.StatusCode.{IsStatusCode};
+ghost use Rattle.serde_json.specs.Data.{string};
+ghost use Rattle.serde_json.specs.View.{members_view};
+ghost use Rattle.json_values.specs.Values.{whole};
+ghost use Rattle.swarm_model.specs.declared.rule.Rule.TheVariants.{ClaimOver};
+ghost use Rattle.reply_bodies.specs.Refusals.{status_and_code as spec_status_and_code, unbuilt_name as spec_unbuilt_name, unfit_name as spec_unfit_name, permission_name as spec_permission_name, one, two, told_members as spec_told_members, refusal_members as spec_refusal_members};
+
+use crate::views::{with_run_id, with_task_id};
+use json_values::{with_text, with_whole};
+use serde_json::{Map, Value};
+use std::alloc::{AllocError, Global};
+use swarm_model::{Permission, Rule, TaskState, Unbuilt, Unfit};
+
+/// The status of a refusal, and its code.
+pub(crate) fn status_and_code(why: &Rule) -> (u16, &'static str)
+    ensures status { result.0 ≡ (spec_status_and_code why.now).0 }
+    ensures code { result.1.now ≡ (spec_status_and_code why.now).1 }
+    ensures is_status { IsStatusCode result.0 }
+{
+    match why {
+        Rule::BadHead => (400, "bad_head"),
+        Rule::LengthRequired => (411, "length_required"),
+        Rule::TooLarge { .. } => (413, "too_large"),
+        Rule::NoRoute => (404, "no_route"),
+        Rule::BadMethod => (405, "bad_method"),
+        Rule::BadJson => (400, "bad_json"),
+        Rule::BadField { .. } => (400, "bad_field"),
+        Rule::NoCaller => (401, "no_caller"),
+        Rule::Denied { .. } => (403, "denied"),
+        Rule::NoPool => (404, "no_pool"),
+        Rule::NoTask => (404, "no_task"),
+        Rule::NoBot => (404, "no_bot"),
+        Rule::UuidReused { .. } => (409, "uuid_reused"),
+        Rule::BotUnfit { .. } => (409, "bot_unfit"),
+        Rule::BotBusy { .. } => (409, "bot_busy"),
+        Rule::ClaimOver { .. } => (409, "claim_over"),
+        Rule::NotClaimant { .. } => (403, "not_claimant"),
+        Rule::AttemptOver { .. } => (409, "attempt_over"),
+        Rule::PoolTasksFull { .. } => (503, "pool_tasks_full"),
+        Rule::PoolBotsFull { .. } => (503, "pool_bots_full"),
+        Rule::LogFull => (503, "log_full"),
+        Rule::FrontAhead { .. } => (409, "front_ahead"),
+        Rule::WantOfMemory => (503, "want_of_memory"),
+        Rule::NotBuilt { .. } => (501, "not_built"),
+    }
+}
+
+fn unbuilt_name(what: Unbuilt) -> &'static str
+    ensures { result.now ≡ spec_unbuilt_name what }
+{
+    match what {
+        Unbuilt::Task => "task",
+        Unbuilt::Update => "update",
+    }
+}
+
+fn unfit_name(why: Unfit) -> &'static str
+    ensures { result.now ≡ spec_unfit_name why }
+{
+    match why {
+        Unfit::Dead => "dead",
+        Unfit::Quarantined => "quarantined",
+        Unfit::Terminating => "terminating",
+    }
+}
+
+fn permission_name(permission: Permission) -> &'static str
+    ensures { result.now ≡ spec_permission_name permission }
+{
+    match permission {
+        Permission::CreateTask => "swarming.pools.createTask",
+        Permission::CancelTask => "swarming.pools.cancelTask",
+        Permission::ListTasks => "swarming.pools.listTasks",
+        Permission::ListBots => "swarming.pools.listBots",
+        Permission::TerminateBot => "swarming.pools.terminateBot",
+        Permission::RunBot => "profile.pools.runBot",
+        Permission::UseBlobs => "profile.pools.useBlobs",
+    }
+}
+
+/// One member, a text.
+pub(crate) fn one_text(
+    alloc: Global,
+    key: &str,
+    text: &str,
+) -> Result<Map<String, Value>, AllocError>
+    ensures { IfOk result (λ members. members_view members.entries ≡ one key.now (string text.now)) }
+{
+    with_text(alloc, Map::new(alloc), key, text)
+}
+
+/// One member, a whole number.
+pub(crate) fn one_whole(
+    alloc: Global,
+    key: &str,
+    number: u64,
+) -> Result<Map<String, Value>, AllocError>
+    ensures { IfOk result (λ members. members_view members.entries ≡ one key.now (whole number)) }
+{
+    with_whole(alloc, Map::new(alloc), key, number)
+}
+
+fn field_members(alloc: Global, field: &str, rule: &str) -> Result<Map<String, Value>, AllocError>
+    ensures { IfOk result (λ members. members_view members.entries ≡ two (codes "field") (string field.now) (codes "rule") (string rule.now)) }
+{
+    let members = one_text(alloc, "rule", rule)?;
+    with_text(alloc, members, "field", field)
+}
+
+fn denied_members(
+    alloc: Global,
+    permission: Permission,
+    pool: &str,
+) -> Result<Map<String, Value>, AllocError>
+    ensures { IfOk result (λ members. members_view members.entries ≡ two (codes "permission") (string (spec_permission_name permission)) (codes "pool") (string pool.now)) }
+{
+    let members = one_text(alloc, "pool", pool)?;
+    with_text(alloc, members, "permission", permission_name(permission))
+}
+
+fn over_members(
+    alloc: Global,
+    place: u32,
+    run: (u32, u32),
+    state: TaskState,
+) -> Result<Map<String, Value>, AllocError>
+    requires { place < 4 }
+    ensures { IfOk result (λ members. members_view members.entries ≡ spec_told_members place (ClaimOver run.0 run.1 state)) }
+{
+    let members = one_text(alloc, "state", state.name())?;
+    with_run_id(alloc, members, "run", place, run)
+}
+
+// What a refusal of the pool at a place tells beside its code.
+fn told_members(alloc: Global, place: u32, why: &Rule) -> Result<Map<String, Value>, AllocError>
+    requires { place < 4 }
+    ensures { IfOk result (λ members. members_view members.entries ≡ spec_told_members place why.now) }
+{
+    match why {
+        Rule::TooLarge { limit } | Rule::PoolTasksFull { limit } | Rule::PoolBotsFull { limit } =>
+            one_whole(alloc, "limit", u64::from(*limit)),
+        Rule::BadField { field, rule } => field_members(alloc, field.as_str(), rule.name()),
+        Rule::Denied { permission, pool } => denied_members(alloc, *permission, pool.as_str()),
+        Rule::UuidReused { task } => with_task_id(alloc, Map::new(alloc), "task", place, *task),
+        Rule::BotUnfit { why } => one_text(alloc, "why", unfit_name(*why)),
+        Rule::BotBusy { task, try_no } => {
+            with_run_id(alloc, Map::new(alloc), "run", place, (*task, *try_no))
+        }
+        Rule::ClaimOver {
+            task,
+            try_no,
+            state,
+        } => over_members(alloc, place, (*task, *try_no), *state),
+        Rule::NotClaimant { bot } => one_text(alloc, "bot", bot.as_str()),
+        Rule::AttemptOver { state } => one_text(alloc, "state", state.name()),
+        Rule::FrontAhead { length } => one_whole(alloc, "length", *length),
+        Rule::NotBuilt { what } => one_text(alloc, "what", unbuilt_name(*what)),
+        Rule::BadHead
+        | Rule::LengthRequired
+        | Rule::NoRoute
+        | Rule::BadMethod
+        | Rule::BadJson
+        | Rule::NoCaller
+        | Rule::NoPool
+        | Rule::NoTask
+        | Rule::NoBot
+        | Rule::LogFull
+        | Rule::WantOfMemory => Ok(Map::new(alloc)),
+    }
+}
+
+/// The members of a refusal of the pool at a place.
+pub(crate) fn refusal_members(
+    alloc: Global,
+    place: u32,
+    why: &Rule,
+) -> Result<Map<String, Value>, AllocError>
+    requires { place < 4 }
+    ensures { IfOk result (λ members. members_view members.entries ≡ spec_refusal_members place why.now) }
+{
+    let (_, code) = status_and_code(why);
+    let members = told_members(alloc, place, why)?;
+    with_text(alloc, members, "code", code)
+}
