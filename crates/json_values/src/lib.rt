@@ -8,7 +8,7 @@
 mod list;
 mod members;
 
-pub use list::{ShowItem, list_value};
+pub use list::{ShowItem, list_value, with_list};
 pub use members::{
     with, with_flag, with_signed_or_null, with_text, with_text_or_null, with_whole,
     with_whole_or_null,

@@ -1,9 +1,11 @@
 //! Lists of items.
 ghost use Rattle.std.specs.Prelude.{◌≡◌, IfOk, map};
-ghost use Rattle.serde_json.specs.View.{view};
+ghost use Rattle.serde_json.specs.Data.{put};
+ghost use Rattle.serde_json.specs.View.{view, members_view};
 ghost use Rattle.json_values.specs.Values.{list_data};
 
-use serde_json::Value;
+use crate::with;
+use serde_json::{Map, Value};
 use std::alloc::{AllocError, Global};
 
 /// How an item of a list is shown.
@@ -44,4 +46,17 @@ pub fn list_value<S: ShowItem>(
     ensures { IfOk result (λ value. view value ≡ list_data (S.value_of shown.now) items.now) }
 {
     Ok(Value::Array(list_values(alloc, shown, items)?))
+}
+
+/// One more member of an object, the list of the items.
+pub fn with_list<S: ShowItem>(
+    alloc: Global,
+    members: Map<String, Value>,
+    key: &str,
+    shown: &S,
+    items: &[S::Item],
+) -> Result<Map<String, Value>, AllocError>
+    ensures { IfOk result (λ more. members_view more.entries ≡ put key.now (list_data (S.value_of shown.now) items.now) (members_view members.entries)) }
+{
+    with(alloc, members, key, list_value(alloc, shown, items)?)
 }

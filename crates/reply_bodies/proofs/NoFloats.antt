@@ -13,7 +13,7 @@ use Rattle.swarm_model.specs.declared.reply.Reply.{Reply}
 use Rattle.swarm_model.specs.declared.reply.Reply.TheVariants as reply
 use Rattle.json_values.specs.Values.{whole, signed, or_null}
 use Rattle.reply_bodies.specs.Views.{file_data, run_data, last_members, task_members}
-use Rattle.reply_bodies.specs.Commands.{pair_data, cache_data, last_properties, properties_data, run_members}
+use Rattle.reply_bodies.specs.Commands.{pair_data, cache_data, last_properties, properties_members, run_members}
 use Rattle.reply_bodies.specs.Refusals.{refusal_members}
 use Rattle.reply_bodies.specs.Bodies.{reply_members}
 
@@ -84,8 +84,8 @@ unfolding last_properties
 last_properties_are_plain properties =
     rw (files_are_plain properties.inputs, plain_items string (λ _. refl) properties.outputs) refl
 
-properties_are_plain : (properties : Properties) → has_float (properties_data properties) ≡ false
-unfolding properties_data
+properties_are_plain : (properties : Properties) → members_have_float (properties_members properties) ≡ false
+unfolding properties_members
 properties_are_plain properties =
     rw (
       plain_items cache_data (λ _. refl) properties.caches,

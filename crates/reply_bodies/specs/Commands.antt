@@ -24,21 +24,20 @@ last_properties properties =
     (member (codes "outputs") (list_data string properties.outputs) no_members))))
 
 -- all fields of a slice's properties, by the names that a request gives them
-unfoldable pub properties_data : Properties → Data
-properties_data properties =
-    object
-    (member (codes "caches") (list_data cache_data properties.caches)
+unfoldable pub properties_members : Properties → Members
+properties_members properties =
+    member (codes "caches") (list_data cache_data properties.caches)
     (member (codes "command") (list_data string properties.command)
     (member (codes "dimensions") (list_data pair_data properties.dimensions)
     (member (codes "env") (list_data pair_data properties.env)
     (member (codes "execution_timeout_secs") (whole properties.execution_timeout_secs)
-    (last_properties properties))))))
+    (last_properties properties)))))
 
 -- run a slice of a task of the pool at a place, and be heard at least every `tolerance` seconds
 unfoldable pub run_members : ℕ → ℕ × ℕ → ℕ → ℕ → Properties → Members
 run_members place run slice tolerance properties =
     member (codes "bot_ping_tolerance_secs") (whole tolerance)
     (member (codes "cmd") (string (codes "run"))
-    (member (codes "properties") (properties_data properties)
+    (member (codes "properties") (object (properties_members properties))
     (member (codes "run_id") (string (run_id place run))
     (member (codes "slice") (whole slice) no_members))))

@@ -1,8 +1,8 @@
 //! The status and the body of a reply.
 ghost use Rattle.std.specs.Prelude.{◌≡◌, ◌<◌, IfOk, codes};
 ghost use Rattle.http.specs.StatusCode.{IsStatusCode};
-ghost use Rattle.serde_json.specs.Data.{boolean, string};
-ghost use Rattle.serde_json.specs.View.{members_view};
+ghost use Rattle.serde_json.specs.Data.{boolean, string, object};
+ghost use Rattle.serde_json.specs.View.{view, members_view};
 ghost use Rattle.json_values.specs.Values.{whole};
 ghost use Rattle.swarm_model.specs.States.{state_name};
 ghost use Rattle.reply_bodies.specs.Ids.{task_id as spec_task_id};
@@ -100,6 +100,13 @@ fn reply_members(alloc: Global, place: u32, reply: &Reply) -> Result<Map<String,
     }
 }
 
+fn reply_value(alloc: Global, place: u32, reply: &Reply) -> Result<Value, AllocError>
+    requires { place < 4 }
+    ensures { IfOk result (λ value. view value ≡ object (spec_reply_members place reply.now)) }
+{
+    Ok(Value::Object(reply_members(alloc, place, reply)?))
+}
+
 /// The body of a reply from the pool at a place. `pieces` are the bytes of the blobs that the
 /// reply names.
 #[tactic(auto, using(crate::proofs::NoFloats::reply_is_plain), unfolding(crate::specs::Bodies::body_of))]
@@ -112,7 +119,6 @@ pub fn show_reply(
     requires { place < 4 }
     ensures { IfOk result (λ bytes. bytes ≡ body_of place reply.now pieces.now) }
 {
-    let value = Value::Object(reply_members(alloc, place, reply)?);
-    let bytes = value.to_vec(alloc)?;
+    let bytes = reply_value(alloc, place, reply)?.to_vec(alloc)?;
     Ok(Seq::from_vec(bytes))
 }

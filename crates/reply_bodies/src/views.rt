@@ -11,7 +11,7 @@ use crate::ids::{run_id, task_id};
 use crate::items::Files;
 use dimensions::Text;
 use json_values::{
-    list_value, with, with_signed_or_null, with_text, with_text_or_null, with_whole,
+    with, with_list, with_signed_or_null, with_text, with_text_or_null, with_whole,
     with_whole_or_null,
 };
 use serde_json::{Map, Value};
@@ -72,7 +72,7 @@ pub(crate) fn with_run_id(
 }
 
 fn text_of(text: &Option<Text>) -> Option<&str>
-    ensures { option_map (λ t. t.now) result.exit ≡ text.now }
+    ensures { option_map (λ t. t.now) result ≡ text.now }
 {
     match text {
         Some(text) => Some(text.as_str()),
@@ -97,10 +97,14 @@ fn last_members(
     let members = with_whole_or_null(alloc, members, "started_ts", task.started_ts)?;
     let members = with_run_or_null(alloc, members, "run_id", place, task.run_id)?;
     let members = with_whole(alloc, members, "priority", u64::from(task.priority))?;
-    let members = with_whole(alloc, members, "output_length", u64::from(task.output_length))?;
+    let members = with_whole(
+        alloc,
+        members,
+        "output_length",
+        u64::from(task.output_length),
+    )?;
     let members = with_text(alloc, members, "name", task.name.as_str())?;
-    let files = list_value(alloc, &Files, task.files.as_slice())?;
-    with(alloc, members, "files", files)
+    with_list(alloc, members, "files", &Files, task.files.as_slice())
 }
 
 /// A task of the pool at a place.

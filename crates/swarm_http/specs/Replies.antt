@@ -4,52 +4,7 @@ use Rattle.http.specs.StatusCode.{reason_phrase}
 use Rattle.swarm_model.specs.declared.reply.Reply.{Reply}
 use Rattle.swarm_model.specs.declared.reply.Reply.TheVariants as reply
 use Rattle.swarm_model.specs.declared.rule.Rule.{Rule}
-use Rattle.swarm_model.specs.declared.rule.Rule.TheVariants as rule
-use Rattle.reply_bodies.specs.Bodies.{body_of}
-
--- the status of a refusal
-abbrev pub refusal_status : Rule → ℕ
-refusal_status rule.BadHead = 400
-refusal_status rule.LengthRequired = 411
-refusal_status (rule.TooLarge limit) = 413
-refusal_status rule.NoRoute = 404
-refusal_status rule.BadMethod = 405
-refusal_status rule.BadJson = 400
-refusal_status (rule.BadField field broken) = 400
-refusal_status rule.NoCaller = 401
-refusal_status (rule.Denied permission pool) = 403
-refusal_status rule.NoPool = 404
-refusal_status rule.NoTask = 404
-refusal_status rule.NoBot = 404
-refusal_status (rule.UuidReused task) = 409
-refusal_status (rule.BotUnfit why) = 409
-refusal_status (rule.BotBusy task try_no) = 409
-refusal_status (rule.ClaimOver task try_no state) = 409
-refusal_status (rule.NotClaimant bot) = 403
-refusal_status (rule.AttemptOver state) = 409
-refusal_status (rule.PoolTasksFull limit) = 503
-refusal_status (rule.PoolBotsFull limit) = 503
-refusal_status rule.LogFull = 503
-refusal_status (rule.FrontAhead length) = 409
-refusal_status rule.WantOfMemory = 503
-refusal_status (rule.NotBuilt what) = 501
-
--- the status of a reply
-abbrev pub status_of : Reply → ℕ
-status_of (reply.New task state) = 200
-status_of (reply.Canceled canceled was_running) = 200
-status_of (reply.Result view) = 200
-status_of (reply.Count count) = 200
-status_of (reply.Shaken bot) = 200
-status_of (reply.Sleep secs) = 200
-status_of reply.ClaimHint = 200
-status_of reply.Terminate = 200
-status_of (reply.Run task try_no slice tolerance properties) = 200
-status_of reply.Skip = 200
-status_of reply.Noted = 200
-status_of (reply.Updated must_stop) = 200
-status_of reply.Terminating = 200
-status_of (reply.No why) = refusal_status why
+use Rattle.reply_bodies.specs.Bodies.{body_of, status_of}
 
 -- the phrase that stands beside a status
 abbrev pub phrase_of : ℕ → List ℕ

@@ -1,14 +1,14 @@
 //! The bytes of a reply.
 ghost use Rattle.std.specs.Prelude.{◌≡◌, ◌<◌, ◌++◌, None, Some, IfOk, OnOk, string_bytes};
 ghost use Rattle.http.specs.StatusCode.{IsStatusCode};
-ghost use Rattle.swarm_http.specs.Replies.{refusal_status as spec_refusal_status, status_of as spec_status_of, phrase_of as spec_phrase_of, head_with, reply_text, shown, refusal};
+ghost use Rattle.swarm_http.specs.Replies.{phrase_of as spec_phrase_of, head_with, reply_text, shown, refusal};
 ghost use Rattle.swarm_http.specs.Sends.{text_of};
 
 use dimensions::{Seq, Text};
 use http::StatusCode;
+use reply_bodies::{show_reply, status_of};
 use std::alloc::{AllocError, Global};
 use swarm_model::{Reply, Rule};
-use swarm_wire::show_reply;
 use task_props::PropRule;
 
 /// A refusal whose reply takes no memory.
@@ -42,71 +42,6 @@ pub enum ReplyBytes {
     Whole(Vec<u8>),
     /// Its call answered with this front, and there was no memory for the reply.
     WantOfMemoryAt(u64),
-}
-
-fn refusal_status(why: &Rule) -> u16
-    ensures status { result ≡ spec_refusal_status why.now }
-    ensures code { IsStatusCode result }
-{
-    match why {
-        Rule::BadHead | Rule::BadJson | Rule::BadField { field: _, rule: _ } => 400,
-        Rule::NoCaller => 401,
-        Rule::Denied {
-            permission: _,
-            pool: _,
-        }
-        | Rule::NotClaimant { bot: _ } => 403,
-        Rule::NoRoute | Rule::NoPool | Rule::NoTask | Rule::NoBot => 404,
-        Rule::BadMethod => 405,
-        Rule::FrontAhead { length: _ }
-        | Rule::UuidReused { task: _ }
-        | Rule::BotUnfit { why: _ }
-        | Rule::BotBusy { task: _, try_no: _ }
-        | Rule::ClaimOver {
-            task: _,
-            try_no: _,
-            state: _,
-        }
-        | Rule::AttemptOver { state: _ } => 409,
-        Rule::LengthRequired => 411,
-        Rule::TooLarge { limit: _ } => 413,
-        Rule::NotBuilt { what: _ } => 501,
-        Rule::PoolTasksFull { limit: _ }
-        | Rule::PoolBotsFull { limit: _ }
-        | Rule::LogFull
-        | Rule::WantOfMemory => 503,
-    }
-}
-
-fn status_of(reply: &Reply) -> u16
-    ensures status { result ≡ spec_status_of reply.now }
-    ensures code { IsStatusCode result }
-{
-    match reply {
-        Reply::New { task: _, state: _ }
-        | Reply::Canceled {
-            canceled: _,
-            was_running: _,
-        }
-        | Reply::Result(_)
-        | Reply::Count { count: _ }
-        | Reply::Shaken { bot: _ }
-        | Reply::Sleep { secs: _ }
-        | Reply::ClaimHint
-        | Reply::Terminate
-        | Reply::Run {
-            task: _,
-            try_no: _,
-            slice: _,
-            tolerance: _,
-            properties: _,
-        }
-        | Reply::Skip
-        | Reply::Noted
-        | Reply::Updated { must_stop: _ }
-        | Reply::Terminating => 200,
-        Reply::No(why) => refusal_status(why),
-    }
 }
 
 fn phrase_of(status: u16) -> &'static str

@@ -1,21 +1,15 @@
 -- The canonical text of properties: compact JSON, the keys in order of bytes, and its hash.
-use Rattle.std.specs.Prelude.{◌≡◌, ℕ, ◌<◌, ◌^◌, List, [], ◌∷◌, map, codes}
+use Rattle.std.specs.Prelude.{◌≡◌, ℕ, ◌<◌, ◌^◌, List, [], ◌∷◌, codes}
 use Rattle.std.specs.List.{All}
 use Rattle.hex.specs.Hex.{encode_lower}
-use Rattle.serde_json.specs.Data.{Data, number, unsigned, boolean, string, array, object, Members, member, no_members}
+use Rattle.serde_json.specs.Data.{Data, boolean, string, array, object, Members, member, no_members}
 use Rattle.serde_json.specs.View.{items_of}
 use Rattle.serde_json.specs.Written.{compact_text}
+use Rattle.json_values.specs.Values.{whole, list_data}
 use Rattle.sha2.specs.Sha256.{sha256}
 use Rattle.task_props.specs.declared.cache.Cache.{Cache}
 use Rattle.task_props.specs.declared.file.File.{File}
 use Rattle.task_props.specs.declared.properties.Properties.{Properties}
-
-abbrev pub whole : ℕ → Data
-whole n = number (unsigned n)
-
--- a list of values
-abbrev pub list_data : {A : Type 0} → (A → Data) → List A → Data
-list_data show list = array (items_of (map show list))
 
 -- [key, value]
 abbrev pub pair_data : List ℕ × List ℕ → Data
@@ -38,15 +32,17 @@ last_members p =
     (member (codes "io_timeout_secs") (whole p.io_timeout_secs)
     (member (codes "outputs") (list_data string p.outputs) no_members))))
 
-unfoldable pub canonical_data : Properties → Data
-canonical_data p =
-    object
-    (member (codes "caches") (list_data cache_data p.caches)
+abbrev pub canonical_members : Properties → Members
+canonical_members p =
+    member (codes "caches") (list_data cache_data p.caches)
     (member (codes "command") (list_data string p.command)
     (member (codes "dimensions") (list_data pair_data p.dimensions)
     (member (codes "env") (list_data pair_data p.env)
     (member (codes "execution_timeout_secs") (whole p.execution_timeout_secs)
-    (last_members p))))))
+    (last_members p)))))
+
+unfoldable pub canonical_data : Properties → Data
+canonical_data p = object (canonical_members p)
 
 unfoldable pub canonical : Properties → List ℕ
 canonical p = compact_text (canonical_data p)
