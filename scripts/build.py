@@ -13,8 +13,9 @@ was built stays in crates/swarm/out/rlib, which rt leaves alone, with a sum of a
 from; a library is taken from there as long as that sum is the same. A log for each crate is in
 crates/swarm/out/logs.
 
-The crate with the most work above it comes first and may take four processors; the others run beside
-it with two each, at a lower priority.
+The processors are shared out among the crates that are ready: one that is ready alone gets them all,
+and of more each gets its share, that with the longest chain above it first and at a higher priority.
+A crate is proved with less work in all by one process than by several, so no more run than needed.
 """
 import fcntl
 import hashlib
@@ -34,9 +35,8 @@ BUILT = f"{OUT}/{PROGRAM}"
 LIBRARIES = f"{OUT}/rlib"
 LOGS = f"{OUT}/logs"
 PARTS = ("src", "specs", "proofs")
+# Processes for each crate, at most.
 MOST_JOBS = 4
-# Those of a crate beside the first.
-BESIDE_JOBS = 2
 # Seconds between two lines on how far it is, where nothing ends.
 SILENCE = 30
 
@@ -279,16 +279,15 @@ class Builder:
 
     def begin(self):
         waiting = self.ready()
-        while waiting and len(self.running) < self.processors:
+        while waiting:
             crate = waiting.pop(0)
             is_first = all(crate.chain >= it.chain for it in [*self.left, *self.running])
+            jobs = self.share(is_first, len(waiting) + len(self.running))
             room = self.memory - sum(memory_of(it, it.jobs) for it in self.running)
-            jobs = min(MOST_JOBS, self.processors)
-            if not is_first:
-                jobs = min(jobs, BESIDE_JOBS)
             while jobs > 1 and (crate.was_killed or memory_of(crate, jobs) > room):
                 jobs -= 1
-            if self.running and (memory_of(crate, jobs) > room or crate.was_killed or self.running[0].was_killed):
+            held = sum(it.jobs for it in self.running)
+            if self.running and (held + jobs > self.processors + 1 or memory_of(crate, jobs) > room or crate.was_killed or self.running[0].was_killed):
                 break
             self.left.remove(crate)
             self.running.append(crate)
@@ -297,6 +296,13 @@ class Builder:
                     os.remove(it)
             crate.jobs, crate.began = jobs, time.monotonic()
             crate.process = self.spawn(self.kit.build(crate, jobs), crate, is_first)
+
+    def share(self, is_first, others):
+        """How many processes a crate gets beside so many others that run or wait."""
+        found = self.processors // (others + 1)
+        if is_first and others > 1:
+            found += 1
+        return max(1, min(MOST_JOBS, found))
 
     def finish(self, crate):
         status = crate.status
