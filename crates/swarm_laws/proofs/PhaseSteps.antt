@@ -24,7 +24,7 @@ use Rattle.swarm_laws.proofs.Preconditions.{Finds, IsOld, IsNewcomer, waits, run
 use Rattle.swarm_laws.proofs.Rows.{task_is, agree, find_bot, row_is, goes_to, claim_waits, update_runs, ended_task, lost_by, HasRun, run_is}
 use Rattle.swarm_laws.proofs.Tasks.{last_final, reported_final}
 use Rattle.swarm_laws.proofs.Tracks.{final_same}
-use Rattle.swarm_laws.proofs.Phases.{Phase, Waiting, RunBy, Over, phase, next_phase, ended_run, turn_true, turn_false, or_true, over_final, phase_over, wait_state, run_waits, run_runner, run_stays, run_killed, run_ended}
+use Rattle.swarm_laws.proofs.Phases.{Phase, Waiting, RunBy, Over, phase, next_phase, phase_after_end, turn_true, turn_false, or_true, over_final, phase_over, wait_state, run_waits, run_runner, run_stays, run_killed, run_ended}
 
 -- a task that waits
 
@@ -72,9 +72,9 @@ RunNext t k b q y = phase y ≡ next_phase t k (RunBy b q)
 
 -- a report that ends it, or another run
 run_finished : (m t : ℕ) (last : Option Last) (end : Last) (b : ℕ) (q : Bool) (x : TaskRow) → last ≡ Some end → phase x ≡ RunBy b q →
-    phase (task_at t (ended_run m None end) x) ≡ ended_run q (option_and_then (λ (l : Last). when (t == x.no) (reported l)) last) (RunBy b (q || false))
+    phase (task_at t (ended_run m None end) x) ≡ phase_after_end q (option_and_then (λ (l : Last). when (t == x.no) (reported l)) last) (RunBy b (q || false))
 run_finished m t last end b q x is p =
-    rw is (cond_both (x.no == t) (ended_run m None end x) x (λ (y : TaskRow). phase y ≡ ended_run q (when (t == x.no) (reported end)) (RunBy b (q || false)))
+    rw is (cond_both (x.no == t) (ended_run m None end x) x (λ (y : TaskRow). phase y ≡ phase_after_end q (when (t == x.no) (reported end)) (RunBy b (q || false)))
     (λ n. rw (turn_true x.no t n) (run_ended x b q (reported end) (ended_run m None end x).attempt (reported_final end) p))
     (λ n. rw (turn_false x.no t n) (run_stays x b q p)))
 
@@ -113,7 +113,7 @@ module _ (s : PoolState) (m : ℕ) (o : IsSound s) (x : TaskRow) (a : Among x s.
       absurd (d (sym f.named ∙ same_Some _ _ (sym its ∙ run_runner x b q p))))) (λ n. p)
 
   shaken : (c : ℕ) (id session : List ℕ) (dims : BotDims) (u : List ℕ) → Finds s (kind.Handshake c id session dims u) → (r : Bool) → (c == b) ≡ r →
-      phase (if_some (lost_run_at m) (run_of_bot s c) x) ≡ ended_run q (when r BotDied) (RunBy b (q || false))
+      phase (if_some (lost_run_at m) (run_of_bot s c) x) ≡ phase_after_end q (when r BotDied) (RunBy b (q || false))
   shaken c id session dims u f true e = shaken_own c id f (eqb-true c b e)
   shaken c id session dims u f false e = shaken_other c (eqb-false c b e) (run_of_bot s c) refl ∙ sym p ∙ run_stays x b q p
 
@@ -131,7 +131,7 @@ module _ (s : PoolState) (m : ℕ) (o : IsSound s) (x : TaskRow) (a : Among x s.
   run_after (kind.Claim c t id) f =
       cond_both (x.no == t) (started_run m c id x) x (RunNext x.no (kind.Claim c t id) b q) (λ n. absurd (no_wait (row_is s o t waits (claim_waits s c t id f) x a n))) (λ n. run_stays x b q p)
   run_after (kind.Update c t try_no chunk last) f =
-      subst (λ (y : TaskRow). phase y ≡ ended_run q (option_and_then (λ (l : Last). when (t == x.no) (reported l)) last) (RunBy b (q || false)))
+      subst (λ (y : TaskRow). phase y ≡ phase_after_end q (option_and_then (λ (l : Last). when (t == x.no) (reported l)) last) (RunBy b (q || false)))
       (sym (ended_task s m c t try_no chunk last f x)) (run_finished m t last f.end b q x f.ends p)
   run_after entry f = run_stays x b q p
 

@@ -45,9 +45,9 @@ state_of_phase state attempt = refl
 
 -- what an entry makes of a run
 
-abbrev pub ended_run : Bool → Option TaskState → Phase → Phase
-ended_run q None p = p
-ended_run q (Some state) p = Over (unless_killed q state)
+abbrev pub phase_after_end : Bool → Option TaskState → Phase → Phase
+phase_after_end q None p = p
+phase_after_end q (Some state) p = Over (unless_killed q state)
 
 -- and of a wait
 
@@ -62,7 +62,7 @@ from_end (Some state) p = Over state
 -- the phase of task t after an entry, from what the entry alone tells
 abbrev pub next_phase : ℕ → EntryKind → Phase → Phase
 next_phase t k Waiting = from_claim (claimant t k) (from_end (when (is_cancel t k) Canceled) (from_end (slice_state t k) Waiting))
-next_phase t k (RunBy b q) = ended_run q (run_end t b k) (RunBy b (q || is_kill t k))
+next_phase t k (RunBy b q) = phase_after_end q (run_end t b k) (RunBy b (q || is_kill t k))
 next_phase t k (Over state) = Over state
 
 -- a row tests its number with the entry's, and the verdict the other way round

@@ -9,7 +9,7 @@ use Rattle.swarm_model.specs.declared.entry.Entry.{Entry}
 use Rattle.swarm_model.specs.Words.{◌otherwise◌}
 use Rattle.swarm_model.specs.Finding.{is_state}
 use Rattle.swarm_model.specs.Verdicts.{run_verdict, claim_verdict, slice_verdict, final_only, run_end, is_kill, unless_killed, claimant, slice_state, is_cancel, is_cancel_of}
-use Rattle.swarm_laws.proofs.Phases.{Phase, Waiting, RunBy, Over, phase_in, state_in, next_phase, ended_run, from_claim, from_end}
+use Rattle.swarm_laws.proofs.Phases.{Phase, Waiting, RunBy, Over, phase_in, state_in, next_phase, phase_after_end, from_claim, from_end}
 
 abbrev pub cancels : ℕ → List Entry → Bool
 cancels t log = list_any (is_cancel_of t) log
@@ -57,7 +57,7 @@ wait_skip t log None false (Some state) p q r = absurd (cc (r))
 
 -- one entry of a run
 run_step_is : (t b : ℕ) (q k : Bool) (log : List Entry) (o : Option TaskState) →
-    (option_map (unless_killed q) o otherwise run_verdict t b k log) ≡ verdict_from t (ended_run q o (RunBy b k)) log
+    (option_map (unless_killed q) o otherwise run_verdict t b k log) ≡ verdict_from t (phase_after_end q o (RunBy b k)) log
 run_step_is t b q k log None = refl
 run_step_is t b q k log (Some state) = refl
 
