@@ -26,6 +26,7 @@ pub mod TallyLaw
 mod Order
 pub mod ClaimLaw
 pub mod Shown
+pub mod Refusals
 pub mod MachineLaws
 mod RepeatLaws
 mod OutcomeLaw

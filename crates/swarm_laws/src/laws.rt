@@ -2,6 +2,7 @@ ghost use Rattle.std.specs.Prelude.{◌≡◌};
 ghost use Rattle.swarm_laws.specs.Worked.{ItHappens, OutcomeIsTaken, RunsEnd, ended_log, taken_log};
 ghost use Rattle.swarm_model.specs.declared.task_state.TaskState.TheVariants.{Canceled, Completed, Killed};
 ghost use Rattle.swarm_model.specs.Claims.{ClaimsAreRight};
+ghost use Rattle.swarm_model.specs.RefusalLaw.{RefusalsAddNothing};
 ghost use Rattle.swarm_model.specs.Repeats.{ClaimAgain, ClaimIsOver, ContactChanges, HandshakeAgain, NewTaskAgain, UpdateAgain, UpdateIsOver, UuidIsTaken};
 ghost use Rattle.swarm_model.specs.ReuseLaw.{OutcomesAreTaken};
 ghost use Rattle.swarm_model.specs.Soundness.{StaysSound};
@@ -33,6 +34,11 @@ pub fn finals_stay()
 pub fn tally_counts_verdicts()
     ensures counts { TallyCountsVerdicts }
     ensures adds_up { TallyAddsUp }
+{}
+
+/// A request that is refused adds no entry.
+pub fn refusals_add_nothing()
+    ensures { RefusalsAddNothing }
 {}
 
 /// A task that is sent again under its uuid is told once more and adds nothing; another one under

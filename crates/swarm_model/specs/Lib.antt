@@ -15,6 +15,7 @@ pub mod Deadlines
 pub mod History
 pub mod States
 pub mod Soundness
+pub mod RefusalLaw
 pub mod Claims
 pub mod Repeats
 pub mod ReuseLaw
