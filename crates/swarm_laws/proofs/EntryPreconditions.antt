@@ -144,6 +144,10 @@ cancel_finds s who kill row a =
     by_kill false r = tt
     by_kill true r = cond_both (is_killed row.attempt) None (Some (kind.Kill row.no)) (λ (o : Option EntryKind). IfSome o (Finds s)) (λ t. tt) (λ t. record { task = row; among = a; named = refl; passes = r })
 
+-- a result adds nothing
+result_finds : (s : PoolState) (who : List ℕ) (row : TaskRow) → Adds s (result_of s who row)
+result_finds s who row = by_when (Adds s) (not (may s who permission.ListTasks row)) (denied s permission.ListTasks) _ (λ t. tt) (λ t. tt)
+
 -- a report finds the run of its bot, where it ends it
 report_finds : (s : PoolState) (bot : BotRow) (row : TaskRow) (chunk : Option Chunk) (last : Option Last) (o : Option Attempt) → Among bot s.bots → Among row s.tasks → row.attempt ≡ o → chunk ≡ None →
     Adds s (with o rule.NoTask (report_on s bot row chunk last))
@@ -213,7 +217,7 @@ tell_finds s who m (ask.New request) may =
     accepted_finds s who request (admit s request.task_slices 0) checked unsent refl)))
 tell_finds s who m (ask.Cancel task try_no kill) may =
     by_with (Adds s) (named_task s task try_no) rule.NoTask (cancel s who kill) tt (λ row e. cancel_finds s who kill row (named_is s task try_no row e).among)
-tell_finds s who m (ask.Result task try_no) may = by_with (Adds s) (named_task s task try_no) rule.NoTask (result_of s) tt (λ row e. tt)
+tell_finds s who m (ask.Result task try_no) may = by_with (Adds s) (named_task s task try_no) rule.NoTask (result_of s who) tt (λ row e. result_finds s who row)
 tell_finds s who m (ask.Count state) may = tt
 tell_finds s who m (ask.Handshake name session dims q) may = handshake_finds s name session dims q
 tell_finds s who m (ask.Poll name dims q) may = by_with (Adds s) (bot_named s name) rule.NoBot (poll s dims q) tt (λ bot e. poll_finds s dims q bot)

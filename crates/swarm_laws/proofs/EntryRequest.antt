@@ -212,6 +212,11 @@ module _ (s : PoolState) (o : IsSound s) (who : List ℕ) (m number try_no : ℕ
       by_when P (waits row) _ _ (λ w. inr (by_creator (kind.Cancel row.no) refl (rw (its_row, same_self row.creator, w) refl) refl)) (λ w.
       by_when P (runs row) (stop kill row) _ (stop_stands kill w) (λ r. tt)))
 
+-- a result adds nothing
+result_stands : (s : PoolState) (who : List ℕ) (m number try_no : ℕ) (row : TaskRow) → Stands s who m (ask.Result number try_no) (result_of s who row)
+result_stands s who m number try_no row =
+    by_when (Stands s who m (ask.Result number try_no)) (not (may s who permission.ListTasks row)) (denied s permission.ListTasks) _ (λ t. tt) (λ t. tt)
+
 -- what an answer adds stands for the request, or for another one that adds it
 pub tell_stands : (s : PoolState) (who : List ℕ) (m : ℕ) (request : Request) → IsSound s → IsTrue (fits s.settings request) → Stands s who m request (decide s who m request)
 tell_stands s who m (ask.New task) o may =
@@ -226,7 +231,7 @@ tell_stands s who m (ask.New task) o may =
 tell_stands s who m (ask.Cancel number try_no kill) o may =
     by_with (Stands s who m (ask.Cancel number try_no kill)) (named_task s number try_no) rule.NoTask (cancel s who kill) tt
     (λ row e. cancel_stands s o who m number try_no kill may row (named_is s number try_no row e))
-tell_stands s who m (ask.Result task try_no) o may = by_with (Stands s who m (ask.Result task try_no)) (named_task s task try_no) rule.NoTask (result_of s) tt (λ row e. tt)
+tell_stands s who m (ask.Result task try_no) o may = by_with (Stands s who m (ask.Result task try_no)) (named_task s task try_no) rule.NoTask (result_of s who) tt (λ row e. result_stands s who m task try_no row)
 tell_stands s who m (ask.Count state) o may = tt
 tell_stands s who m (ask.Handshake name session dims q) o may =
     by_map P (known_bot name session dims q) (bot_named s name) _ (λ bot e. greet_stands s o who m name bot e session dims q) (λ unknown.

@@ -101,6 +101,11 @@ quiet_cancel s who kill task =
     (quiet_otherwise (when (has_state Pending task) waits) _ (quiet_when (has_state Pending task) waits (quiet_reply (reply.Canceled true false) _ refl))
     (quiet_otherwise (when (has_state Running task) (stop kill task)) _ (quiet_when (has_state Running task) (stop kill task) (quiet_stop kill task)) (quiet_reply (reply.Canceled false false) _ refl)))
 
+quiet_result : (s : PoolState) (who : List ℕ) (task : TaskRow) → Quiet (result_of s who task)
+quiet_result s who task =
+    let b = not (may s who permission.ListTasks task) in
+    quiet_otherwise (when b (denied s permission.ListTasks)) _ (quiet_when b (denied s permission.ListTasks) (quiet_says _)) (quiet_says _)
+
 -- ---- bots
 
 quiet_greet : (name session : List ℕ) (dims : BotDims) (quarantined : List ℕ) (bot : BotRow) → Quiet (known_bot name session dims quarantined bot)
@@ -166,7 +171,7 @@ quiet_report_on s bot task chunk last attempt =
 pub quiet : (s : PoolState) (who : List ℕ) (moment : ℕ) (request : Request) → Quiet (decide s who moment request)
 quiet s who moment (ask.New request) = quiet_new s who moment request
 quiet s who moment (ask.Cancel task try_no kill) = quiet_with (named_task s task try_no) _ (cancel s who kill) (quiet_cancel s who kill)
-quiet s who moment (ask.Result task try_no) = quiet_with (named_task s task try_no) _ (result_of s) (λ row. quiet_says _)
+quiet s who moment (ask.Result task try_no) = quiet_with (named_task s task try_no) _ (result_of s who) (quiet_result s who)
 quiet s who moment (ask.Count state) = quiet_says _
 quiet s who moment (ask.Handshake bot session dims quarantined) = quiet_handshake s bot session dims quarantined
 quiet s who moment (ask.Poll bot dims quarantined) = quiet_with (bot_named s bot) _ (poll s dims quarantined) (quiet_poll s dims quarantined)

@@ -97,7 +97,8 @@ module _ (kept : MachineState) (tells : (number try_no : ℕ) (task : TaskRow) �
       by_when Shows (nat_le s.settings.most_tasks (length s.tasks)) (tasks_full s) _ (λ t. tt) (λ t.
       by_map Shows (reuse_outcome s who request) (reuse s m request.task_slices) (accepted s who request) (λ found e. tt) (λ e. accepted_shows who request (admit s request.task_slices 0))))
   tell_shows who m (ask.Cancel number try_no kill) = by_with Shows (named_task s number try_no) rule.NoTask (cancel s who kill) tt (λ task e. cancel_shows who kill task)
-  tell_shows who m (ask.Result number try_no) = by_with Shows (named_task s number try_no) rule.NoTask (result_of s) tt (λ task e. tells number try_no task e)
+  tell_shows who m (ask.Result number try_no) = by_with Shows (named_task s number try_no) rule.NoTask (result_of s who) tt (λ task e.
+      by_when Shows (not (may s who permission.ListTasks task)) (denied s permission.ListTasks) _ (λ t. tt) (λ t. tells number try_no task e))
   tell_shows who m (ask.Count state) = tt
   tell_shows who m (ask.Handshake name session dims q) = handshake_shows name session dims q
   tell_shows who m (ask.Poll name dims q) = by_with Shows (bot_named s name) rule.NoBot (poll s dims q) tt (λ bot e. poll_shows dims q bot)

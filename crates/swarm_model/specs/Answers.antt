@@ -134,8 +134,10 @@ cancel s who kill task =
     when (not (may s who permission.CancelTask task)) (denied s permission.CancelTask)
     otherwise cancel_row kill task
 
-abbrev pub result_of : PoolState → TaskRow → Decision
-result_of s task = reply_only (reply.Result (view_of s task))
+abbrev pub result_of : PoolState → List ℕ → TaskRow → Decision
+result_of s who task =
+    when (not (may s who permission.ListTasks task)) (denied s permission.ListTasks)
+    otherwise reply_only (reply.Result (view_of s task))
 
 abbrev pub count_tasks : PoolState → Option TaskState → Decision
 count_tasks s state = reply_only (reply.Count (count_by (is_wanted state) s.tasks))
@@ -291,7 +293,7 @@ terminate bot = if bot.terminating then reply_only reply.Terminating else reply_
 abbrev pub decide : PoolState → List ℕ → ℕ → Request → Decision
 decide s who moment (ask.New request) = new_task s who moment request
 decide s who moment (ask.Cancel task try_no kill) = with (named_task s task try_no) rule.NoTask (cancel s who kill)
-decide s who moment (ask.Result task try_no) = with (named_task s task try_no) rule.NoTask (result_of s)
+decide s who moment (ask.Result task try_no) = with (named_task s task try_no) rule.NoTask (result_of s who)
 decide s who moment (ask.Count state) = count_tasks s state
 decide s who moment (ask.Handshake bot session dims quarantined) = handshake s bot session dims quarantined
 decide s who moment (ask.Poll bot dims quarantined) = with (bot_named s bot) rule.NoBot (poll s dims quarantined)

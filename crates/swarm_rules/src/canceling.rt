@@ -1,35 +1,17 @@
 ghost use Rattle.std.specs.Prelude.{◌≡◌, IfOk};
 ghost use Rattle.swarm_model.specs.declared.rule.Rule.TheVariants as rule;
-ghost use Rattle.swarm_model.specs.Answers.{may, denied, cancels, is_killed, stop, cancel_row, with, named_task, cancel};
+ghost use Rattle.swarm_model.specs.Answers.{cancels, is_killed, stop, cancel_row, with, named_task, cancel};
 
 use crate::PoolQueries;
+use crate::permitting::{denied, may};
 use crate::reading::named_task;
 use crate::replies::refusal;
-use dimensions::{Text, TryCopy};
+use dimensions::Text;
 use std::alloc::{AllocError, Global};
 use std::sync::ledger::Ledger;
 use swarm_model::{
     Attempt, Decision, EntryKind, Permission, Reply, Rule, Steps, TaskRow, TaskState,
 };
-use swarm_policy::allowed;
-
-/// Whether the caller sent the task, or may do this with every task of the pool.
-fn may<P: PoolQueries>(pool: &P, who: &Text, permission: Permission, task: &TaskRow) -> bool
-    ensures { result ≡ may (P.state pool.now) who.now permission task.now }
-{
-    task.creator == *who || allowed(pool.settings(), who, permission)
-}
-
-fn denied<P: PoolQueries>(
-    alloc: Global,
-    pool: &P,
-    permission: Permission,
-) -> Result<Decision, AllocError>
-    ensures { IfOk result (λ decision. decision ≡ denied (P.state pool.now) permission) }
-{
-    let pool = pool.settings().name.try_copy(alloc)?;
-    Ok(refusal(Rule::Denied { permission, pool }))
-}
 
 fn cancels(canceled: bool, was_running: bool, entry: Option<EntryKind>) -> Decision
     ensures { result ≡ cancels canceled was_running entry }

@@ -34,7 +34,7 @@ pub fn decide<P: PoolQueries, L: Ledger>(
         Request::Cancel { task, try_no, kill } => {
             cancel(alloc, pool, who, *task, *try_no, *kill, steps)
         }
-        Request::Result { task, try_no } => task_result(alloc, pool, *task, *try_no, steps),
+        Request::Result { task, try_no } => task_result(alloc, pool, who, *task, *try_no, steps),
         Request::Count { state } => Ok(task_count(pool, *state)),
         Request::Handshake {
             bot,

@@ -13,6 +13,7 @@ mod deciding;
 mod events;
 mod handshakes;
 mod new_tasks;
+mod permitting;
 mod polling;
 mod pool_queries;
 mod reading;

@@ -4,12 +4,14 @@ ghost use Rattle.swarm_model.specs.declared.rule.Rule.TheVariants as rule;
 ghost use Rattle.swarm_model.specs.Answers.{if_named, named_task, with, result_of, count_tasks};
 
 use crate::PoolQueries;
+use crate::permitting::{denied, may};
 use crate::replies::{refusal, reply_only};
 use crate::rows::has_try;
 use crate::views::view_of;
+use dimensions::Text;
 use std::alloc::{AllocError, Global};
 use std::sync::ledger::Ledger;
-use swarm_model::{Decision, Reply, Rule, Steps, TaskRow, TaskState};
+use swarm_model::{Decision, Permission, Reply, Rule, Steps, TaskRow, TaskState};
 
 fn if_named(try_no: u32, task: &TaskRow) -> Option<&TaskRow>
     ensures { option_copied result ≡ if_named try_no task.now }
@@ -36,19 +38,35 @@ pub(crate) fn named_task<'a, P: PoolQueries, L: Ledger>(
     }
 }
 
+fn result_by<P: PoolQueries, L: Ledger>(
+    alloc: Global,
+    pool: &P,
+    who: &Text,
+    task: &TaskRow,
+    steps: &mut Steps<L>,
+) -> Result<Decision, AllocError>
+    ensures { IfOk result (λ decision. decision ≡ result_of (P.state pool.now) who.now task.now) }
+{
+    if !may(pool, who, Permission::ListTasks, task) {
+        return denied(alloc, pool, Permission::ListTasks);
+    }
+    Ok(reply_only(Reply::Result(view_of(alloc, pool, task, steps)?)))
+}
+
 /// What a caller is told who asks what a task has come to.
 pub(crate) fn task_result<P: PoolQueries, L: Ledger>(
     alloc: Global,
     pool: &P,
+    who: &Text,
     number: u32,
     try_no: u32,
     steps: &mut Steps<L>,
 ) -> Result<Decision, AllocError>
-    ensures { IfOk result (λ decision. decision ≡ with (named_task (P.state pool.now) number try_no) rule.NoTask (result_of (P.state pool.now))) }
+    ensures { IfOk result (λ decision. decision ≡ with (named_task (P.state pool.now) number try_no) rule.NoTask (result_of (P.state pool.now) who.now)) }
 {
     match named_task(pool, number, try_no, steps) {
         None => Ok(refusal(Rule::NoTask)),
-        Some(task) => Ok(reply_only(Reply::Result(view_of(alloc, pool, task, steps)?))),
+        Some(task) => result_by(alloc, pool, who, task, steps),
     }
 }
 
