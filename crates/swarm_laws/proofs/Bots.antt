@@ -170,7 +170,7 @@ module _ (s : PoolState) (e : Entry) (o : IsSound s) (follows : MayFollow s e) w
         same = kept_sound x was;
         hushes = silent_bot_sound x was;
         dies = same_sound x was true x.terminating;
-        greets = λ b id session dims q is may. session_row_sound b id session dims q may;
+        greets = λ b id session dims q is named may. session_row_sound b id session dims q may;
         polls = polled_sound x was;
         busies = assigned_bot_sound x was;
         hears = heard_sound x was;

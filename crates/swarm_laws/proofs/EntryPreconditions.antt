@@ -1,5 +1,5 @@
 -- What an entry that may follow finds in the pool.
-use Rattle.std.proofs.Common.{◌≡◌, ℕ, ◌+◌, ◌<◌, ◌≤◌, ◌==◌, ◌&&◌, ◌||◌, not, Bool, true, false, cond, List, [], ◌∷◌, inl, inr, length, drop, length-drop, refl, subst, arith, Option, Some, None, IfSome, IsTrue, IsSomeAnd, is_some, is_none, filter_map, eqb-true}
+use Rattle.std.proofs.Common.{◌≡◌, ℕ, ◌+◌, ◌<◌, ◌≤◌, ◌==◌, ◌&&◌, ◌||◌, not, Bool, true, false, cond, List, [], ◌∷◌, inl, inr, length, drop, length-drop, refl, subst, arith, Option, Some, None, IfSome, IsTrue, IsSomeAnd, is_some, is_none, filter_map, eqb-true, leb-false}
 use Rattle.std.specs.Prelude.{⊤, nat_le, slice_get}
 use Rattle.std.specs.Bool.{MatchBool}
 use Rattle.std.specs.List.{All, position_from}
@@ -82,16 +82,17 @@ abbrev Adds : PoolState → Decision → Type 0
 Adds s told = IfSome told.entry (Finds s)
 
 -- a new task that is accepted comes to one of its slices
-accepted_finds : (s : PoolState) (who : List ℕ) (request : NewTask) (o : Option ℕ) → is_checked request ≡ true → sent s who request.request_uuid ≡ None → admit s request.task_slices 0 ≡ o → Adds s (accepted_at s who request o)
-accepted_finds s who request (Some place) checked unsent h =
-    record { next = refl; idle = refl; checked = checked; has_slice = admit_within s request.task_slices 0 place (omega arith) h; unsent = unsent; takes = tt }
-accepted_finds s who request None checked unsent h =
-    let many = (slices_counted request checked).0 in record { next = refl; idle = refl; checked = checked; has_slice = omega (arith, many); unsent = unsent; takes = tt }
+accepted_finds : (s : PoolState) (who : List ℕ) (request : NewTask) (o : Option ℕ) → is_checked request ≡ true → sent s who request.request_uuid ≡ None → length s.tasks < s.settings.most_tasks → admit s request.task_slices 0 ≡ o →
+    Adds s (accepted_at s who request o)
+accepted_finds s who request (Some place) checked unsent room h =
+    record { next = refl; room = room; idle = refl; checked = checked; has_slice = admit_within s request.task_slices 0 place (omega arith) h; unsent = unsent; takes = tt }
+accepted_finds s who request None checked unsent room h =
+    let many = (slices_counted request checked).0 in record { next = refl; room = room; idle = refl; checked = checked; has_slice = omega (arith, many); unsent = unsent; takes = tt }
 
 -- and so does one that takes the outcome of another
-taken_finds : (s : PoolState) (who : List ℕ) (m : ℕ) (request : NewTask) (r : Reuse) → is_checked request ≡ true → sent s who request.request_uuid ≡ None → reuse s m request.task_slices ≡ Some r →
+taken_finds : (s : PoolState) (who : List ℕ) (m : ℕ) (request : NewTask) (r : Reuse) → is_checked request ≡ true → sent s who request.request_uuid ≡ None → length s.tasks < s.settings.most_tasks → reuse s m request.task_slices ≡ Some r →
     Adds s (reuse_outcome s who request r)
-taken_finds s who m request r checked unsent h =
+taken_finds s who m request r checked unsent room h =
     let f = reuse_is s m 0 request.task_slices r h in
     let found = f.fits.found in
     let placed = f.placed in
@@ -100,6 +101,7 @@ taken_finds s who m request r checked unsent h =
     let parts = and_parts (ended_well f.source) (is_young s.settings.reuse_age_secs m f.source && ran_hash (hash f.own.properties) f.source) found.passes in
     record {
       next = refl;
+      room = room;
       idle = refl;
       checked = checked;
       has_slice = slice_get_within request.task_slices r.slice f.own reached;
@@ -183,7 +185,7 @@ handshake_finds : (s : PoolState) (name session : List ℕ) (dims : BotDims) (q 
 handshake_finds s name session dims q =
     by_map (Adds s) (known_bot name session dims q) (bot_named s name) _ (λ bot e. cond_both (same bot.session session) _ _ (Adds s) (λ t. tt) (λ t.
     let f = bot_is s name bot e in inr (record { bot = bot; among = f.among; named = refl; called = f.passes }))) (λ unknown.
-    by_when (Adds s) (nat_le s.settings.most_bots (length s.bots)) _ _ (λ t. tt) (λ t. inl (record { unknown = unknown; next = refl })))
+    by_when (Adds s) (nat_le s.settings.most_bots (length s.bots)) _ _ (λ t. tt) (λ t. inl (record { unknown = unknown; next = refl; room = leb-false _ _ t })))
 
 -- a poll finds nothing that any fact needs
 poll_finds : (s : PoolState) (dims : BotDims) (q : List ℕ) (bot : BotRow) → Adds s (poll s dims q bot)
@@ -213,8 +215,8 @@ tell_finds s who m (ask.New request) may =
     let checked = (and_parts (is_checked request) (same (pool_of_task request) s.settings.name) may).0 in
     by_map (Adds s) (resubmitted request) (sent s who request.request_uuid) _ (λ row e. cond_both (same_task row.request request) _ _ (Adds s) (λ t. tt) (λ t. tt)) (λ unsent.
     by_when (Adds s) (nat_le s.settings.most_tasks (length s.tasks)) (tasks_full s) _ (λ t. tt) (λ t.
-    by_map (Adds s) (reuse_outcome s who request) (reuse s m request.task_slices) (accepted s who request) (λ found e. taken_finds s who m request found checked unsent e) (λ e.
-    accepted_finds s who request (admit s request.task_slices 0) checked unsent refl)))
+    by_map (Adds s) (reuse_outcome s who request) (reuse s m request.task_slices) (accepted s who request) (λ found e. taken_finds s who m request found checked unsent (leb-false _ _ t) e) (λ e.
+    accepted_finds s who request (admit s request.task_slices 0) checked unsent (leb-false _ _ t) refl)))
 tell_finds s who m (ask.Cancel task try_no kill) may =
     by_with (Adds s) (named_task s task try_no) rule.NoTask (cancel s who kill) tt (λ row e. cancel_finds s who kill row (named_is s task try_no row e).among)
 tell_finds s who m (ask.Result task try_no) may = by_with (Adds s) (named_task s task try_no) rule.NoTask (result_of s who) tt (λ row e. result_finds s who row)

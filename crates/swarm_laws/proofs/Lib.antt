@@ -12,6 +12,8 @@ pub mod Numbers
 pub mod Claimed
 pub mod UuidLaw
 pub mod Moments
+mod Limits
+mod Names
 pub mod Sound
 pub mod Alike
 pub mod EntryRequest

@@ -202,7 +202,7 @@ module _ (s : PoolState) (m : ℕ) (k : EntryKind) (o : IsSound s) (f : Finds s 
         same = h;
         hushes = h;
         dies = h;
-        greets = λ b id session dims q is may. omega arith;
+        greets = λ b id session dims q is named may. omega arith;
         polls = λ dims q hint may. omega arith;
         busies = λ b t id found. omega arith;
         hears = omega arith;
@@ -245,7 +245,7 @@ module _ (s : PoolState) (m : ℕ) (k : EntryKind) (o : IsSound s) (f : Finds s 
         same = r x a;
         hushes = λ e. absurd (cc (e));
         dies = λ e. absurd (cc (e));
-        greets = λ b id session dims q is may e. omega arith;
+        greets = λ b id session dims q is named may e. omega arith;
         polls = λ dims q hint may e. omega arith;
         busies = λ b t id found e. omega arith;
         hears = λ e. omega arith;

@@ -58,6 +58,7 @@ pub record FindsSource (s : PoolState) (request : NewTask) (state : TaskState) (
 
 pub record FindsNew (s : PoolState) (t : ℕ) (who : List ℕ) (request : NewTask) (state : TaskState) (slice : ℕ) (from : Option ℕ) : Type 0 where
   pub next : t ≡ length s.tasks + 1
+  pub room : length s.tasks < s.settings.most_tasks
   pub idle : is_state state Running ≡ false
   pub checked : is_checked request ≡ true
   pub has_slice : slice < length request.task_slices
@@ -73,6 +74,7 @@ pub record IsOld (s : PoolState) (b : ℕ) (id : List ℕ) : Type 0 where
 pub record IsNewcomer (s : PoolState) (b : ℕ) (id : List ℕ) : Type 0 where
   pub unknown : bot_named s id ≡ None
   pub next : b ≡ length s.bots + 1
+  pub room : length s.bots < s.settings.most_bots
 
 pub record FindsClaim (s : PoolState) (b t : ℕ) (id : List ℕ) : Type 0 where
   pub bot : BotRow

@@ -5,6 +5,7 @@ use Rattle.std.specs.List.{All, fold}
 use Rattle.std.specs.Option.{option_map, option_map_or, option_and_then}
 use Rattle.std.proofs.lemmas.Bool.{cond_both, and_parts}
 use Rattle.std.proofs.lemmas.List.{length-map}
+use Rattle.dimensions.specs.Alike.{same}
 use Rattle.dimensions.specs.declared.text.Text.{Text}
 use Rattle.dimensions.specs.declared.bot_dims.BotDims.{BotDims}
 use Rattle.swarm_model.specs.declared.task_state.TaskState.{TaskState}
@@ -28,8 +29,9 @@ use Rattle.swarm_model.specs.Deadlines.{next_of}
 use Rattle.swarm_model.specs.Entries.{poll_of, event_of, Asked}
 use Rattle.swarm_model.specs.Effects.{no_of_task, no_of_bot, task_after, added_tasks, bot_after, added_bots, task_at, bot_at, expired_slice, lost_run, lost_run_at, canceled, kill_marked, started_run, ended_run, fresh_chunk, chunk_at, attempt_of, if_some, run_of_bot, runs_task, silent_bot, dead_bot, session_row, polled, assigned_bot, heard, idle_bot, event_effect, terminated}
 use Rattle.swarm_model.specs.Soundness.{IsSound, IsSoundTask, IsSoundBot, Agree, runner}
-use Rattle.swarm_laws.proofs.Lists.{Among, here, later, Found, each, all, each_append, each_map, find_is, filter_is, number_tells, number_finds}
-use Rattle.swarm_laws.proofs.Preconditions.{Finds, HasTask, FindsSlice, FindsClaim, FindsUpdate, waits, runs}
+use Rattle.swarm_laws.proofs.Alike.{same_is}
+use Rattle.swarm_laws.proofs.Lists.{Among, here, later, Found, each, all, each_append, each_map, find_is, filter_is, number_within, number_tells, number_finds}
+use Rattle.swarm_laws.proofs.Preconditions.{Finds, HasTask, FindsSlice, FindsClaim, FindsUpdate, IsOld, IsNewcomer, waits, runs}
 use Rattle.swarm_laws.proofs.EntryPreconditions.{IsFitting}
 
 module _ (s : PoolState) (o : IsSound s) where
@@ -213,7 +215,7 @@ pub record Keeps (P : BotRow → Type 0) (s : PoolState) (m : ℕ) (x : BotRow) 
   pub same : P x
   pub hushes : P (silent_bot x)
   pub dies : P (dead_bot x)
-  pub greets : (b : ℕ) (id session : List ℕ) (dims : BotDims) (q : List ℕ) → x.no ≡ b → IsTrue (fits s.settings (ask.Handshake id session dims q)) → P (session_row m b id session dims q)
+  pub greets : (b : ℕ) (id session : List ℕ) (dims : BotDims) (q : List ℕ) → x.no ≡ b → x.name ≡ id → IsTrue (fits s.settings (ask.Handshake id session dims q)) → P (session_row m b id session dims q)
   pub polls : (dims : Option BotDims) (q : Option Text) (hint : Bool) → IsTrue (fits s.settings (ask.Poll x.name (unwrap_or dims x.dims) (unwrap_or q x.quarantined))) → P (polled m dims q hint x)
   pub busies : (b t : ℕ) (id : List ℕ) → FindsClaim s b t id → P (assigned_bot m t x)
   pub hears : P (heard m x)
@@ -231,11 +233,16 @@ module _ (P : BotRow → Type 0) (s : PoolState) (m : ℕ) (o : IsSound s) (x : 
   asked_of b request_of f n =
       subst (λ (r : Option BotRow). IsSomeAnd (option_map request_of r) (λ asked. IsTrue (fits s.settings asked.request))) (find_bot s o x b a (eqb-true x.no b n)) f
 
+  -- a handshake of this row names its bot
+  old_name : (b : ℕ) (id : List ℕ) → IsNewcomer s b id ⊎ IsOld s b id → x.no ≡ b → x.name ≡ id
+  old_name b id (inl new) e = let low = (number_within no_of_bot 1 s.bots o.bots_numbered x a).1 in let next = new.next in absurd (omega (arith, low, next, e))
+  old_name b id (inr old) e = same_is x.name id (subst (λ (y : BotRow). same y.name id ≡ true) (one_bot s o old.bot x old.among a (old.named ∙ sym e)) old.called)
+
   -- the row after an entry is as it was, or changed in one of nine ways
   pub bot_by : (k : EntryKind) → Finds s k → IsFitting s k → P (bot_after m k x)
   bot_by (kind.Silence t) f g = cond_both (runs_task t x) (silent_bot x) x P (λ n. p.hushes) (λ n. p.same)
   bot_by (kind.Dead b) f g = at_bot b (dead_bot x) (λ n. p.dies)
-  bot_by (kind.Handshake b id session dims q) f g = at_bot b (session_row m b id session dims q) (λ n. p.greets b id session dims q (eqb-true x.no b n) g)
+  bot_by (kind.Handshake b id session dims q) f g = at_bot b (session_row m b id session dims q) (λ n. p.greets b id session dims q (eqb-true x.no b n) (old_name b id f (eqb-true x.no b n)) g)
   bot_by (kind.Poll b dims q hint) f g = at_bot b (polled m dims q hint x) (λ n. p.polls dims q hint (asked_of b (poll_of dims q) g n))
   bot_by (kind.Claim b t id) f g = at_bot b (assigned_bot m t x) (λ n. p.busies b t id f)
   bot_by (kind.Contact b) f g = at_bot b (heard m x) (λ n. p.hears)

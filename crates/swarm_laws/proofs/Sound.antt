@@ -1,5 +1,5 @@
 -- Each entry that may follow keeps a pool sound.
-use Rattle.std.proofs.Common.{◌≤◌, List, [], ◌∷◌, lit≤}
+use Rattle.std.proofs.Common.{◌≤◌, List, [], ◌∷◌, lit≤, arith}
 use Rattle.std.specs.List.{All}
 use Rattle.std.proofs.lemmas.List.Elements.{All-nil}
 use Rattle.swarm_model.specs.declared.pool_settings.PoolSettings.{PoolSettings}
@@ -10,7 +10,7 @@ use Rattle.swarm_model.specs.declared.deadline.Deadline.{Deadline}
 use Rattle.swarm_model.specs.declared.entry.Entry.{Entry}
 use Rattle.swarm_model.specs.Effects.{opening, after}
 use Rattle.swarm_model.specs.History.{replay, IsCaused, MayFollow}
-use Rattle.swarm_model.specs.Soundness.{IsSound, IsSoundTask, IsSoundBot, Agree, AreClaimedApart, AreSentApart, StaysSound}
+use Rattle.swarm_model.specs.Soundness.{IsSound, IsSoundTask, IsSoundBot, Agree, AreClaimedApart, AreSentApart, AreNamedApart, StaysSound}
 use Rattle.swarm_laws.proofs.EntryPreconditions.{finds}
 use Rattle.swarm_laws.proofs.Tasks.{tasks_sound}
 use Rattle.swarm_laws.proofs.Bots.{bots_sound}
@@ -19,6 +19,8 @@ use Rattle.swarm_laws.proofs.Moments.{ahead_after}
 use Rattle.swarm_laws.proofs.Numbers.{tasks_numbered, bots_numbered}
 use Rattle.swarm_laws.proofs.Claimed.{claims_apart}
 use Rattle.swarm_laws.proofs.UuidLaw.{all_sent_apart}
+use Rattle.swarm_laws.proofs.Limits.{tasks_few, bots_few}
+use Rattle.swarm_laws.proofs.Names.{names_apart}
 
 -- the parts together
 pub sound_after : (s : PoolState) (e : Entry) → IsSound s → MayFollow s e → IsSound (after s e)
@@ -28,12 +30,15 @@ sound_after s e o follows =
       last = follows.not_late;
       tasks_numbered = tasks_numbered s e o follows;
       bots_numbered = bots_numbered s e o follows;
+      few_tasks = tasks_few s e o follows;
+      few_bots = bots_few s e o follows;
       tasks = tasks_sound s e o follows;
       bots = bots_sound s e o follows;
       ahead = ahead_after s e o follows;
       runs = runs_agree s e o follows;
       claims = claims_apart s e o follows;
       sent = all_sent_apart s e o follows;
+      names = names_apart s e o follows;
     }
 
 -- so does every log
@@ -48,12 +53,15 @@ opening_sound settings =
       last = lit≤ tt;
       tasks_numbered = tt;
       bots_numbered = tt;
+      few_tasks = omega arith;
+      few_bots = omega arith;
       tasks = All-nil (IsSoundTask (opening settings));
       bots = All-nil (IsSoundBot (opening settings));
       ahead = All-nil (λ (d : Deadline). 0 ≤ d.moment);
       runs = All-nil (λ (bot : BotRow). All (Agree bot) []);
       claims = All-nil (λ (task : TaskRow). All (AreClaimedApart task) []);
       sent = All-nil (λ (task : TaskRow). All (AreSentApart task) []);
+      names = All-nil (λ (bot : BotRow). All (AreNamedApart bot) []);
     }
 
 -- so every pool is

@@ -8,7 +8,8 @@ ghost use Rattle.swarm_model.specs.ReuseLaw.{OutcomesAreTaken};
 ghost use Rattle.swarm_model.specs.Soundness.{StaysSound};
 ghost use Rattle.swarm_model.specs.Verdicts.{FinalsStay, TallyAddsUp, TallyCountsVerdicts, VerdictsAreStates, verdict};
 
-/// Every pool that a log leads to is sound.
+/// Every pool that a log leads to is sound: among others, it has no more tasks and bots than its
+/// settings allow, and no two bots have one name.
 pub fn stays_sound()
     ensures { StaysSound }
 {}

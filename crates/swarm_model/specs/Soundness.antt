@@ -66,16 +66,23 @@ sent_key task = if is_empty task.request.request_uuid then None else Some (task.
 abbrev pub AreSentApart : TaskRow → TaskRow → Type 0
 AreSentApart a b = (key : List ℕ × List ℕ) → sent_key a ≡ Some key → sent_key b ≡ Some key → a.no ≡ b.no
 
+-- bots of one name are one
+abbrev pub AreNamedApart : BotRow → BotRow → Type 0
+AreNamedApart a b = a.name ≡ b.name → a.no ≡ b.no
+
 pub record IsSound (s : PoolState) : Type 0 where
   pub last : s.last ≤ 2 ^ 40
   pub tasks_numbered : AreNumbered no_of_task 1 s.tasks
   pub bots_numbered : AreNumbered no_of_bot 1 s.bots
+  pub few_tasks : length s.tasks ≤ s.settings.most_tasks
+  pub few_bots : length s.bots ≤ s.settings.most_bots
   pub tasks : All (IsSoundTask s) s.tasks
   pub bots : All (IsSoundBot s) s.bots
   pub ahead : All (λ d. s.last ≤ d.moment) (deadlines s)
   pub runs : All (λ bot. All (Agree bot) s.tasks) s.bots
   pub claims : All (λ task. All (AreClaimedApart task) s.tasks) s.tasks
   pub sent : All (λ task. All (AreSentApart task) s.tasks) s.tasks
+  pub names : All (λ bot. All (AreNamedApart bot) s.bots) s.bots
 
 -- each entry keeps a pool sound
 abbrev pub StaysSound : Type 0
