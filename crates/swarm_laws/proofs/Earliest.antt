@@ -68,7 +68,7 @@ least best (d ∷ ds) r e =
     }
 
 -- where it finds none, there is none
-none_of : (best : Option Deadline) (ds : List Deadline) → fold sooner best ds ≡ None → ds ≡ []
+pub none_of : (best : Option Deadline) (ds : List Deadline) → fold sooner best ds ≡ None → ds ≡ []
 none_of best [] e = refl
 none_of best (d ∷ ds) e = absurd (some_more (earlier best d) ds e)
   where
@@ -77,7 +77,7 @@ none_of best (d ∷ ds) e = absurd (some_more (earlier best d) ds e)
     some_more b (x ∷ xs) h = some_more (earlier (Some b) x) xs h
 
 -- what holds of all deadlines holds of the earliest
-fold_has : (P : Deadline → Type 0) (best : Option Deadline) (ds : List Deadline) → IfSome best P → All P ds → IfSome (fold sooner best ds) P
+pub fold_has : (P : Deadline → Type 0) (best : Option Deadline) (ds : List Deadline) → IfSome best P → All P ds → IfSome (fold sooner best ds) P
 fold_has P best [] h all = h
 fold_has P best (d ∷ ds) h all = fold_has P (Some (earlier best d)) ds (one_of best h) (All-tail P d ds all)
   where

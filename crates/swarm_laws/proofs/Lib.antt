@@ -30,6 +30,8 @@ pub mod ClaimLaw
 pub mod Shown
 pub mod Refusals
 pub mod MachineLaws
+mod DueLaw
+mod SourceLaw
 mod RepeatLaws
 mod OutcomeLaw
 mod Worked

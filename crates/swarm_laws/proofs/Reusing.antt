@@ -14,7 +14,7 @@ use Rattle.swarm_model.specs.Reuse.{newer, newest_source, source_for, is_source,
 use Rattle.swarm_laws.proofs.Lists.{here, later, Found}
 
 -- the newest of some tasks is one of them, and passes
-newest_is : (test : TaskRow → Bool) (best : Option TaskRow) (xs : List TaskRow) (r : TaskRow) → fold (newer test) best xs ≡ Some r → (best ≡ Some r) ⊎ Found test xs r
+pub newest_is : (test : TaskRow → Bool) (best : Option TaskRow) (xs : List TaskRow) (r : TaskRow) → fold (newer test) best xs ≡ Some r → (best ≡ Some r) ⊎ Found test xs r
 newest_is test best [] r e = inl e
 newest_is test best (x ∷ xs) r e = by_rest (newest_is test (newer test best x) xs r e)
   where

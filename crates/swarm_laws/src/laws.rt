@@ -2,9 +2,10 @@ ghost use Rattle.std.specs.Prelude.{◌≡◌};
 ghost use Rattle.swarm_laws.specs.Worked.{ItHappens, OutcomeIsTaken, RunsEnd, ended_log, taken_log};
 ghost use Rattle.swarm_model.specs.declared.task_state.TaskState.TheVariants.{Canceled, Completed, Killed};
 ghost use Rattle.swarm_model.specs.Claims.{ClaimsAreRight};
+ghost use Rattle.swarm_model.specs.DueLaw.{DueIsEarliest};
 ghost use Rattle.swarm_model.specs.RefusalLaw.{RefusalsAddNothing};
 ghost use Rattle.swarm_model.specs.Repeats.{ClaimAgain, ClaimIsOver, ContactChanges, HandshakeAgain, NewTaskAgain, UpdateAgain, UpdateIsOver, UuidIsTaken};
-ghost use Rattle.swarm_model.specs.ReuseLaw.{OutcomesAreTaken};
+ghost use Rattle.swarm_model.specs.ReuseLaw.{OutcomesAreTaken, ReuseIsFirst, SourceIsNewest};
 ghost use Rattle.swarm_model.specs.Soundness.{StaysSound};
 ghost use Rattle.swarm_model.specs.Verdicts.{FinalsStay, TallyAddsUp, TallyCountsVerdicts, VerdictsAreStates, verdict};
 
@@ -12,6 +13,12 @@ ghost use Rattle.swarm_model.specs.Verdicts.{FinalsStay, TallyAddsUp, TallyCount
 /// settings allow, and no two bots have one name.
 pub fn stays_sound()
     ensures { StaysSound }
+{}
+
+/// The deadline that is due is one of the pool that has come, and no other goes before it, by moment,
+/// then cause, then number; none is due exactly where none has come.
+pub fn due_is_the_earliest()
+    ensures { DueIsEarliest }
 {}
 
 /// A claim comes when nothing is due, from a fit bot that runs nothing, of a task that was never
@@ -55,6 +62,14 @@ pub fn repeats_act_once()
     ensures update { UpdateAgain }
     ensures update_over { UpdateIsOver }
     ensures contact { ContactChanges }
+{}
+
+/// The newest source is a task whose outcome may be taken, and no such task has a greater number. The
+/// slice that takes an outcome has a source, and none before it has one. None is found exactly where
+/// there is none.
+pub fn sources_are_the_newest()
+    ensures source { SourceIsNewest }
+    ensures slice { ReuseIsFirst }
 {}
 
 /// A task that took the outcome of another completed without a run, and that other is an earlier

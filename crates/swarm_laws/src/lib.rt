@@ -16,7 +16,7 @@
 mod laws;
 
 pub use laws::{
-    a_claim_happens, a_run_ends, an_outcome_is_taken, claims_are_right, finals_stay,
-    outcomes_are_taken_over, refusals_add_nothing, repeats_act_once, stays_sound,
-    tally_counts_verdicts, verdicts_are_states,
+    a_claim_happens, a_run_ends, an_outcome_is_taken, claims_are_right, due_is_the_earliest,
+    finals_stay, outcomes_are_taken_over, refusals_add_nothing, repeats_act_once,
+    sources_are_the_newest, stays_sound, tally_counts_verdicts, verdicts_are_states,
 };

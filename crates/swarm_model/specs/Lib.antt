@@ -16,6 +16,7 @@ pub mod History
 pub mod States
 pub mod Soundness
 pub mod RefusalLaw
+pub mod DueLaw
 pub mod Claims
 pub mod Repeats
 pub mod ReuseLaw

@@ -1,16 +1,19 @@
--- What holds of a task that took the outcome of another.
-use Rattle.std.specs.Prelude.{◌≡◌, ℕ, ◌<◌, IsTrue, List, Some, None}
+-- Whose outcome a new task takes, and what holds of a task that took one.
+use Rattle.std.specs.Prelude.{◌≡◌, ℕ, ◌<◌, ◌≤◌, IsTrue, IsFalse, List, take, Some, None, MatchOption, slice_get}
+use Rattle.std.specs.List.{All, Contains}
 use Rattle.task_props.specs.Canonical.{hash}
 use Rattle.task_props.specs.declared.slice.Slice.{Slice}
 use Rattle.swarm_model.specs.declared.task_state.TaskState.TheVariants.{Completed}
 use Rattle.swarm_model.specs.declared.pool_settings.PoolSettings.{PoolSettings}
 use Rattle.swarm_model.specs.declared.task_row.TaskRow.{TaskRow}
 use Rattle.swarm_model.specs.declared.pool_state.PoolState.{PoolState}
+use Rattle.swarm_model.specs.declared.reuse.Reuse.{Reuse}
 use Rattle.swarm_model.specs.declared.entry.Entry.{Entry}
 use Rattle.swarm_model.specs.Finding.{task_of}
+use Rattle.swarm_model.specs.Numbers.{AreNumbered}
 use Rattle.swarm_model.specs.Slices.{current_slice}
-use Rattle.swarm_model.specs.Reuse.{ended_well, has_hash}
-use Rattle.swarm_model.specs.Effects.{opening}
+use Rattle.swarm_model.specs.Reuse.{ended_well, has_hash, is_source, newest_source, source_for, reuse}
+use Rattle.swarm_model.specs.Effects.{opening, no_of_task}
 use Rattle.swarm_model.specs.History.{replay, IsCaused}
 
 -- the task completed without a run; the task of that number is an earlier one, which ran and reported 0,
@@ -34,3 +37,30 @@ abbrev pub OutcomesAreTaken : Type 0
 OutcomesAreTaken =
     (settings : PoolSettings) (log : List Entry) (t number : ℕ) (task : TaskRow) → IsCaused (opening settings) log
     → task_of (replay (opening settings) log) t ≡ Some task → task.source ≡ Some number → HasSource (replay (opening settings) log) task number
+
+-- a task whose outcome a slice with this hash may take at the moment, and no such task has a greater number
+pub record IsNewestSource (s : PoolState) (moment : ℕ) (digest : List ℕ) (source : TaskRow) : Type 0 where
+  pub of_pool : Contains s.tasks source
+  pub is : IsTrue (is_source s.settings.reuse_age_secs moment digest source)
+  pub newest : All (λ task. IsTrue (is_source s.settings.reuse_age_secs moment digest task) → task.no ≤ source.no) s.tasks
+
+-- where tasks are numbered by their places, such a task is found; none is found exactly where there is none
+abbrev pub SourceIsNewest : Type 0
+SourceIsNewest =
+    (s : PoolState) (moment : ℕ) (digest : List ℕ) → AreNumbered no_of_task 1 s.tasks
+    → MatchOption (newest_source s moment digest) (All (λ task. IsFalse (is_source s.settings.reuse_age_secs moment digest task)) s.tasks) (IsNewestSource s moment digest)
+
+-- the slice of this place has this source, and no slice before it has one
+pub record IsFirstReuse (s : PoolState) (moment : ℕ) (slices : List Slice) (found : Reuse) : Type 0 where
+  pub slice : Slice
+  pub is_slice : slice_get slices found.slice ≡ Some slice
+  pub source : TaskRow
+  pub is_source : source_for s moment slice ≡ Some source
+  pub is_number : source.no ≡ found.source
+  pub none_before : All (λ before. source_for s moment before ≡ None) (take found.slice slices)
+
+-- such a slice takes an outcome; none does exactly where no slice has a source
+abbrev pub ReuseIsFirst : Type 0
+ReuseIsFirst =
+    (s : PoolState) (moment : ℕ) (slices : List Slice)
+    → MatchOption (reuse s moment slices) (All (λ slice. source_for s moment slice ≡ None) slices) (IsFirstReuse s moment slices)
