@@ -29,9 +29,10 @@ mod Order
 pub mod ClaimLaw
 pub mod Shown
 pub mod Refusals
-pub mod MachineLaws
+pub mod Repeating
 mod DueLaw
 mod SourceLaw
-mod RepeatLaws
-mod OutcomeLaw
+pub mod RepeatLaws
+pub mod OutcomeLaw
+pub mod MachineLaws
 mod Worked

@@ -1,20 +1,26 @@
 -- What the laws say of a pool that keeps its log.
-use Rattle.std.proofs.Common.{◌≡◌, ℕ, List, Some, refl, subst, sym, ap, ◌∙◌, sum_by, count_by}
+use Rattle.std.proofs.Common.{◌≡◌, ℕ, ◌≤◌, ◌^◌, List, Option, Some, None, IfSome, IsTrue, refl, subst, sym, ap, ◌∙◌, sum_by, count_by}
 use Rattle.swarm_model.specs.declared.task_row.TaskRow.{TaskRow}
 use Rattle.swarm_model.specs.declared.pool_state.PoolState.{PoolState}
 use Rattle.swarm_model.specs.declared.entry.Entry.{Entry}
 use Rattle.swarm_model.specs.declared.request.Request.{Request}
+use Rattle.swarm_model.specs.Fits.{fits}
 use Rattle.swarm_model.specs.Finding.{task_of}
 use Rattle.swarm_model.specs.Answers.{answer, named_task}
 use Rattle.swarm_model.specs.Claims.{IsRightClaim}
+use Rattle.swarm_model.specs.Deadlines.{due_entry}
 use Rattle.swarm_model.specs.Effects.{opening, after}
 use Rattle.swarm_model.specs.History.{replay, MayFollow, tally}
-use Rattle.swarm_model.specs.MachineState.{MachineState, IsHistory, IsRight, KeepsFinals, ShowsVerdict}
+use Rattle.swarm_model.specs.MachineState.{MachineState, IsHistory, IsRight, KeepsFinals, ShowsVerdict, ActsOnce, TakesOutcome}
 use Rattle.swarm_model.specs.Soundness.{IsSound}
 use Rattle.swarm_model.specs.Verdicts.{is_new, verdict, verdict_tally}
-use Rattle.swarm_laws.proofs.EntryPreconditions.{IsNamed, named_is}
+use Rattle.swarm_laws.proofs.Preconditions.{Finds}
+use Rattle.swarm_laws.proofs.EntryPreconditions.{IsNamed, named_is, finds}
 use Rattle.swarm_laws.proofs.Rows.{find_task}
 use Rattle.swarm_laws.proofs.Sound.{sound_always}
+use Rattle.swarm_laws.proofs.Legality.{answer_follows}
+use Rattle.swarm_laws.proofs.Repeating.{acts_once}
+use Rattle.swarm_laws.proofs.OutcomeLaw.{new_source}
 use Rattle.swarm_laws.proofs.ClaimLaw.{claims_right}
 use Rattle.swarm_laws.proofs.VerdictLaw.{verdict_is_state}
 use Rattle.swarm_laws.proofs.Finals.{final_through}
@@ -42,6 +48,21 @@ module _ (kept : MachineState) (h : IsHistory kept) where
       told number try_no task e =
           (let f : IsNamed kept.pool number try_no task = named_is kept.pool number try_no task e in
           tells_state task.no task (find_task kept.pool is_sound task task.no f.among refl))
+
+  -- what is sent again adds at most a contact
+  pub repeats_once : (who : List ℕ) (moment pass : ℕ) (request : Request) → ActsOnce kept who request (answer kept.pool who moment pass request).entry
+  repeats_once who moment pass request = acts_once kept is_sound who moment pass request
+
+  -- an outcome that a new task takes is there
+  pub takes_outcome : (who : List ℕ) (moment pass : ℕ) (request : Request) → kept.pool.last ≤ moment → moment ≤ 2 ^ 40 → due_entry kept.pool moment pass ≡ None →
+      IsTrue (fits kept.pool.settings request) → IfSome (answer kept.pool who moment pass request).entry (TakesOutcome kept)
+  takes_outcome who moment pass request before late none may = by_entry (answer kept.pool who moment pass request).entry refl
+    where
+      by_entry : (r : Option Entry) → (answer kept.pool who moment pass request).entry ≡ r → IfSome r (TakesOutcome kept)
+      by_entry None g = tt
+      by_entry (Some e) g = λ t by sent state slice number is.
+          new_source kept.pool e.moment t by sent state slice number is_sound
+          (subst (Finds kept.pool) is (finds kept.pool e (answer_follows kept.pool who moment pass request e is_sound before late none may g)))
 
   -- the tally counts what the log tells
   pub tally_told : tally kept.pool ≡ verdict_tally kept.log

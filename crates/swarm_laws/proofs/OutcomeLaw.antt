@@ -1,9 +1,10 @@
 -- A task that took an outcome has its source, now and whatever follows.
-use Rattle.std.proofs.Common.{◌≡◌, ℕ, ◌<◌, true, false, List, [], ◌∷◌, refl, sym, ap, ◌∙◌, subst, arith, Option, Some, None, IfSome}
+use Rattle.std.proofs.Common.{◌≡◌, ℕ, ◌+◌, length, ◌<◌, true, false, List, [], ◌∷◌, refl, sym, ap, ◌∙◌, subst, arith, Option, Some, None, IfSome}
 use Rattle.std.specs.Option.{option_map_or}
 use Rattle.std.proofs.lemmas.Bool.{and_parts}
 use Rattle.std.proofs.lemmas.Option.{same_Some}
 use Rattle.task_props.specs.Canonical.{hash}
+use Rattle.task_props.specs.declared.new_task.NewTask.{NewTask}
 use Rattle.task_props.specs.declared.slice.Slice.{Slice}
 use Rattle.swarm_model.specs.declared.task_state.TaskState.{TaskState}
 use Rattle.swarm_model.specs.declared.task_state.TaskState.TheVariants.{Completed}
@@ -23,7 +24,7 @@ use Rattle.swarm_model.specs.Effects.{opening, after, task_after, added_tasks, e
 use Rattle.swarm_model.specs.History.{replay, IsCaused, MayFollow}
 use Rattle.swarm_model.specs.Soundness.{IsSound}
 use Rattle.swarm_laws.proofs.Lists.{Among, Found, each_one, each_map, each_append, find_is, number_within}
-use Rattle.swarm_laws.proofs.Preconditions.{Finds, FindsSource}
+use Rattle.swarm_laws.proofs.Preconditions.{Finds, FindsNew, FindsSource}
 use Rattle.swarm_laws.proofs.EntryPreconditions.{finds}
 use Rattle.swarm_laws.proofs.Rows.{task_by, find_task}
 use Rattle.swarm_laws.proofs.Sound.{sound_after, sound_replay, opening_sound}
@@ -157,6 +158,33 @@ has_source s o x n t = by_slice (current_slice t.source) refl t.alike
           ran = ran;
           came_to = g;
           alike = h;
+        }
+
+-- what a new task takes when it is accepted
+pub new_source : (s : PoolState) (m t : ℕ) (who : List ℕ) (request : NewTask) (state : TaskState) (slice number : ℕ) → IsSound s → FindsNew s t who request state slice (Some number) →
+    HasSource s (new_row m t who request state slice (Some number)) number
+new_source s m t who request state slice number o g = has_source s o (new_row m t who request state slice (Some number)) number took
+  where
+    h : FindsSource s request state slice number
+    h = g.takes
+
+    low : h.source.no < 1 + length s.tasks
+    low = (number_within no_of_task 1 s.tasks o.tasks_numbered h.source h.among).1
+
+    took : Took s (new_row m t who request state slice (Some number)) number
+    took =
+        record {
+          completed = h.completed;
+          no_run = refl;
+          source = h.source;
+          among = h.among;
+          named = h.named;
+          earlier = (let next = g.next in let named = h.named in let under = low in omega (arith, under, next, named));
+          ended = h.ended;
+          own = h.own;
+          comes_to = h.reached;
+          idempotent = h.idempotent;
+          alike = h.alike;
         }
 
 pub outcomes_taken : OutcomesAreTaken

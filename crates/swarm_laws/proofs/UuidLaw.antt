@@ -27,12 +27,12 @@ use Rattle.swarm_laws.proofs.Alike.{same_is, is_same}
 -- a key, as the test for a task that was sent sees it
 
 -- a caller sent the row under a uuid that is not empty
-record IsKeyed (x : TaskRow) (who uuid : List ℕ) : Type 0 where
-  not_empty : is_empty uuid ≡ false
-  by : x.creator ≡ who
-  under : x.request.request_uuid ≡ uuid
+pub record IsKeyed (x : TaskRow) (who uuid : List ℕ) : Type 0 where
+  pub not_empty : is_empty uuid ≡ false
+  pub by : x.creator ≡ who
+  pub under : x.request.request_uuid ≡ uuid
 
-key_tells : (x : TaskRow) (who uuid : List ℕ) → sent_key x ≡ Some (who, uuid) → IsKeyed x who uuid
+pub key_tells : (x : TaskRow) (who uuid : List ℕ) → sent_key x ≡ Some (who, uuid) → IsKeyed x who uuid
 key_tells x who uuid e = by_test (is_empty x.request.request_uuid) refl e
   where
     by_test : (b : Bool) → is_empty x.request.request_uuid ≡ b → cond {A = Option (List ℕ × List ℕ)} b None (Some (x.creator, x.request.request_uuid)) ≡ Some (who, uuid) → IsKeyed x who uuid

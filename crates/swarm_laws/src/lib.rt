@@ -3,12 +3,14 @@
 //! Each law is the contract of an empty function; its statement stands in `swarm_model`'s specs,
 //! and its proof is an induction over the entries of the log. The layers above take the lemma
 //! modules of this crate. `Sound`: every pool that a log leads to is sound, and an entry that may
-//! follow keeps it so. `Following`: where nothing is due, what an answer adds may follow the log,
-//! and so may what is due. `Finds`: what an entry that may follow finds in the pool, which kinds of
-//! entries come at all, and that a report that comes ends its run and brings no output. `Rows`: what
-//! such a report does to the rows. `Sent`: the task that a caller sent under a uuid is found by both.
-//! `Keeping`: for a pool that keeps its log, that results and the tally show what the log tells,
-//! that a claim is right, and that rows that have ended stay. So a machine that adds only what is
+//! follow keeps it so. `Legality`: where nothing is due, what an answer adds may follow the log, and
+//! so may what is due. `EntryPreconditions`: what an entry that may follow finds in the pool, which
+//! kinds of entries come at all, and that a report that comes ends its run and brings no output.
+//! `Rows`: what such a report does to the rows. `UuidLaw`: the task that a caller sent under a uuid
+//! is found by both. `Refusals`: a request that is refused adds no entry. `MachineLaws`: for a pool
+//! that keeps its log, that results and the tally show what the log tells, that a claim is right,
+//! that what is sent again adds at most a contact, that a new task takes the outcome of an earlier
+//! one that ran the same, and that rows that have ended stay. So a machine that adds only what is
 //! due and what its answers say keeps a legal log, and may count on sound rows. The crate has no
 //! code that runs.
 #![tactic(auto)]

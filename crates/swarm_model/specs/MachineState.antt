@@ -1,5 +1,5 @@
 -- What a machine keeps.
-use Rattle.std.specs.Prelude.{◌≡◌, ℕ, Bool, ⊤, IsTrue, List, ◌∷◌, Option, Some, None, length, option_map, if◌then◌else◌}
+use Rattle.std.specs.Prelude.{◌≡◌, ℕ, Bool, ⊤, IsTrue, List, ◌∷◌, Option, Some, None, IfSome, length, option_map, if◌then◌else◌}
 use Rattle.std.specs.List.{find}
 use Rattle.sha2.specs.Sha256.{sha256}
 use Rattle.content_store.specs.declared.Filled.{Filled}
@@ -8,13 +8,21 @@ use Rattle.dimensions.specs.Alike.{same}
 use Rattle.swarm_model.specs.declared.pool_state.PoolState.{PoolState}
 use Rattle.swarm_model.specs.declared.entry.Entry.{Entry}
 use Rattle.swarm_model.specs.declared.entry.EntryKind.TheVariants as kind
+use Rattle.task_props.specs.declared.new_task.NewTask.{NewTask}
+use Rattle.swarm_model.specs.declared.request.Request.{Request}
+use Rattle.swarm_model.specs.declared.request.Request.TheVariants as ask
+use Rattle.swarm_model.specs.declared.task_state.TaskState.{TaskState}
 use Rattle.swarm_model.specs.declared.task_row.TaskRow.{TaskRow}
+use Rattle.swarm_model.specs.declared.bot_row.BotRow.{BotRow}
 use Rattle.swarm_model.specs.declared.reply.Reply.{Reply}
 use Rattle.swarm_model.specs.declared.reply.Reply.TheVariants as reply
-use Rattle.swarm_model.specs.Finding.{has_blob, is_final, task_of}
+use Rattle.swarm_model.specs.Finding.{has_blob, is_final, task_of, bot_named}
+use Rattle.swarm_model.specs.Answers.{named_task}
 use Rattle.swarm_model.specs.Claims.{IsRightClaim}
-use Rattle.swarm_model.specs.Effects.{opening}
+use Rattle.swarm_model.specs.Effects.{opening, new_row}
 use Rattle.swarm_model.specs.History.{replay, IsLegal}
+use Rattle.swarm_model.specs.ReuseLaw.{HasSource}
+use Rattle.swarm_model.specs.Soundness.{sent_key, claim_key}
 use Rattle.swarm_model.specs.Verdicts.{verdict}
 
 -- the rows, the log, the entry that is made ready, and the bytes that are held, by their digests
@@ -67,3 +75,29 @@ KeepsFinals old new = (t : ℕ) (task : TaskRow) → task_of old.pool t ≡ Some
 -- a claim that is added is right for the rows and the log before it
 abbrev pub IsRight : MachineState → Entry → Type 0
 IsRight kept entry = (b t : ℕ) (claim : List ℕ) → entry.kind ≡ kind.Claim b t claim → IsRightClaim kept.pool kept.log entry.moment b t
+
+-- the entry, where there is one, says only that the bot was heard
+abbrev pub SaysContact : BotRow → Option Entry → Type 0
+SaysContact bot entry = IfSome entry (λ e. e.kind ≡ kind.Contact bot.no)
+
+-- What is sent again adds nothing, or that its bot was heard: a task under the uuid of one that its caller sent adds
+-- nothing; a claim under the id of one that the bot made, a handshake with the session that the bot has, and a report
+-- of a run that has ended add at most a contact.
+abbrev pub ActsOnce : MachineState → List ℕ → Request → Option Entry → Type 0
+ActsOnce kept who (ask.New request) entry =
+    (task : TaskRow) → task_of kept.pool task.no ≡ Some task → sent_key task ≡ Some (who, request.request_uuid) → entry ≡ None
+ActsOnce kept who (ask.Claim name id) entry =
+    (bot : BotRow) (task : TaskRow) → bot_named kept.pool name ≡ Some bot → task_of kept.pool task.no ≡ Some task → claim_key task ≡ Some (bot.no, id)
+    → SaysContact bot entry
+ActsOnce kept who (ask.Handshake name session dims quarantined) entry =
+    (bot : BotRow) → bot_named kept.pool name ≡ Some bot → bot.session ≡ session → SaysContact bot entry
+ActsOnce kept who (ask.Update name number try_no chunk last) entry =
+    (bot : BotRow) (task : TaskRow) → bot_named kept.pool name ≡ Some bot → named_task kept.pool number try_no ≡ Some task → IsTrue (is_final task.state)
+    → SaysContact bot entry
+ActsOnce kept who other entry = ⊤
+
+-- a new task that takes an outcome takes that of an earlier task, which ran the same and reported 0
+abbrev pub TakesOutcome : MachineState → Entry → Type 0
+TakesOutcome kept entry =
+    (t : ℕ) (who : List ℕ) (request : NewTask) (state : TaskState) (slice number : ℕ) → entry.kind ≡ kind.New t who request state slice (Some number)
+    → HasSource kept.pool (new_row entry.moment t who request state slice (Some number)) number

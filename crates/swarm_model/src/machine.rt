@@ -1,4 +1,4 @@
-ghost use Rattle.std.specs.Prelude.{◌≡◌, ◌≤◌, ◌^◌, ◌↔◌, ◌++◌, ◌∷◌, [], length, true, false, None, Some, Ok, IsTrue, IsNone, IfOk, OnOk, OnErr, IsErrOf, option_map, slice_get};
+ghost use Rattle.std.specs.Prelude.{◌≡◌, ◌≤◌, ◌^◌, ◌↔◌, ◌++◌, ◌∷◌, [], length, true, false, None, Some, Ok, IsTrue, IsNone, IfSome, IfOk, OnOk, OnErr, IsErrOf, option_map, slice_get};
 ghost use Rattle.std.specs.List.{count_by, sum_by};
 ghost use Rattle.std.specs.Option.{option_copied};
 ghost use Rattle.swarm_model.specs.Settings.{keeps_rules};
@@ -8,7 +8,7 @@ ghost use Rattle.swarm_model.specs.Answers.{answer};
 ghost use Rattle.swarm_model.specs.Effects.{opening, after};
 ghost use Rattle.swarm_model.specs.Deadlines.{due_entry};
 ghost use Rattle.swarm_model.specs.History.{MayFollow, has_room, tally};
-ghost use Rattle.swarm_model.specs.MachineState.{IsHistory, IsRight, KeepsFinals, ShowsVerdict, Fills, bytes_of};
+ghost use Rattle.swarm_model.specs.MachineState.{IsHistory, IsRight, KeepsFinals, ShowsVerdict, ActsOnce, TakesOutcome, Fills, bytes_of};
 ghost use Rattle.swarm_model.specs.Verdicts.{is_new, verdict_tally};
 
 use crate::{Answer, BlobRow, BotRow, Entry, PoolSettings, Request, Steps, TaskRow};
@@ -57,7 +57,9 @@ pub trait Machine: Sized {
         requires not_late { moment ≤ 2 ^ 40 }
         requires nothing_due { due_entry (kept self.now).pool moment pass ≡ None }
         ensures exact { IfOk result (λ a. a ≡ answer (kept self.now).pool who.now moment pass request.now) }
-        ensures verdict { IfOk result (λ a. ShowsVerdict (kept self.now) a.reply) };
+        ensures verdict { IfOk result (λ a. ShowsVerdict (kept self.now) a.reply) }
+        ensures repeats { IfOk result (λ a. ActsOnce (kept self.now) who.now request.now a.entry) }
+        ensures outcome { IfOk result (λ a. IfSome a.entry (TakesOutcome (kept self.now))) };
 
     /// Makes ready all that the entry's change needs, so that `commit` takes no memory.
     fn reserve(&mut self, entry: &Entry) -> Result<(), ReserveFault>
