@@ -36,7 +36,9 @@ LAWS = [
     ("Rattle.swarm_model.specs.Verdicts", "VerdictsAreStates FinalsStay TallyCountsVerdicts TallyAddsUp"),
     ("Rattle.swarm_model.specs.Repeats", "NewTaskAgain UuidIsTaken ClaimAgain ClaimIsOver HandshakeAgain"),
     ("Rattle.swarm_model.specs.Repeats", "UpdateAgain UpdateIsOver ContactChanges"),
-    ("Rattle.swarm_model.specs.ReuseLaw", "OutcomesAreTaken"),
+    ("Rattle.swarm_model.specs.ReuseLaw", "OutcomesAreTaken SourceIsNewest ReuseIsFirst"),
+    ("Rattle.swarm_model.specs.DueLaw", "DueIsEarliest"),
+    ("Rattle.swarm_model.specs.RefusalLaw", "RefusalsAddNothing"),
     ("Rattle.swarm_model.specs.Soundness", "StaysSound"),
 ]
 # What runs at the edge of the process.
