@@ -1,4 +1,5 @@
 pub mod BodyLemmas
 pub mod Numerals
-pub mod Lists
+pub mod IdDigits
+pub mod Arrays
 pub mod Steps

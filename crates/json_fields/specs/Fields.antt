@@ -1,5 +1,5 @@
 -- The fields of a JSON object: what each says, and the rule that it breaks.
-use Rattle.std.specs.Prelude.{ℕ, ℤ, pos, Bool, false, not, ◌&&◌, List, [], ◌∷◌, is_some, Option, Some, None, option_and_then, option_map, if◌then◌else◌, Result, Ok, Err}
+use Rattle.std.specs.Prelude.{ℕ, ℤ, pos, Bool, false, not, ◌&&◌, List, [], ◌∷◌, is_some, decimal, Option, Some, None, option_and_then, option_map, if◌then◌else◌, Result, Ok, Err}
 use Rattle.std.specs.List.{list_any}
 use Rattle.serde_json.specs.Data.{Data, null, boolean, number, string, array, object, Items, no_items, item, Members, no_members, member}
 use Rattle.serde_json.specs.Find.{get, as_integer, as_str, as_bool, as_null, as_array, as_object}
@@ -122,6 +122,16 @@ list_at key d = at key (list_in key d)
 
 abbrev pub object_at : List ℕ → Data → Result Data PropFault
 object_at key d = at key (object_in key d)
+
+-- an item of a list that must be an object, at its place, by the reading of its fields
+unfoldable pub object_item : {A : Type 0} → (Data → Result A PropFault) → ℕ → Data → Result A PropFault
+object_item fields place d = do
+  members ← at (decimal place) (object_of d)
+  inside (decimal place) (fields members)
+
+-- an item of a list that must be a text, at its place
+abbrev pub text_item : ℕ → Data → Result (List ℕ) PropFault
+text_item place d = at (decimal place) (text_of d)
 
 -- a list that must be there, read item by item
 abbrev pub each_at : {A : Type 0} → (ℕ → Data → Result A PropFault) → List ℕ → Data → Result (List A) PropFault

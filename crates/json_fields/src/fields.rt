@@ -31,7 +31,7 @@ fn number_of(value: &Value) -> Result<i128, PropRule>
 }
 
 /// The items of a value that must be a list.
-#[tactic(auto, using(crate::proofs::Lists::list_of_items))]
+#[tactic(auto, using(crate::proofs::Arrays::list_of_items))]
 pub fn values_of(value: &Value) -> Result<&[Value], PropRule>
     ensures { Gives (λ vs. map view vs.now) result (spec_values_of (view value.now)) }
 {
@@ -42,7 +42,7 @@ pub fn values_of(value: &Value) -> Result<&[Value], PropRule>
 }
 
 /// A value that must be an object.
-pub fn object_of(value: &Value) -> Result<&Value, PropRule>
+pub(crate) fn object_of(value: &Value) -> Result<&Value, PropRule>
     ensures { Gives (λ v. view v.now) result (spec_object_of (view value.now)) }
 {
     if value.is_object() {
@@ -196,7 +196,11 @@ pub fn read_flag(alloc: Global, body: &Value, key: &str) -> Result<bool, PropFau
 }
 
 /// The items of a list that must be there.
-pub fn read_list<'v>(alloc: Global, body: &'v Value, key: &str) -> Result<&'v [Value], PropFault>
+pub(crate) fn read_list<'v>(
+    alloc: Global,
+    body: &'v Value,
+    key: &str,
+) -> Result<&'v [Value], PropFault>
     ensures { GivesUnlessMemory (λ vs. map view vs.now) result (list_at key.now (view body.now)) }
 {
     match list_in(body, key) {
@@ -206,7 +210,11 @@ pub fn read_list<'v>(alloc: Global, body: &'v Value, key: &str) -> Result<&'v [V
 }
 
 /// The items of a list; an absent one is empty.
-pub fn read_items<'v>(alloc: Global, body: &'v Value, key: &str) -> Result<&'v [Value], PropFault>
+pub(crate) fn read_items<'v>(
+    alloc: Global,
+    body: &'v Value,
+    key: &str,
+) -> Result<&'v [Value], PropFault>
     ensures { GivesUnlessMemory (λ vs. map view vs.now) result (at key.now (spec_items_in key.now (view body.now))) }
 {
     match items_in(body, key) {

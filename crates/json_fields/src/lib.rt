@@ -8,20 +8,34 @@
 //! known. [`broken`] and [`broken_at`] make a fault, and [`below`] and [`below_place`] put it below
 //! the key or the place where its value stands, so that a path grows from the value outwards.
 //!
+//! Lists are read here alone, item by item: of texts ([`read_texts`], [`read_optional_texts`]), and
+//! of objects ([`read_objects`], [`read_optional_objects`]), whose fields a [`ReadFields`] reads.
+//!
+//! The ids of tasks and of their runs are shown by [`task_id`] and [`run_id`] and read by
+//! [`read_id`] and [`read_run`], and [`id_tells_its_parts`] is the law by which the number of an id
+//! tells the place, the task and the try that it was made of (`specs/Ids.antt`).
+//!
 //! What a field may hold beyond its type is no matter of this crate. It stands on the rules of
-//! `task_props`, on the texts of `dimensions`, and on `serde_json`.
+//! `task_props`, on the texts and lists of `dimensions`, and on `serde_json`.
 #![tactic(auto)]
 
 mod body;
 mod faults;
 mod fields;
+mod ids;
 mod keys;
+mod lists;
 mod numbers;
 
 pub use body::read_body;
 pub use faults::{below, below_place, broken, broken_at};
 pub use fields::{
-    list_in, object_of, present, read_flag, read_items, read_list, read_number, read_object,
-    read_optional_number, read_required_text, read_text, values_of,
+    list_in, present, read_flag, read_number, read_object, read_optional_number,
+    read_required_text, read_text, values_of,
+};
+pub use ids::{
+    are_hex_digits, id_tells_its_parts, place_of_id, read_id, read_run, run_id, task_id,
+    task_of_id, try_of_id,
 };
 pub use keys::unknown_key;
+pub use lists::{ReadFields, read_objects, read_optional_objects, read_optional_texts, read_texts};

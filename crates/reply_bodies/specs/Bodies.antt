@@ -6,7 +6,7 @@ use Rattle.json_values.specs.Values.{whole}
 use Rattle.swarm_model.specs.declared.reply.Reply.{Reply}
 use Rattle.swarm_model.specs.declared.reply.Reply.TheVariants as reply
 use Rattle.swarm_model.specs.States.{state_name}
-use Rattle.reply_bodies.specs.Ids.{task_id}
+use Rattle.json_fields.specs.Ids.{task_id}
 use Rattle.reply_bodies.specs.Views.{task_members}
 use Rattle.reply_bodies.specs.Commands.{run_members}
 use Rattle.reply_bodies.specs.Refusals.{status_and_code, one, two, refusal_members}

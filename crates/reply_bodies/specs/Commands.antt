@@ -4,7 +4,7 @@ use Rattle.serde_json.specs.Data.{Data, boolean, string, object, Members, member
 use Rattle.json_values.specs.Values.{whole, list_data}
 use Rattle.task_props.specs.declared.cache.Cache.{Cache}
 use Rattle.task_props.specs.declared.properties.Properties.{Properties}
-use Rattle.reply_bodies.specs.Ids.{run_id}
+use Rattle.json_fields.specs.Ids.{run_id}
 use Rattle.reply_bodies.specs.Views.{file_data}
 
 -- a key and its value

@@ -1,4 +1,3 @@
-pub mod Ids
 pub mod Views
 pub mod Commands
 pub mod Refusals

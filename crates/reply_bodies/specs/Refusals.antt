@@ -12,7 +12,7 @@ use Rattle.swarm_model.specs.declared.rule.Unfit.TheVariants as unfit
 use Rattle.swarm_model.specs.declared.rule.Rule.{Rule}
 use Rattle.swarm_model.specs.declared.rule.Rule.TheVariants as rule
 use Rattle.swarm_model.specs.States.{state_name}
-use Rattle.reply_bodies.specs.Ids.{task_id}
+use Rattle.json_fields.specs.Ids.{task_id}
 use Rattle.reply_bodies.specs.Views.{run_data}
 
 -- the status, and the code

@@ -6,7 +6,7 @@ use Rattle.json_values.specs.Values.{whole, signed, or_null, list_data}
 use Rattle.task_props.specs.declared.file.File.{File}
 use Rattle.swarm_model.specs.declared.task_view.TaskView.{TaskView}
 use Rattle.swarm_model.specs.States.{state_name}
-use Rattle.reply_bodies.specs.Ids.{task_id, run_id}
+use Rattle.json_fields.specs.Ids.{task_id, run_id}
 
 -- a file, by its path, its digest and its size
 abbrev pub file_data : File → Data

@@ -4,21 +4,18 @@
 //! `specs/Bodies.antt`: compact, with the keys of each object in the order of their bytes.
 //! [`status_of`] is its status. Each value is a definition first: `Bodies` has the table of
 //! replies, `Refusals` that of refusals, with the status, the code and the members of each, `Views`
-//! what is shown of a task, `Commands` what a bot is told to do, and `Ids` the ids of tasks and
-//! runs. Any body may give way to want of memory.
+//! what is shown of a task, and `Commands` what a bot is told to do. Any body may give way to want
+//! of memory.
 //!
-//! An id is shown here and read in the crate of requests: [`id_tells_its_parts`] is the law by
-//! which the number of an id tells the place, the task and the try that it was made of. The crate
-//! stands on `swarm_model`, `task_props`, `dimensions` and `json_values`, and on `serde_json`, `hex`
-//! and `http`.
+//! The ids of tasks and runs are shown by `json_fields`, which also reads them. The crate stands on
+//! it, on `swarm_model`, `task_props`, `dimensions` and `json_values`, and on `serde_json`, `hex` and
+//! `http`.
 #![tactic(auto)]
 
 mod commands;
-mod ids;
 mod items;
 mod refusals;
 mod reply;
 mod views;
 
-pub use ids::id_tells_its_parts;
 pub use reply::{show_reply, status_of};

@@ -5,7 +5,7 @@ ghost use Rattle.serde_json.specs.Data.{boolean, string, object};
 ghost use Rattle.serde_json.specs.View.{view, members_view};
 ghost use Rattle.json_values.specs.Values.{whole};
 ghost use Rattle.swarm_model.specs.States.{state_name};
-ghost use Rattle.reply_bodies.specs.Ids.{task_id as spec_task_id};
+ghost use Rattle.json_fields.specs.Ids.{task_id as spec_task_id};
 ghost use Rattle.reply_bodies.specs.Refusals.{one, two};
 ghost use Rattle.reply_bodies.specs.Bodies.{status_of as spec_status_of, reply_members as spec_reply_members, body_of};
 

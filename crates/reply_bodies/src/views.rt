@@ -4,12 +4,12 @@ ghost use Rattle.std.specs.Option.{option_map};
 ghost use Rattle.serde_json.specs.Data.{string, put};
 ghost use Rattle.serde_json.specs.View.{view, members_view};
 ghost use Rattle.json_values.specs.Values.{or_null};
-ghost use Rattle.reply_bodies.specs.Ids.{task_id as spec_task_id};
+ghost use Rattle.json_fields.specs.Ids.{task_id as spec_task_id};
 ghost use Rattle.reply_bodies.specs.Views.{run_data, last_members as spec_last_members, task_members as spec_task_members};
 
-use crate::ids::{run_id, task_id};
 use crate::items::Files;
 use dimensions::Text;
+use json_fields::{run_id, task_id};
 use json_values::{
     with, with_list, with_signed_or_null, with_text, with_text_or_null, with_whole,
     with_whole_or_null,

@@ -1,2 +1,1 @@
-pub mod IdDigits
 pub mod Fitting

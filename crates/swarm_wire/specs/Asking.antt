@@ -14,19 +14,19 @@ use Rattle.swarm_model.specs.Fits.{fits}
 use Rattle.swarm_wire.specs.declared.asked.Asked.{Asked}
 use Rattle.swarm_wire.specs.declared.asked.WireFault.{WireFault}
 use Rattle.swarm_wire.specs.declared.asked.WireFault.TheVariants as fault
-use Rattle.swarm_wire.specs.declared.addressed.Addressed.{Addressed}
+use Rattle.bot_bodies.specs.declared.pool_request.PoolRequest.{PoolRequest}
 use Rattle.swarm_wire.specs.declared.route.Route.{Route}
 use Rattle.swarm_wire.specs.declared.route.Route.TheVariants as route
 use Rattle.json_fields.specs.Readings.{reading, ◌>>=◌}
 use Rattle.json_fields.specs.Fields.{is_object}
 use Rattle.swarm_wire.specs.Pools.{place_of}
-use Rattle.reply_bodies.specs.Ids.{place_of_id, task_of_id, try_of_id}
-use Rattle.swarm_wire.specs.Tasks.{task_in, is_built}
-use Rattle.swarm_wire.specs.Results.{id_in}
-use Rattle.swarm_wire.specs.Cancels.{cancel_in}
-use Rattle.swarm_wire.specs.Counts.{count_in}
-use Rattle.swarm_wire.specs.BotCalls.{handshake_in, poll_in, claim_in, event_in, terminate_in}
-use Rattle.swarm_wire.specs.Reports.{report_in, is_bare, update_by}
+use Rattle.json_fields.specs.Ids.{place_of_id, task_of_id, try_of_id}
+use Rattle.task_bodies.specs.Tasks.{task_in, is_built}
+use Rattle.task_bodies.specs.Results.{id_in}
+use Rattle.task_bodies.specs.Cancels.{cancel_in}
+use Rattle.task_bodies.specs.Counts.{count_in}
+use Rattle.bot_bodies.specs.BotCalls.{handshake_in, poll_in, claim_in, event_in, terminate_in}
+use Rattle.bot_bodies.specs.Reports.{report_in, is_bare, update_by}
 
 -- a request that carries no bytes, to the pool at a place
 abbrev pub asked : ℕ → Request → Asked
@@ -85,23 +85,23 @@ count_of pools d = do
   Ok (asked place (ask.Count fields.1))
 
 -- a request to the pool of its name
-unfoldable pub addressed_asks : List PoolSettings → Result Addressed PropFault → Result Asked WireFault
-addressed_asks pools reading = do
-  addressed ← unless_broken reading
-  place ← pool_named pools addressed.pool
-  Ok (asked place addressed.request)
+unfoldable pub named_of : List PoolSettings → Result PoolRequest PropFault → Result Asked WireFault
+named_of pools reading = do
+  named ← unless_broken reading
+  place ← pool_named pools named.pool
+  Ok (asked place named.request)
 
 abbrev pub object_asks : List PoolSettings → Route → Data → Result Asked WireFault
 object_asks pools route.NewTask d = new_of pools d
 object_asks pools route.CancelTask d = cancel_of pools d
 object_asks pools route.GetResult d = result_of pools d
 object_asks pools route.CountTasks d = count_of pools d
-object_asks pools route.Handshake d = addressed_asks pools (handshake_in d)
-object_asks pools route.Poll d = addressed_asks pools (poll_in d)
-object_asks pools route.Claim d = addressed_asks pools (claim_in d)
-object_asks pools route.Event d = addressed_asks pools (event_in d)
+object_asks pools route.Handshake d = named_of pools (handshake_in d)
+object_asks pools route.Poll d = named_of pools (poll_in d)
+object_asks pools route.Claim d = named_of pools (claim_in d)
+object_asks pools route.Event d = named_of pools (event_in d)
 object_asks pools route.TaskUpdate d = update_of pools d
-object_asks pools route.TerminateBot d = addressed_asks pools (terminate_in d)
+object_asks pools route.TerminateBot d = named_of pools (terminate_in d)
 
 -- what is no object breaks a rule of no field
 unfoldable pub value_asks : List PoolSettings → Route → Data → Result Asked WireFault

@@ -5,7 +5,7 @@ ghost use Rattle.swarm_wire.specs.Pools.{place_of as spec_place_of};
 ghost use Rattle.swarm_wire.specs.Asking.{pool_at as spec_pool_at};
 
 use crate::WireFault;
-use crate::ids::place_of_id;
+use json_fields::place_of_id;
 use swarm_model::PoolSettings;
 
 /// The place of the pool of a name.

@@ -2,47 +2,17 @@ ghost use Rattle.std.specs.Prelude.{◌≡◌, ◌≢◌, ◌≤◌, ◌<◌, If
 ghost use Rattle.serde_json.specs.View.{view};
 ghost use Rattle.swarm_model.specs.Fits.{fits};
 ghost use Rattle.swarm_model.specs.Settings.{AreOpen};
-ghost use Rattle.swarm_wire.specs.Asking.{Asks, FitsPool, new_of, object_asks, value_asks, asked_of};
+ghost use Rattle.swarm_wire.specs.Asking.{Asks, FitsPool, object_asks, value_asks, asked_of};
 
-use crate::addressed::ask_named;
-use crate::bot_calls::{read_bot_event, read_claim, read_handshake, read_poll, read_terminate};
-use crate::cancels::ask_cancel;
-use crate::counts::ask_count;
-use crate::pools::place_of;
-use crate::reports::ask_update;
-use crate::results::ask_result;
-use crate::tasks::read_task;
-use crate::unserved::is_built;
+use crate::asking::{ask_cancel, ask_count, ask_named, ask_new, ask_result, ask_update};
 use crate::{Asked, Route, WireFault};
-use dimensions::{Seq, Text};
+use bot_bodies::{read_bot_event, read_claim, read_handshake, read_poll, read_terminate};
+use dimensions::Text;
 use json_fields::read_body;
 use serde_json::Value;
 use std::alloc::Global;
-use swarm_model::{PoolSettings, Request, Settings, Unbuilt};
+use swarm_model::{PoolSettings, Settings};
 use task_props::PropRule;
-
-#[tactic(auto, unfolding(crate::specs::Asking::new_of))]
-fn ask_new(alloc: Global, pools: &[PoolSettings], body: &Value) -> Result<Asked, WireFault>
-    requires few { length pools.now ≤ 4 }
-    ensures asks { Asks result (new_of pools.now (view body.now)) }
-    ensures fits { IfOk result (λ asked. FitsPool pools.now asked) }
-{
-    let task = read_task(alloc, body)?;
-    let Some(place) = place_of(pools, task.pool()) else {
-        return Err(WireFault::NoPool);
-    };
-    if is_built(body) {
-        Ok(Asked {
-            place,
-            request: Request::New(task),
-            bytes: Seq::new(alloc),
-        })
-    } else {
-        Err(WireFault::NotBuilt {
-            what: Unbuilt::Task,
-        })
-    }
-}
 
 fn ask_object(
     alloc: Global,

@@ -1,0 +1,7 @@
+pub mod Names
+pub mod Ranges
+pub mod BotFields
+pub mod BotCalls
+pub mod Outputs
+pub mod Files
+pub mod Reports

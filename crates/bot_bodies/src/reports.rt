@@ -1,0 +1,212 @@
+//! A bot's report on its run.
+ghost use Rattle.std.specs.Prelude.{◌≡◌, ◌≤◌, ◌%◌, ◌^◌, true, IfOk, length, codes};
+ghost use Rattle.std.specs.Option.{option_map_or};
+ghost use Rattle.serde_json.specs.View.{view};
+ghost use Rattle.json_fields.specs.Readings.{Reads, at};
+ghost use Rattle.json_fields.specs.Fields.{required_text_at};
+ghost use Rattle.swarm_model.specs.Fits.{is_name, fits_last};
+ghost use Rattle.bot_bodies.specs.Ranges.{code_of as spec_code_of};
+ghost use Rattle.bot_bodies.specs.Reports.{raw_exit_in, raw_end_in, raw_report_in, end_of, report_of, report_in, is_bare as spec_is_bare, last_of as spec_last_of};
+
+use crate::files::{RawFile, read_files, read_raw_files};
+use crate::names::read_name;
+use crate::outputs::{RawOutput, read_output, read_raw_output};
+use crate::ranges::{code_of, read_whole};
+use dimensions::{Seq, Text};
+use json_fields::{
+    broken, read_flag, read_number, read_optional_number, read_required_text, read_run,
+};
+use serde_json::Value;
+use std::alloc::Global;
+use swarm_model::Last;
+use task_props::{File, PropFault};
+
+/// How a run ended, as it was read.
+#[derive(Clone, Copy)]
+pub(crate) struct RawExit {
+    pub exit_code: Option<i128>,
+    pub duration_ms: i128,
+    pub hard_timeout: bool,
+    pub io_timeout: bool,
+}
+
+/// The end of a run, as it was read.
+#[derive(Drop)]
+pub(crate) struct RawEnd {
+    pub exit: RawExit,
+    pub dropped: i128,
+    pub files: Seq<RawFile>,
+}
+
+/// A report, as it was read.
+#[derive(Drop)]
+pub(crate) struct RawReport {
+    pub bot: Text,
+    pub run: Text,
+    pub output: RawOutput,
+    pub end: RawEnd,
+}
+
+/// The end of a run, checked. The run has ended where there is an exit code.
+#[derive(Drop)]
+pub struct End {
+    pub exit_code: Option<i32>,
+    pub duration_ms: u64,
+    pub hard_timeout: bool,
+    pub io_timeout: bool,
+    pub dropped: u64,
+    pub files: Seq<File>,
+}
+
+/// A report on the run of an id.
+#[derive(Drop)]
+pub struct Report {
+    pub bot: Text,
+    pub run: u32,
+    pub output: Seq<u8>,
+    pub end: End,
+}
+
+#[tactic(auto, unfolding(crate::specs::Reports::raw_exit_in))]
+fn read_raw_exit(alloc: Global, body: &Value) -> Result<RawExit, PropFault>
+    ensures { Reads result (raw_exit_in (view body.now)) }
+{
+    let exit_code = read_optional_number(alloc, body, "exit_code")?;
+    let duration_ms = read_number(alloc, body, "duration_ms")?;
+    let hard_timeout = read_flag(alloc, body, "hard_timeout")?;
+    let io_timeout = read_flag(alloc, body, "io_timeout")?;
+    Ok(RawExit {
+        exit_code,
+        duration_ms,
+        hard_timeout,
+        io_timeout,
+    })
+}
+
+#[tactic(auto, unfolding(crate::specs::Reports::raw_end_in))]
+fn read_raw_end(alloc: Global, body: &Value) -> Result<RawEnd, PropFault>
+    ensures { Reads result (raw_end_in (view body.now)) }
+{
+    let exit = read_raw_exit(alloc, body)?;
+    let dropped = read_number(alloc, body, "dropped")?;
+    let files = read_raw_files(alloc, body)?;
+    Ok(RawEnd {
+        exit,
+        dropped,
+        files,
+    })
+}
+
+// A text that must be there, to be kept.
+fn read_kept_text(alloc: Global, body: &Value, key: &str) -> Result<Text, PropFault>
+    ensures { Reads result (required_text_at key.now (view body.now)) }
+{
+    match read_required_text(alloc, body, key) {
+        Ok(text) => Ok(Text::from_str(alloc, text)?),
+        Err(fault) => Err(fault),
+    }
+}
+
+#[tactic(auto, unfolding(crate::specs::Reports::raw_report_in))]
+fn read_raw_report(alloc: Global, body: &Value) -> Result<RawReport, PropFault>
+    ensures { Reads result (raw_report_in (view body.now)) }
+{
+    let bot = read_kept_text(alloc, body, "bot_id")?;
+    let run = read_kept_text(alloc, body, "task_id")?;
+    let output = read_raw_output(alloc, body)?;
+    let end = read_raw_end(alloc, body)?;
+    Ok(RawReport {
+        bot,
+        run,
+        output,
+        end,
+    })
+}
+
+fn read_code(alloc: Global, code: Option<i128>) -> Result<Option<i32>, PropFault>
+    ensures { Reads result (at (codes "exit_code") (spec_code_of code)) }
+{
+    match code_of(code) {
+        Ok(code) => Ok(code),
+        Err(rule) => Err(broken(alloc, "exit_code", rule)),
+    }
+}
+
+#[tactic(auto, unfolding(crate::specs::Reports::end_of))]
+fn read_end(alloc: Global, raw: RawEnd) -> Result<End, PropFault>
+    ensures exact { Reads result (end_of raw) }
+    ensures duration { IfOk result (λ end. end.duration_ms ≤ 2 ^ 40) }
+    ensures dropped { IfOk result (λ end. end.dropped ≤ 2 ^ 53) }
+{
+    let exit_code = read_code(alloc, raw.exit.exit_code)?;
+    let duration_ms = read_whole(alloc, "duration_ms", 1 << 40, raw.exit.duration_ms)?;
+    let dropped = read_whole(alloc, "dropped", 1 << 53, raw.dropped)?;
+    let files = read_files(alloc, raw.files.as_slice())?;
+    Ok(End {
+        exit_code,
+        duration_ms,
+        hard_timeout: raw.exit.hard_timeout,
+        io_timeout: raw.exit.io_timeout,
+        dropped,
+        files,
+    })
+}
+
+#[tactic(auto, unfolding(crate::specs::Reports::report_of))]
+fn check_report(alloc: Global, raw: RawReport) -> Result<Report, PropFault>
+    ensures exact { Reads result (report_of raw) }
+    ensures named { IfOk result (λ report. is_name report.bot ≡ true) }
+    ensures try_no { IfOk result (λ report. report.run % 16 ≡ 1) }
+    ensures duration { IfOk result (λ report. report.end.duration_ms ≤ 2 ^ 40) }
+    ensures dropped { IfOk result (λ report. report.end.dropped ≤ 2 ^ 53) }
+{
+    let bot = read_name(alloc, "bot_id", raw.bot.as_str())?;
+    let run = read_run(alloc, raw.run.as_str())?;
+    let output = read_output(alloc, &raw.output)?;
+    let end = read_end(alloc, raw.end)?;
+    Ok(Report {
+        bot,
+        run,
+        output,
+        end,
+    })
+}
+
+/// The report in a body.
+#[tactic(auto, unfolding(crate::specs::Reports::report_in))]
+pub fn read_report(alloc: Global, body: &Value) -> Result<Report, PropFault>
+    ensures exact { Reads result (report_in (view body.now)) }
+    ensures named { IfOk result (λ report. is_name report.bot ≡ true) }
+    ensures try_no { IfOk result (λ report. report.run % 16 ≡ 1) }
+    ensures duration { IfOk result (λ report. report.end.duration_ms ≤ 2 ^ 40) }
+    ensures dropped { IfOk result (λ report. report.end.dropped ≤ 2 ^ 53) }
+{
+    let raw = read_raw_report(alloc, body)?;
+    check_report(alloc, raw)
+}
+
+/// Whether a report has no output and no files.
+pub fn is_bare(report: &Report) -> bool
+    ensures { result ≡ spec_is_bare report.now }
+{
+    report.output.as_slice().is_empty() && report.end.files.as_slice().is_empty()
+}
+
+/// How the run ended, where it has.
+pub fn last_of(end: End) -> Option<Last>
+    requires duration { end.duration_ms ≤ 2 ^ 40 }
+    requires dropped { end.dropped ≤ 2 ^ 53 }
+    requires no_files { length end.files ≡ 0 }
+    ensures is { result ≡ spec_last_of end }
+    ensures fits { option_map_or fits_last result true ≡ true }
+{
+    let exit_code = end.exit_code?;
+    Some(Last {
+        exit_code,
+        duration_ms: end.duration_ms,
+        hard_timeout: end.hard_timeout,
+        io_timeout: end.io_timeout,
+        dropped: end.dropped,
+        files: end.files,
+    })
+}

@@ -1,0 +1,49 @@
+-- The ids of tasks and of their runs.
+use Rattle.std.specs.Prelude.{ℕ, ◌+◌, ◌-◌, ◌*◌, ◌/◌, ◌%◌, ◌==◌, ◌&&◌, ◌||◌, nat_le, not, Bool, false, List, ◌++◌, length, slice_index, if◌then◌else◌, Result, Ok, Err, codes}
+use Rattle.std.specs.List.{list_all}
+use Rattle.std.specs.Char.{is_ascii_digit}
+use Rattle.std.specs.Str.Parse.{digits_value}
+use Rattle.std.specs.Fmt.{digits}
+use Rattle.task_props.specs.declared.prop_rule.PropRule.{PropRule}
+use Rattle.task_props.specs.declared.prop_rule.PropRule.TheVariants.{Grammar}
+
+-- ---- shown
+
+-- the task and the place of its pool as one number in lower-case hexadecimal, then 0
+unfoldable pub task_id : ℕ → ℕ → List ℕ
+task_id place task = digits 16 false (place * 262144 + task) ++ codes "0"
+
+-- the same of a run's task, then the number of its try
+unfoldable pub run_id : ℕ → ℕ × ℕ → List ℕ
+run_id place run = digits 16 false (place * 262144 + run.0) ++ digits 16 false run.1
+
+-- ---- the parts of an id
+
+-- the last digit is the number of the try, where 0 names the task itself
+abbrev pub try_of_id : ℕ → ℕ
+try_of_id id = id % 16
+
+-- the digits before it write the number of the place and the task, which is counted from 1
+abbrev pub place_of_id : ℕ → ℕ
+place_of_id id = (id / 16 - 1) / 262144
+
+abbrev pub task_of_id : ℕ → ℕ
+task_of_id id = (id / 16 - 1) % 262144 + 1
+
+-- ---- read
+
+-- a hexadecimal digit in lower case
+abbrev pub is_hex_digit : ℕ → Bool
+is_hex_digit c = is_ascii_digit c || (nat_le 97 c && nat_le c 102)
+
+-- 2 to 7 such digits, the first not 0
+abbrev pub has_id_form : List ℕ → Bool
+has_id_form s = (nat_le 2 (length s) && nat_le (length s) 7) && (list_all is_hex_digit s && not (slice_index s 0 == 48))
+
+-- the number that the digits write, where the last one is 0 or 1
+unfoldable pub id_of : List ℕ → Result ℕ PropRule
+id_of s = if has_id_form s && nat_le (digits_value 16 s % 16) 1 then Ok (digits_value 16 s) else Err Grammar
+
+-- the same of a run, where the last one is 1
+unfoldable pub run_of : List ℕ → Result ℕ PropRule
+run_of s = if has_id_form s && (digits_value 16 s % 16 == 1) then Ok (digits_value 16 s) else Err Grammar

@@ -1,6 +1,0 @@
-use Rattle.swarm_wire.proofs.Fitting.{new_fits}
-use Rattle.swarm_wire.proofs.request.ask_new.Goals as goal
-
-pub returns-then-is_built-clause-fits : goal.returns-then-is_built-clause-fits
-returns-then-is_built-clause-fits c =
-    new_fits c.args.pools.now c.in-Some.place c.in_ok-task.task c.in_ok-task.ensures.checked (rw c.pool.ensures at c.in-Some.ensures.named)

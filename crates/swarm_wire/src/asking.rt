@@ -1,0 +1,167 @@
+//! What was read of a body, asked of its pool.
+ghost use Rattle.std.specs.Prelude.{◌≡◌, ◌≤◌, IfOk, Result, length};
+ghost use Rattle.serde_json.specs.View.{view};
+ghost use Rattle.task_props.specs.declared.prop_fault.PropFault.{PropFault};
+ghost use Rattle.json_fields.specs.Readings.{Reads};
+ghost use Rattle.bot_bodies.specs.declared.pool_request.PoolRequest.{PoolRequest as SpecPoolRequest};
+ghost use Rattle.bot_bodies.specs.BotCalls.{FitsNamed};
+ghost use Rattle.swarm_wire.specs.Asking.{Asks, FitsPool, new_of, cancel_of, result_of, count_of, named_of, update_of};
+
+use crate::pools::{place_of, pool_at};
+use crate::{Asked, WireFault};
+use bot_bodies::{PoolRequest, is_bare, last_of, read_report};
+use dimensions::Seq;
+use json_fields::{task_of_id, try_of_id};
+use serde_json::Value;
+use std::alloc::Global;
+use swarm_model::{PoolSettings, Request, Unbuilt};
+use task_bodies::{is_built, read_cancel, read_count, read_task, read_task_id};
+use task_props::PropFault;
+
+/// The task in a body, asked of the pool of its dimensions.
+#[tactic(auto, unfolding(crate::specs::Asking::new_of))]
+pub(crate) fn ask_new(
+    alloc: Global,
+    pools: &[PoolSettings],
+    body: &Value,
+) -> Result<Asked, WireFault>
+    requires few { length pools.now ≤ 4 }
+    ensures asks { Asks result (new_of pools.now (view body.now)) }
+    ensures fits { IfOk result (λ asked. FitsPool pools.now asked) }
+{
+    let task = read_task(alloc, body)?;
+    let Some(place) = place_of(pools, task.pool()) else {
+        return Err(WireFault::NoPool);
+    };
+    if is_built(body) {
+        Ok(Asked {
+            place,
+            request: Request::New(task),
+            bytes: Seq::new(alloc),
+        })
+    } else {
+        Err(WireFault::NotBuilt {
+            what: Unbuilt::Task,
+        })
+    }
+}
+
+/// That a task come to an end, asked of the pool at the place of its id.
+#[tactic(auto, unfolding(crate::specs::Asking::cancel_of))]
+pub(crate) fn ask_cancel(
+    alloc: Global,
+    pools: &[PoolSettings],
+    body: &Value,
+) -> Result<Asked, WireFault>
+    ensures asks { Asks result (cancel_of pools.now (view body.now)) }
+    ensures fits { IfOk result (λ asked. FitsPool pools.now asked) }
+{
+    let (id, kill) = read_cancel(alloc, body)?;
+    let place = pool_at(pools, id)?;
+    Ok(Asked {
+        place,
+        request: Request::Cancel {
+            task: task_of_id(id),
+            try_no: try_of_id(id),
+            kill,
+        },
+        bytes: Seq::new(alloc),
+    })
+}
+
+/// What a task has come to, asked of the pool at the place of its id.
+#[tactic(auto, unfolding(crate::specs::Asking::result_of))]
+pub(crate) fn ask_result(
+    alloc: Global,
+    pools: &[PoolSettings],
+    body: &Value,
+) -> Result<Asked, WireFault>
+    ensures asks { Asks result (result_of pools.now (view body.now)) }
+    ensures fits { IfOk result (λ asked. FitsPool pools.now asked) }
+{
+    let id = read_task_id(alloc, body)?;
+    let place = pool_at(pools, id)?;
+    Ok(Asked {
+        place,
+        request: Request::Result {
+            task: task_of_id(id),
+            try_no: try_of_id(id),
+        },
+        bytes: Seq::new(alloc),
+    })
+}
+
+/// How many tasks are in a state, asked of the pool of a name.
+#[tactic(auto, unfolding(crate::specs::Asking::count_of))]
+pub(crate) fn ask_count(
+    alloc: Global,
+    pools: &[PoolSettings],
+    body: &Value,
+) -> Result<Asked, WireFault>
+    requires few { length pools.now ≤ 4 }
+    ensures asks { Asks result (count_of pools.now (view body.now)) }
+    ensures fits { IfOk result (λ asked. FitsPool pools.now asked) }
+{
+    let (pool, state) = read_count(alloc, body)?;
+    let Some(place) = place_of(pools, pool) else {
+        return Err(WireFault::NoPool);
+    };
+    Ok(Asked {
+        place,
+        request: Request::Count { state },
+        bytes: Seq::new(alloc),
+    })
+}
+
+/// A request of a bot, asked of the pool that it names.
+#[tactic(auto, unfolding(crate::specs::Asking::named_of))]
+pub(crate) fn ask_named(
+    alloc: Global,
+    pools: &[PoolSettings],
+    read: Result<PoolRequest, PropFault>,
+) -> Result<Asked, WireFault>
+    requires few { length pools.now ≤ 4 }
+    requires fits { IfOk read FitsNamed }
+    ensures asks { (reading : Result SpecPoolRequest PropFault) → Reads read reading → Asks result (named_of pools.now reading) }
+    ensures fits { IfOk result (λ asked. FitsPool pools.now asked) }
+{
+    let named = read?;
+    let Some(place) = place_of(pools, named.pool.as_str()) else {
+        return Err(WireFault::NoPool);
+    };
+    Ok(Asked {
+        place,
+        request: named.request,
+        bytes: Seq::new(alloc),
+    })
+}
+
+/// The report of a bot, asked of the pool at the place of its run's id.
+#[tactic(auto, unfolding(crate::specs::Asking::update_of))]
+pub(crate) fn ask_update(
+    alloc: Global,
+    pools: &[PoolSettings],
+    body: &Value,
+) -> Result<Asked, WireFault>
+    ensures asks { Asks result (update_of pools.now (view body.now)) }
+    ensures fits { IfOk result (λ asked. FitsPool pools.now asked) }
+{
+    let report = read_report(alloc, body)?;
+    let place = pool_at(pools, report.run)?;
+    if !is_bare(&report) {
+        return Err(WireFault::NotBuilt {
+            what: Unbuilt::Update,
+        });
+    }
+    Ok(Asked {
+        place,
+        request: Request::Update {
+            bot: report.bot,
+            task: task_of_id(report.run),
+            try_no: try_of_id(report.run),
+            chunk: None,
+            last: last_of(report.end),
+        },
+        bytes: Seq::new(alloc),
+    })
+}

@@ -1,0 +1,5 @@
+pub mod SliceProperties
+pub mod Tasks
+pub mod Cancels
+pub mod Results
+pub mod Counts

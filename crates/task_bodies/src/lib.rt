@@ -1,0 +1,25 @@
+//! The bodies of the calls of clients, in JSON (RFC 8259) with the names of `swarming.v2`.
+//!
+//! [`read_task`] reads the request for a task, and [`is_built`] says whether all of it is served;
+//! [`read_cancel`], [`read_task_id`] and [`read_count`] read the bodies of CancelTask, GetResult and
+//! CountTasks. Each gives what the body says or the first rule that it breaks, exactly as its
+//! definition says, but for want of memory: `missing`, `type` and `unknown` are tried for all fields
+//! in their order, then the other rules. `specs/` has a module a call: `Tasks`, which reads its
+//! `SliceProperties`, `Cancels`, `Results` and `Counts`.
+//!
+//! Fields, lists and ids are read by `json_fields`, and a task is checked by `task_checks`; the
+//! crate stands on those two, on `swarm_model`, `task_props` and `dimensions`, and on `serde_json`.
+#![tactic(auto)]
+
+mod cancels;
+mod counts;
+mod results;
+mod slice_properties;
+mod tasks;
+mod unserved;
+
+pub use cancels::read_cancel;
+pub use counts::read_count;
+pub use results::read_task_id;
+pub use tasks::read_task;
+pub use unserved::is_built;
