@@ -1,3 +1,4 @@
+pub mod Bytes
 mod Items
 mod Lists
 mod SliceParts

@@ -5,6 +5,7 @@ ghost use Rattle.std.specs.Char.{is_ascii_control};
 ghost use Rattle.task_props.specs.FieldRules.{name_rule, range_rule, priority_rule, meant_tolerance, tolerance_rule, expiration_rule, timeout_rule, grace_rule, is_uuid_byte, uuid_rule, count_rule, text_rule, is_nul, first_broken_text, broken_command, field_of, broken_dimensions};
 
 use dimensions::{DimRule, DimSet, Text};
+use memchr::memchr;
 use task_props::{PropRule, SliceField};
 
 pub(crate) const HIGHEST_PRIORITY: u32 = 255;
@@ -27,10 +28,11 @@ fn has_control(text: &str) -> bool
     text.as_bytes().iter().any(|byte| byte.is_ascii_control())
 }
 
+#[tactic(auto, using(crate::proofs::Bytes::any_passes))]
 pub(crate) fn has_nul(text: &str) -> bool
     ensures { result ≡ list_any is_nul text.now }
 {
-    text.as_bytes().iter().any(|byte| *byte == 0)
+    memchr(0, text.as_bytes()).is_some()
 }
 
 pub fn name_rule(name: &str) -> Option<PropRule>
