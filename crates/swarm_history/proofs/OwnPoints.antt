@@ -1,5 +1,5 @@
 -- The points of a log that nobody shares.
-use Rattle.std.proofs.Common.{◌≡◌, ℕ, Bool, true, false, List, [], ◌++◌, length, refl, Option, Some, None, subst, sym, ap, ◌∙◌, append-nil}
+use Rattle.std.proofs.Common.{◌≡◌, ℕ, Bool, true, false, List, [], ◌++◌, length, refl, Option, Some, None, Ok, Err, subst, sym, ap, ◌∙◌, append-nil}
 use Rattle.std.specs.Prelude.{IsSomeAnd}
 use Rattle.std.specs.Bool.{OnTrue}
 use Rattle.std.specs.Option.{option_or, option_to_list}
@@ -7,22 +7,20 @@ use Rattle.std.proofs.lemmas.List.{append_assoc}
 use Rattle.std.proofs.lemmas.List.Sums.{fold-append}
 use Rattle.swarm_model.specs.declared.pool_state.PoolState.{PoolState}
 use Rattle.swarm_model.specs.declared.entry.Entry.{Entry}
-use Rattle.swarm_model.specs.declared.request.Request.{Request}
 use Rattle.swarm_model.specs.declared.reply.Reply.{Reply}
 use Rattle.swarm_model.specs.declared.reply.Reply.TheVariants as reply
 use Rattle.swarm_model.specs.declared.rule.Rule.TheVariants as rule
-use Rattle.swarm_model.specs.Answers.{answer}
 use Rattle.swarm_model.specs.Deadlines.{due_entry}
 use Rattle.swarm_model.specs.Effects.{opening, after}
 use Rattle.swarm_model.specs.History.{replay, IsLegal, moment_of}
-use Rattle.swarm_model.specs.Points.{is_ahead, IsPoint, LacksRoom, next_entry}
+use Rattle.swarm_model.specs.Points.{is_ahead, Call, answer_to, LacksRoom, next_entry}
 use Rattle.swarm_model.specs.MachineState.{MachineState, IsHistory}
 use Rattle.swarm_model.specs.Soundness.{IsSound}
 use Rattle.swarm_laws.proofs.Sound.{sound_always}
 use Rattle.swarm_model.specs.declared.pool_settings.PoolSettings.{PoolSettings}
 use Rattle.swarm_history.specs.declared.door.Answered.{Answered}
 use Rattle.swarm_history.specs.declared.door.CallFault.{CallFault}
-use Rattle.swarm_history.specs.Doors.{Writer, ArePieces, is_log_full, IsAnsweredCall, IsStoppedCall}
+use Rattle.swarm_history.specs.Doors.{ArePieces, is_log_full, IsPoolCall}
 use Rattle.swarm_history.proofs.Refusals.{refused_adds_nothing}
 use Rattle.swarm_history.specs.Settling.{Settles, Responds, IsOwnPoint, IsOwnStop}
 
@@ -31,18 +29,14 @@ pub sound_history : (kept : MachineState) → IsHistory kept → IsSound kept.po
 sound_history kept h = subst IsSound (sym h.replayed) (sound_always kept.pool.settings kept.log h.legal.caused)
 
 -- a call of one who has seen more than there is
-pub early_point : (start : PoolState) (pass : ℕ) (log : List Entry) (who : List ℕ) (moment : ℕ) (ahead : Option ℕ) (request : Request) →
-    IsLegal start log → is_ahead (length log) ahead ≡ true → IsOwnPoint start pass log log who moment ahead request (reply.No (rule.FrontAhead (length log)))
-early_point start pass log who moment ahead request legal is =
+pub early_point : (start : PoolState) (call : Call) (log : List Entry) →
+    IsLegal start log → is_ahead (length log) call.after ≡ true → IsOwnPoint start call log log (reply.No (rule.FrontAhead (length log)))
+early_point start call log legal is =
     record {
+      growth = record { others = []; settled = []; own = None };
       point = record {
-        others = [];
-        settled = [];
-        own = None;
-        legal = legal;
-        parts = sym (append-nil log);
-        by_others = tt;
-        acts = rw (append-nil log, is) (record { reply = refl; settled_is = refl; own_is = refl });
+        grows = record { legal = legal; parts = sym (append-nil log); by_others = tt };
+        finds = rw (append-nil log, is) (record { reply = refl; settled_is = refl; own_is = refl });
       };
       no_others = refl;
     }
@@ -58,13 +52,17 @@ pub own_next : (full : Bool) (P : Entry → Type 0) (due own : Option Entry) →
 own_next full P due own none h = rw none h
 
 -- A call that settled what was due by a moment, in part or whole.
-module _ (pass : ℕ) (who : List ℕ) (moment : ℕ) (ahead : Option ℕ) (request : Request) (at : ℕ) (old mid : MachineState) (history : IsHistory old)
-    (behind : is_ahead (length old.log) ahead ≡ false) (reckoned : at ≡ moment_of old.pool moment) (s : Settles pass at old mid) where
+module _ (call : Call) (at : ℕ) (old mid : MachineState) (history : IsHistory old)
+    (behind : is_ahead (length old.log) call.after ≡ false) (reckoned : at ≡ moment_of old.pool call.moment) (s : Settles call.pass at old mid) where
   abbrev start : PoolState
   start = opening old.pool.settings
 
-  moment_is : at ≡ moment_of (replay start old.log) moment
-  moment_is = reckoned ∙ ap (λ (p : PoolState). moment_of p moment) history.replayed
+  -- the call at its moment
+  abbrev taken : Call
+  taken = record call { moment = at }
+
+  moment_is : at ≡ moment_of (replay start old.log) call.moment
+  moment_is = reckoned ∙ ap (λ (p : PoolState). moment_of p call.moment) history.replayed
 
   -- the rows are those of the log
   rows : mid.pool ≡ replay start mid.log
@@ -73,18 +71,18 @@ module _ (pass : ℕ) (who : List ℕ) (moment : ℕ) (ahead : Option ℕ) (requ
   rows_settled : mid.pool ≡ replay (replay start old.log) s.settled
   rows_settled = rows ∙ ap (replay start) s.log ∙ fold-append after start old.log s.settled
 
-  pub settled_point : (new : MachineState) → due_entry mid.pool at pass ≡ None → (answered : Reply) → Responds pass who at request mid new answered →
-      IsOwnPoint start pass old.log new.log who moment ahead request answered
+  pub settled_point : (new : MachineState) → due_entry mid.pool at call.pass ≡ None → (answered : Reply) → Responds call.pass call.caller at call.request mid new answered →
+      IsOwnPoint start call old.log new.log answered
   settled_point new none answered a =
       record {
+        growth = record { others = []; settled = s.settled; own = (answer_to mid.pool taken).entry };
         point = record {
-          others = [];
-          settled = s.settled;
-          own = (answer mid.pool who at pass request).entry;
-          legal = subst (λ x. IsLegal (opening x) new.log) (a.settings ∙ s.settings) a.history.legal;
-          parts = a.log ∙ ap (λ (l : List Entry). l ++ option_to_list (answer mid.pool who at pass request).entry) s.log ∙ append_assoc old.log s.settled _;
-          by_others = tt;
-          acts = rw (append-nil old.log, behind, ← moment_is) (record {
+          grows = record {
+            legal = subst (λ x. IsLegal (opening x) new.log) (a.settings ∙ s.settings) a.history.legal;
+            parts = a.log ∙ ap (λ (l : List Entry). l ++ option_to_list (answer_to mid.pool taken).entry) s.log ∙ append_assoc old.log s.settled _;
+            by_others = tt;
+          };
+          finds = rw (append-nil old.log, behind, ← moment_is) (record {
             due_first = s.due_first;
             nothing_due = rw (← rows_settled) none;
             reply = rw (← rows_settled) a.reply;
@@ -95,16 +93,18 @@ module _ (pass : ℕ) (who : List ℕ) (moment : ℕ) (ahead : Option ℕ) (requ
       }
 
   -- it stopped where an entry was to be added
-  pub settled_stop : (log : List Entry) (full : Bool) → log ≡ mid.log → OnTrue full (LacksRoom mid.pool mid.log (next_entry mid.pool pass who at request)) →
-      IsOwnStop start pass old.log log who moment ahead request full
+  pub settled_stop : (log : List Entry) (full : Bool) → log ≡ mid.log → OnTrue full (LacksRoom mid.pool mid.log (next_entry mid.pool taken)) →
+      IsOwnStop start call old.log log full
   settled_stop log full same lacks =
       record {
+        growth = record { others = []; settled = s.settled; own = None };
         stop = record {
-          others = [];
-          settled = s.settled;
-          legal = rw same (subst (λ x. IsLegal (opening x) mid.log) s.settings s.history.legal);
-          parts = same ∙ s.log;
-          by_others = tt;
+          grows = record {
+            legal = rw same (subst (λ x. IsLegal (opening x) mid.log) s.settings s.history.legal);
+            parts = same ∙ s.log ∙ ap (λ (l : List Entry). old.log ++ l) (sym (append-nil s.settled));
+            by_others = tt;
+          };
+          no_own = refl;
           not_ahead = rw (append-nil old.log) behind;
           due_first = rw (append-nil old.log, ← moment_is) s.due_first;
           full = rw (append-nil old.log, ← moment_is, same, ← rows, ← s.settings) lacks;
@@ -113,12 +113,14 @@ module _ (pass : ℕ) (who : List ℕ) (moment : ℕ) (ahead : Option ℕ) (requ
       }
 
 -- a request was answered with no other's entries before it, which serves a door that writes alone and any other
-pub answered_call : {pool : PoolSettings} {writer : Writer} {place : ℕ} {old new : List Entry} {who : List ℕ} {moment : ℕ} {ahead : Option ℕ} {request : Request} {answered : Answered}
-    → IsOwnPoint (opening pool) (writer.numbers place) old new who moment ahead request answered.reply → answered.front ≡ length new → ArePieces answered.reply answered.pieces
-    → IsAnsweredCall pool writer place old new who moment ahead request answered
-answered_call p front pieces = record { point = p.point; no_others = λ _. p.no_others; refused = λ r. refused_adds_nothing p.point r; front = front; pieces = pieces }
+pub answered_call : {pool : PoolSettings} {alone : Bool} {call : Call} {old new : List Entry} {answered : Answered}
+    → (p : IsOwnPoint (opening pool) call old new answered.reply) → answered.front ≡ length new → ArePieces answered.reply answered.pieces
+    → IsPoolCall pool alone call old new p.growth (Ok answered)
+answered_call p front pieces = record {
+  ends = record { point = p.point; refused = λ r. refused_adds_nothing p.point r; front = front; pieces = pieces };
+  no_others = λ _. p.no_others;
+}
 
-pub stopped_call : {pool : PoolSettings} {writer : Writer} {place : ℕ} {old new : List Entry} {who : List ℕ} {moment : ℕ} {ahead : Option ℕ} {request : Request} {fault : CallFault}
-    → IsOwnStop (opening pool) (writer.numbers place) old new who moment ahead request (is_log_full fault)
-    → IsStoppedCall pool writer place old new who moment ahead request fault
-stopped_call p = record { stop = p.stop; no_others = λ _. p.no_others }
+pub stopped_call : {pool : PoolSettings} {alone : Bool} {call : Call} {old new : List Entry} {fault : CallFault}
+    → (p : IsOwnStop (opening pool) call old new (is_log_full fault)) → IsPoolCall pool alone call old new p.growth (Err fault)
+stopped_call p = record { ends = p.stop; no_others = λ _. p.no_others }

@@ -7,7 +7,7 @@ use Rattle.swarm_model.specs.declared.request.Request.{Request}
 use Rattle.swarm_model.specs.declared.reply.Reply.{Reply}
 use Rattle.swarm_model.specs.declared.entry.Entry.{Entry}
 use Rattle.swarm_model.specs.Answers.{entry_at}
-use Rattle.swarm_model.specs.Points.{is_ahead, IsPoint}
+use Rattle.swarm_model.specs.Points.{is_ahead, Call, Growth, IsPoint}
 use Rattle.swarm_model.specs.History.{replay, moment_of}
 use Rattle.swarm_laws.proofs.Refusals.{quiet}
 use Rattle.swarm_history.specs.Doors.{IsRefusal}
@@ -16,9 +16,10 @@ split : {A B C : Type 0} (b : Bool) → MatchBool b A B → (A → C) → (B →
 split true m f g = f m
 split false m f g = g m
 
-pub refused_adds_nothing : {start : PoolState} {pass : ℕ} {old new : List Entry} {who : List ℕ} {moment : ℕ} {after : Option ℕ} {request : Request} {answered : Reply}
-    → (p : IsPoint start pass old new who moment after request answered) → IsRefusal answered → p.own ≡ None
-refused_adds_nothing {start = start} {pass = pass} {old = old} {who = who} {moment = moment} {after = after} {request = request} p r =
-    let at = replay start (old ++ p.others) in
-    split (is_ahead (length (old ++ p.others)) after) p.acts (λ early. early.own_is)
-    (λ served. sym served.entry ∙ ap (option_map (entry_at (moment_of at moment) pass)) (quiet (replay at p.settled) who (moment_of at moment) request r.0 (served.reply ∙ r.1)))
+pub refused_adds_nothing : {start : PoolState} {call : Call} {old new : List Entry} {growth : Growth} {answered : Reply}
+    → IsPoint start call old new growth answered → IsRefusal answered → growth.own ≡ None
+refused_adds_nothing {start = start} {call = call} {old = old} {growth = growth} p r =
+    let at = replay start (old ++ growth.others) in
+    let moment = moment_of at call.moment in
+    split (is_ahead (length (old ++ growth.others)) call.after) p.finds (λ early. early.own_is)
+    (λ served. sym served.entry ∙ ap (option_map (entry_at moment call.pass)) (quiet (replay at growth.settled) call.caller moment call.request r.0 (served.reply ∙ r.1)))

@@ -1,14 +1,13 @@
 -- What a door tells, and what a call does to it.
-use Rattle.std.specs.Prelude.{◌≡◌, ◌≢◌, ℕ, Bool, true, false, ◌+◌, ◌≤◌, List, [], length, slice_get, Option, None, Result, Ok, Err, IsSomeAnd, IsTrue}
+use Rattle.std.specs.Prelude.{◌≡◌, ◌≢◌, ℕ, Bool, true, false, ◌+◌, ◌≤◌, List, [], length, slice_get, None, Result, Ok, Err, IsSomeAnd, IsTrue}
 use Rattle.swarm_model.specs.declared.pool_settings.Settings.{Settings}
 use Rattle.swarm_model.specs.declared.pool_settings.PoolSettings.{PoolSettings}
 use Rattle.swarm_model.specs.declared.entry.Entry.{Entry}
-use Rattle.swarm_model.specs.declared.request.Request.{Request}
 use Rattle.swarm_model.specs.declared.reply.Reply.{Reply}
 use Rattle.swarm_model.specs.declared.reply.Reply.TheVariants as reply
 use Rattle.swarm_model.specs.declared.rule.Rule.{Rule}
 use Rattle.swarm_model.specs.Effects.{opening}
-use Rattle.swarm_model.specs.Points.{IsPoint, IsStopped}
+use Rattle.swarm_model.specs.Points.{Call, Growth, IsPoint, IsStopped}
 use Rattle.swarm_history.specs.declared.door.CallFault.{CallFault}
 use Rattle.swarm_history.specs.declared.door.CallFault.TheVariants as fault
 use Rattle.swarm_history.specs.declared.door.Answered.{Answered}
@@ -47,28 +46,27 @@ is_log_full fault.LogFull = true
 abbrev pub IsRefusal : Reply → Type 0
 IsRefusal answered = (why : Rule) × (answered ≡ reply.No why)
 
--- a request was answered at its point of the log that grew from `old` to `new`: a door that writes alone adds nothing before it, and a refusal no entry of its own
-pub record IsAnsweredCall (pool : PoolSettings) (writer : Writer) (place : ℕ) (old new : List Entry) (who : List ℕ) (moment : ℕ) (after : Option ℕ) (request : Request) (answered : Answered) : Type 0 where
-  pub point : IsPoint (opening pool) (writer.numbers place) old new who moment after request answered.reply
-  pub no_others : IsTrue writer.alone → point.others ≡ []
-  pub refused : IsRefusal answered.reply → point.own ≡ None
+-- a request was answered at its point of the log; a refusal adds no entry of its own
+pub record IsAnsweredCall (pool : PoolSettings) (call : Call) (old new : List Entry) (growth : Growth) (answered : Answered) : Type 0 where
+  pub point : IsPoint (opening pool) call old new growth answered.reply
+  pub refused : IsRefusal answered.reply → growth.own ≡ None
   pub front : answered.front ≡ length new
   pub pieces : ArePieces answered.reply answered.pieces
 
--- a call stopped, before which a door that writes alone adds nothing
-pub record IsStoppedCall (pool : PoolSettings) (writer : Writer) (place : ℕ) (old new : List Entry) (who : List ℕ) (moment : ℕ) (after : Option ℕ) (request : Request) (fault : CallFault) : Type 0 where
-  pub stop : IsStopped (opening pool) (writer.numbers place) old new who moment after request (is_log_full fault)
-  pub no_others : IsTrue writer.alone → stop.others ≡ []
-
 -- a request was answered, or its call stopped
-abbrev pub IsPoolCall : PoolSettings → Writer → ℕ → List Entry → List Entry → List ℕ → ℕ → Option ℕ → Request → Result Answered CallFault → Type 0
-IsPoolCall pool writer place old new who moment after request (Ok answered) = IsAnsweredCall pool writer place old new who moment after request answered
-IsPoolCall pool writer place old new who moment after request (Err fault) = IsStoppedCall pool writer place old new who moment after request fault
+abbrev pub EndsAs : PoolSettings → Call → List Entry → List Entry → Growth → Result Answered CallFault → Type 0
+EndsAs pool call old new growth (Ok answered) = IsAnsweredCall pool call old new growth answered
+EndsAs pool call old new growth (Err fault) = IsStopped (opening pool) call old new growth (is_log_full fault)
+
+-- one call of a pool, before which a door that writes alone adds nothing
+pub record IsPoolCall (pool : PoolSettings) (alone : Bool) (call : Call) (old new : List Entry) (growth : Growth) (result : Result Answered CallFault) : Type 0 where
+  pub ends : EndsAs pool call old new growth result
+  pub no_others : IsTrue alone → growth.others ≡ []
 
 -- one call, of the pool at a place
-pub record IsCall (old new : DoorState) (place : ℕ) (moment : ℕ) (after : Option ℕ) (who : List ℕ) (request : Request) (result : Result Answered CallFault) : Type 0 where
-  pub done : IsSomeAnd (slice_get old.settings.pools place)
-      (λ pool. IsPoolCall pool old.writer place (old.seen place) (new.seen place) who moment after request result)
+pub record IsCall (old new : DoorState) (place : ℕ) (call : Call) (result : Result Answered CallFault) : Type 0 where
+  pub growth : Growth
+  pub done : IsSomeAnd (slice_get old.settings.pools place) (λ pool. IsPoolCall pool old.writer.alone call (old.seen place) (new.seen place) growth result)
   pub elsewhere : Elsewhere place old.seen new.seen
   pub settings : new.settings ≡ old.settings
   pub writer : new.writer ≡ old.writer

@@ -1,5 +1,5 @@
 -- How a log grows in one call.
-use Rattle.std.specs.Prelude.{◌≡◌, ℕ, Bool, ◌≤◌, List, [], ◌∷◌, ◌++◌, Option}
+use Rattle.std.specs.Prelude.{◌≡◌, ℕ, Bool, ◌≤◌, List, [], ◌∷◌, ◌++◌}
 use Rattle.std.specs.Option.{option_to_list}
 use Rattle.std.specs.List.{AllByRecursion}
 use Rattle.swarm_model.specs.declared.pool_state.PoolState.{PoolState}
@@ -8,7 +8,7 @@ use Rattle.swarm_model.specs.declared.request.Request.{Request}
 use Rattle.swarm_model.specs.declared.reply.Reply.{Reply}
 use Rattle.swarm_model.specs.Answers.{answer}
 use Rattle.swarm_model.specs.MachineState.{MachineState, IsHistory}
-use Rattle.swarm_model.specs.Points.{IsSettled, IsPoint, IsStopped}
+use Rattle.swarm_model.specs.Points.{Call, Growth, IsSettled, IsPoint, IsStopped}
 
 -- nothing is added
 pub record Stays (old new : MachineState) : Type 0 where
@@ -39,11 +39,13 @@ pub record Responds (pass : ℕ) (who : List ℕ) (moment : ℕ) (request : Requ
   pub history : IsHistory new
 
 -- a point before which no other wrote
-pub record IsOwnPoint (start : PoolState) (pass : ℕ) (old new : List Entry) (who : List ℕ) (moment : ℕ) (after : Option ℕ) (request : Request) (answered : Reply) : Type 0 where
-  pub point : IsPoint start pass old new who moment after request answered
-  pub no_others : point.others ≡ []
+pub record IsOwnPoint (start : PoolState) (call : Call) (old new : List Entry) (answered : Reply) : Type 0 where
+  pub growth : Growth
+  pub point : IsPoint start call old new growth answered
+  pub no_others : growth.others ≡ []
 
 -- a call that stopped, before which no other wrote
-pub record IsOwnStop (start : PoolState) (pass : ℕ) (old new : List Entry) (who : List ℕ) (moment : ℕ) (after : Option ℕ) (request : Request) (is_full : Bool) : Type 0 where
-  pub stop : IsStopped start pass old new who moment after request is_full
-  pub no_others : stop.others ≡ []
+pub record IsOwnStop (start : PoolState) (call : Call) (old new : List Entry) (is_full : Bool) : Type 0 where
+  pub growth : Growth
+  pub stop : IsStopped start call old new growth is_full
+  pub no_others : growth.others ≡ []

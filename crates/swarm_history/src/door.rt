@@ -43,5 +43,6 @@ pub trait Door {
         requires place { place < length (state self.old).settings.pools }
         requires fits { IsSomeAnd (slice_get (state self.old).settings.pools place) (λ pool. IsTrue (fits pool request.now)) }
         requires calls { (state self.old).calls < 2 ^ 40 }
-        ensures { IsCall (state self.old) (state self.new) place moment after who.now request.now result };
+        ensures { IsCall (state self.old) (state self.new) place
+            (record { pass = (state self.old).writer.numbers place; caller = who.now; moment = moment; after = after; request = request.now }) result };
 }

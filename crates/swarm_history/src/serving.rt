@@ -97,8 +97,8 @@ pub(crate) fn serve<M: Machine>(
 ) -> Result<Reply, CallFault>
     requires { IsTrue (fits (M.kept machine.old).pool.settings request.now) }
     ensures settings { (M.kept machine.new).pool.settings ≡ (M.kept machine.old).pool.settings }
-    ensures point { IfOk result (IsOwnPoint (opening (M.kept machine.old).pool.settings) pass (M.kept machine.old).log (M.kept machine.new).log who.now moment after request.now) }
-    ensures stopped { IfErr result (λ f. IsOwnStop (opening (M.kept machine.old).pool.settings) pass (M.kept machine.old).log (M.kept machine.new).log who.now moment after request.now (is_log_full f)) }
+    ensures point { IfOk result (IsOwnPoint (opening (M.kept machine.old).pool.settings) (record { pass = pass; caller = who.now; moment = moment; after = after; request = request.now }) (M.kept machine.old).log (M.kept machine.new).log) }
+    ensures stopped { IfErr result (λ f. IsOwnStop (opening (M.kept machine.old).pool.settings) (record { pass = pass; caller = who.now; moment = moment; after = after; request = request.now }) (M.kept machine.old).log (M.kept machine.new).log (is_log_full f)) }
 {
     let length = machine.length();
     if is_ahead(length, after) {

@@ -18,7 +18,7 @@ use Rattle.request_head.specs.declared.after.After.{After}
 use Rattle.std.specs.Prelude.{IsSomeAnd, slice_get}
 use Rattle.swarm_http.specs.declared.reply.ReplyBytes.{ReplyBytes}
 use Rattle.swarm_http.specs.Requests.{then, routed, with_front, caller_request_of, request_of, is_post, front_of}
-use Rattle.swarm_http.specs.Outcomes.{rejected, no_body_memory, IsCalled}
+use Rattle.swarm_http.specs.Outcomes.{DoorCall, called_place, call_of, rejected, no_body_memory, IsCalled}
 use Rattle.swarm_http.specs.Replies.{refusal}
 use Rattle.swarm_http.specs.Sends.{text_of}
 use Rattle.swarm_http.specs.Steps.{Answers, IsEarly, told, untold}
@@ -77,13 +77,15 @@ body_refused settings writer head body who a old shown asked means (told why e t
 body_refused settings writer head body who a old shown asked means (untold text) = not_held settings writer head body a old shown text
 
 -- the pool of a request was called for it
-pub is_called : (settings : Settings) (writer : Writer) (head : RequestHead) (body who : List ℕ) (asked : Asked) (moment : ℕ) (after : After) (front : Option ℕ) (result : Result Answered CallFault) (old new : Logs)
-    → after ≡ after_of head → front ≡ front_of after → request_of settings head body ≡ caller_request_of who asked
-    → IsSomeAnd (slice_get settings.pools asked.place) (λ pool. IsPoolCall pool writer asked.place (old asked.place) (new asked.place) who moment front asked.request result)
-    → Elsewhere asked.place old new → IsCalled settings writer head body (record { who = who; asked = asked }) moment result old new
-is_called settings writer head body who asked moment after front result old new same seen means call elsewhere = record {
+pub is_called : (settings : Settings) (writer : Writer) (head : RequestHead) (body : List ℕ) (call : DoorCall) (after : After) (front : Option ℕ) (result : Result Answered CallFault) (old new : Logs)
+    → after ≡ after_of head → front ≡ front_of after → request_of settings head body ≡ Ok call.asks
+    → IsSomeAnd (slice_get settings.pools (called_place call))
+    (λ pool. IsPoolCall pool writer.alone (record (call_of writer head call) { after = front }) (old (called_place call)) (new (called_place call)) call.growth result)
+    → Elsewhere (called_place call) old new → IsCalled settings writer head body call result old new
+is_called settings writer head body call after front result old new same seen means done elsewhere = record {
   means = means;
-  call = subst (λ (f : Option ℕ). IsSomeAnd (slice_get settings.pools asked.place) (λ pool. IsPoolCall pool writer asked.place (old asked.place) (new asked.place) who moment f asked.request result))
-      (seen ∙ ap front_of same) call;
+  done = subst (λ (f : Option ℕ). IsSomeAnd (slice_get settings.pools (called_place call))
+      (λ pool. IsPoolCall pool writer.alone (record (call_of writer head call) { after = f }) (old (called_place call)) (new (called_place call)) call.growth result))
+      (seen ∙ ap front_of same) done;
   elsewhere = elsewhere;
 }

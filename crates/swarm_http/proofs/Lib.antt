@@ -3,3 +3,4 @@ pub mod Texts
 pub mod Requests
 pub mod Serving
 pub mod Asking
+mod Once

@@ -26,6 +26,7 @@ use Rattle.swarm_http.specs.Answered.{replies, Serves, NoneCloses, IsOpenStill, 
 use Rattle.swarm_http.specs.Sends.{Sends, rule_of, text_of}
 use Rattle.swarm_http.specs.Takes.{IsHeld, StopsAs, Takes, ReadsWell}
 use Rattle.swarm_http.specs.Steps.{Answers, GoesOn, Stops}
+use Rattle.swarm_http.proofs.Once.{chain_once}
 
 pub HandsIn-nil : (a : ℕ → Option (List ℕ)) → HandsIn a a []
 HandsIn-nil a more = let e : 0 + more ≡ more = omega arith in subst (λ k. Consumes (a k) (a more) []) (sym e) (Consumes-nil (a more))
@@ -310,21 +311,32 @@ one_on {settings = settings} {writer = writer} {pending = pending} {more = more}
 
 pub ended_so : {settings : Settings} {writer : Writer} {count : ℕ} {pending : List ℕ} {s t u : LinkState} {a b c : ℕ → Option (List ℕ)} {d e : DoorState} {new : Logs} {ended : Ended}
     → SoFar settings writer count pending s t a b d e → count < 65536 → Stops settings e.writer pending t u b c e.seen new ended → IsAnswered settings writer s u a c d.seen new ended
-ended_so {settings = settings} {pending = pending} {s = s} {t = t} {u = u} {b = b} {c = c} {e = e} {new = new} {ended = ended} x early y =
+ended_so {settings = settings} {writer = writer} {pending = pending} {s = s} {t = t} {u = u} {b = b} {c = c} {d = d} {e = e} {new = new} {ended = ended} x early y =
     let step = subst (λ n. Serves settings n y.xs pending y.rest y.sent t u b c e.seen new) x.writer_is y.serves in
+    let all = Serves-trans x.serves step in
     record {
       xs = x.xs ++ y.xs;
       rest = y.rest;
       sent = replies x.xs ++ y.sent;
-      serves = Serves-trans x.serves step;
+      serves = all;
       ends = ends_after ended x.xs y.xs y.rest y.sent s t u (omega (arith, x.counted)) x.open_still x.no_fault y.not_retired y.not_memory y.ends;
       few = omega (arith, length-append x.xs y.xs, x.counted, y.few);
+      once = chain_once settings writer d.seen (x.xs ++ y.xs) new all.chain;
       faults = record { reads = λ n. y.faults.reads n ∙ x.no_fault.reads; writes = λ n. y.faults.writes n ∙ x.no_fault.writes; clean = y.faults.clean };
     }
 
-pub retired : {settings : Settings} {writer : Writer} {pending : List ℕ} {s t : LinkState} {a b : ℕ → Option (List ℕ)} {d e : DoorState}
-    → SoFar settings writer 65536 pending s t a b d e → IsAnswered settings writer s t a b d.seen e.seen Retired
-retired {pending = pending} x = record { xs = x.xs; rest = pending; sent = replies x.xs; serves = x.serves; ends = (x.counted, refl, x.open_still); few = omega (arith, x.counted); faults = no_faults x.no_fault.reads x.no_fault.writes x.clean }
+pub retired : {settings : Settings} {writer : Writer} {count : ℕ} {pending : List ℕ} {s t : LinkState} {a b : ℕ → Option (List ℕ)} {d e : DoorState}
+    → SoFar settings writer count pending s t a b d e → count ≡ 65536 → IsAnswered settings writer s t a b d.seen e.seen Retired
+retired {settings = settings} {writer = writer} {pending = pending} {d = d} {e = e} x full = record {
+  xs = x.xs;
+  rest = pending;
+  sent = replies x.xs;
+  serves = x.serves;
+  ends = (x.counted ∙ full, refl, x.open_still);
+  few = omega (arith, x.counted, full);
+  once = chain_once settings writer d.seen x.xs e.seen x.serves.chain;
+  faults = no_faults x.no_fault.reads x.no_fault.writes x.clean;
+}
 
 pub no_memory : {settings : Settings} {writer : Writer} {s : LinkState} {a : ℕ → Option (List ℕ)} {old : Logs} → IsClean s → IsAnswered settings writer s s a a old old Memory
-no_memory {settings = settings} {writer = writer} {s = s} {a = a} {old = old} clean = record { xs = []; rest = []; sent = []; serves = nothing_served settings writer s a old; ends = (refl, refl, refl); few = omega arith; faults = no_faults refl refl clean }
+no_memory {settings = settings} {writer = writer} {s = s} {a = a} {old = old} clean = record { xs = []; rest = []; sent = []; serves = nothing_served settings writer s a old; ends = (refl, refl, refl); few = omega arith; once = chain_once settings writer old [] old refl; faults = no_faults refl refl clean }

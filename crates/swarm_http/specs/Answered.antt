@@ -16,7 +16,7 @@ use Rattle.swarm_history.specs.Doors.{Logs, DoorState, Writer}
 use Rattle.swarm_http.specs.declared.ended.Ended.{Ended}
 use Rattle.swarm_http.specs.declared.ended.Ended.TheVariants.{Closed, LastAsked, CutShort, BadHead, Retired, ReadFault, WriteFault, Memory}
 use Rattle.swarm_http.specs.Replies.{refusal}
-use Rattle.swarm_http.specs.Exchange.{Exchange, request_bytes, reply_of, moments_of, closes, HeadSays, Chain}
+use Rattle.swarm_http.specs.Exchange.{Exchange, request_bytes, reply_of, moments_of, closes, HeadSays, Chain, AreOnce}
 
 -- the replies, one after another
 abbrev pub replies : List Exchange → List ℕ
@@ -91,7 +91,8 @@ pub record EndsAtFault (ended : Ended) (s t : LinkState) : Type 0 where
   pub clean : ended ≢ WriteFault → IsClean t
 
 -- The whole connection, with nothing pending at its begin: there are requests and a rest such that
--- all that was read, asked of the clock and the door, and written is theirs, in order.
+-- all that was read, asked of the clock and the door, and written is theirs, in order, and their
+-- entries stand in the logs once.
 pub record IsAnswered (settings : Settings) (writer : Writer) (s t : LinkState) (a b : ℕ → Option (List ℕ)) (old new : Logs) (ended : Ended) : Type 0 where
   pub xs : List Exchange
   pub rest : List ℕ
@@ -99,6 +100,7 @@ pub record IsAnswered (settings : Settings) (writer : Writer) (s t : LinkState) 
   pub serves : Serves settings writer xs [] rest sent s t a b old new
   pub ends : EndsAs 65536 ended xs rest sent s t
   pub few : length xs ≤ 65536
+  pub once : AreOnce writer old xs new
   pub faults : EndsAtFault ended s t
 
 -- what a connection keeps of its door, on which it made so many calls at most

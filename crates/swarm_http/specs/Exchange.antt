@@ -1,12 +1,14 @@
 -- One request and its outcome.
-use Rattle.std.specs.Prelude.{◌≡◌, ℕ, Bool, ◌≤◌, List, [], ◌∷◌, ◌++◌, length, None}
+use Rattle.std.specs.Prelude.{◌≡◌, ◌==◌, ℕ, Bool, ◌≤◌, List, [], ◌∷◌, ◌++◌, length, filter, None, IsTrue}
+use Rattle.std.specs.List.{flat_map}
 use Rattle.httparse.specs.Grammar.{RequestHead}
 use Rattle.link_reader.specs.Heads.{IsHeadEnd}
 use Rattle.request_head.specs.Heads.{IsHead}
 use Rattle.request_head.specs.HeadFields.{head_refusal, size_of, closes_of}
 use Rattle.swarm_model.specs.declared.pool_settings.Settings.{Settings}
+use Rattle.swarm_model.specs.declared.entry.Entry.{Entry}
 use Rattle.swarm_history.specs.Doors.{Logs, Writer}
-use Rattle.swarm_http.specs.Outcomes.{Outcome, Acts, shows, uses}
+use Rattle.swarm_http.specs.Outcomes.{Outcome, Acts, shows, calls, uses, entries_at}
 
 -- a request as it stood on the link, what its head is, and its outcome
 pub record Exchange : Type 0 where
@@ -26,6 +28,10 @@ reply_of x = shows x.outcome
 -- the moments that it used
 abbrev pub moments_of : Exchange → List ℕ
 moments_of x = uses x.outcome
+
+-- the entries that it added to the log of the pool at a place
+abbrev pub entries_of : ℕ → Exchange → List Entry
+entries_of place x = flat_map (entries_at place) (calls x.outcome)
 
 -- it asks to close the connection
 abbrev pub closes : Exchange → Bool
@@ -48,3 +54,19 @@ pub record IsExchange (settings : Settings) (writer : Writer) (x : Exchange) (ol
 abbrev pub Chain : Settings → Writer → Logs → List Exchange → Logs → Type 0
 Chain settings writer old [] new = new ≡ old
 Chain settings writer old (x ∷ xs) new = (mid : Logs) × IsExchange settings writer x old mid × Chain settings writer mid xs new
+
+-- the entry has the number of this pass
+abbrev pub has_pass : ℕ → Entry → Bool
+has_pass pass entry = entry.pass == pass
+
+-- Of the entries that the log gains, those with the number of the pass are just these, each once and
+-- in this order. Where the door writes alone, it gains no others.
+pub record GainsOnce (pass : ℕ) (alone : Bool) (old new entries : List Entry) : Type 0 where
+  pub gained : List Entry
+  pub grown : new ≡ old ++ gained
+  pub exactly : filter (has_pass pass) gained ≡ entries
+  pub no_others : IsTrue alone → gained ≡ entries
+
+-- each log gains the entries of the exchanges, once and in order
+abbrev pub AreOnce : Writer → Logs → List Exchange → Logs → Type 0
+AreOnce writer old xs new = (p : ℕ) → GainsOnce (writer.numbers p) writer.alone (old p) (new p) (flat_map (entries_of p) xs)

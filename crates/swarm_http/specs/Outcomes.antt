@@ -1,10 +1,12 @@
 -- How one request is answered.
-use Rattle.std.specs.Prelude.{◌≡◌, ℕ, List, [], ◌∷◌, slice_get, Some, None, Result, Ok, Err, IsSomeAnd}
+use Rattle.std.specs.Prelude.{◌≡◌, ◌==◌, ℕ, List, [], ◌∷◌, map, slice_get, Some, None, Result, Ok, Err, IsSomeAnd, if◌then◌else◌}
 use Rattle.httparse.specs.Grammar.{RequestHead}
 use Rattle.request_head.specs.HeadFields.{after_of}
 use Rattle.swarm_model.specs.declared.pool_settings.Settings.{Settings}
+use Rattle.swarm_model.specs.declared.entry.Entry.{Entry}
 use Rattle.swarm_model.specs.declared.rule.Rule.{Rule}
 use Rattle.swarm_model.specs.declared.rule.Rule.TheVariants as rule
+use Rattle.swarm_model.specs.Points.{Call, Growth, added}
 use Rattle.swarm_history.specs.declared.door.Answered.{Answered}
 use Rattle.swarm_history.specs.declared.door.CallFault.{CallFault}
 use Rattle.swarm_history.specs.declared.door.CallFault.TheVariants as stop
@@ -12,14 +14,28 @@ use Rattle.swarm_history.specs.Doors.{Logs, Elsewhere, IsPoolCall, Writer}
 use Rattle.swarm_http.specs.Requests.{CallerRequest, request_of, front_of}
 use Rattle.swarm_http.specs.Replies.{shown, refusal}
 
--- the request was refused before any call; a call at this moment answered; it stopped; there was no
--- memory before any call; there was none for the reply of a call that answered
+-- a call of the door for a request: who asks for what, at what moment, and the entries that the log of its pool gains
+pub record DoorCall : Type 0 where
+  pub asks : CallerRequest
+  pub moment : ℕ
+  pub growth : Growth
+
+-- the place of its pool
+abbrev pub called_place : DoorCall → ℕ
+called_place call = call.asks.asked.place
+
+-- the entries that it adds to the log of the pool at a place: those of the deadlines that had come, then the request's own
+abbrev pub entries_at : ℕ → DoorCall → List Entry
+entries_at place call = if called_place call == place then added call.growth else []
+
+-- the request was refused before any call; a call answered; it stopped; there was no memory before
+-- any call; there was none for the reply of a call that answered
 pub data Outcome : Type 0 where
   rejected : Rule → Outcome
-  answered : CallerRequest → ℕ → Answered → Outcome
-  aborted : CallerRequest → ℕ → CallFault → Outcome
+  answered : DoorCall → Answered → Outcome
+  aborted : DoorCall → CallFault → Outcome
   no_body_memory : Outcome
-  no_reply_memory : CallerRequest → ℕ → Answered → Outcome
+  no_reply_memory : DoorCall → Answered → Outcome
 
 -- the refusal of a request whose call stopped
 abbrev pub stop_rule : CallFault → Rule
@@ -29,30 +45,39 @@ stop_rule stop.LogFull = rule.LogFull
 -- the bytes of the reply; a front stands there exactly where a call answered
 abbrev pub shows : Outcome → List ℕ
 shows (rejected why) = refusal None why
-shows (answered caller_request moment call) = shown caller_request.asked.place (Some call.front) call.reply call.pieces
-shows (aborted caller_request moment why) = refusal None (stop_rule why)
+shows (answered call result) = shown (called_place call) (Some result.front) result.reply result.pieces
+shows (aborted call why) = refusal None (stop_rule why)
 shows no_body_memory = refusal None rule.WantOfMemory
-shows (no_reply_memory caller_request moment call) = refusal (Some call.front) rule.WantOfMemory
+shows (no_reply_memory call result) = refusal (Some result.front) rule.WantOfMemory
 
--- the moments that it used: one where the door was called
+-- the calls of the door: one, or none
+abbrev pub calls : Outcome → List DoorCall
+calls (rejected why) = []
+calls (answered call result) = call ∷ []
+calls (aborted call why) = call ∷ []
+calls no_body_memory = []
+calls (no_reply_memory call result) = call ∷ []
+
+-- the moments that it used: one for each call
 abbrev pub uses : Outcome → List ℕ
-uses (rejected why) = []
-uses (answered caller_request moment call) = moment ∷ []
-uses (aborted caller_request moment why) = moment ∷ []
-uses no_body_memory = []
-uses (no_reply_memory caller_request moment call) = moment ∷ []
+uses outcome = map (λ call. call.moment) (calls outcome)
+
+-- the call as the door's pool takes it
+abbrev pub call_of : Writer → RequestHead → DoorCall → Call
+call_of writer head call =
+    record { pass = writer.numbers (called_place call); caller = call.asks.who; moment = call.moment; after = front_of (after_of head); request = call.asks.asked.request }
 
 -- the request means this, its pool was called for it, and every other pool's log stays
-pub record IsCalled (settings : Settings) (writer : Writer) (head : RequestHead) (body : List ℕ) (caller_request : CallerRequest) (moment : ℕ) (result : Result Answered CallFault) (old new : Logs) : Type 0 where
-  pub means : request_of settings head body ≡ Ok caller_request
-  pub call : IsSomeAnd (slice_get settings.pools caller_request.asked.place)
-      (λ pool. IsPoolCall pool writer caller_request.asked.place (old caller_request.asked.place) (new caller_request.asked.place) caller_request.who moment (front_of (after_of head)) caller_request.asked.request result)
-  pub elsewhere : Elsewhere caller_request.asked.place old new
+pub record IsCalled (settings : Settings) (writer : Writer) (head : RequestHead) (body : List ℕ) (call : DoorCall) (result : Result Answered CallFault) (old new : Logs) : Type 0 where
+  pub means : request_of settings head body ≡ Ok call.asks
+  pub done : IsSomeAnd (slice_get settings.pools (called_place call))
+      (λ pool. IsPoolCall pool writer.alone (call_of writer head call) (old (called_place call)) (new (called_place call)) call.growth result)
+  pub elsewhere : Elsewhere (called_place call) old new
 
 -- what a request with this head and body did to the logs
 abbrev pub Acts : Settings → Writer → RequestHead → List ℕ → Outcome → Logs → Logs → Type 0
 Acts settings writer head body (rejected why) old new = (request_of settings head body ≡ Err why) × (new ≡ old)
-Acts settings writer head body (answered caller_request moment call) old new = IsCalled settings writer head body caller_request moment (Ok call) old new
-Acts settings writer head body (aborted caller_request moment why) old new = IsCalled settings writer head body caller_request moment (Err why) old new
+Acts settings writer head body (answered call result) old new = IsCalled settings writer head body call (Ok result) old new
+Acts settings writer head body (aborted call why) old new = IsCalled settings writer head body call (Err why) old new
 Acts settings writer head body no_body_memory old new = new ≡ old
-Acts settings writer head body (no_reply_memory caller_request moment call) old new = IsCalled settings writer head body caller_request moment (Ok call) old new
+Acts settings writer head body (no_reply_memory call result) old new = IsCalled settings writer head body call (Ok result) old new

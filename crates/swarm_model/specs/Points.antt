@@ -6,6 +6,7 @@ use Rattle.std.specs.List.{AllByRecursion}
 use Rattle.swarm_model.specs.declared.pool_state.PoolState.{PoolState}
 use Rattle.swarm_model.specs.declared.entry.Entry.{Entry}
 use Rattle.swarm_model.specs.declared.request.Request.{Request}
+use Rattle.swarm_model.specs.declared.answer.Answer.{Answer}
 use Rattle.swarm_model.specs.declared.reply.Reply.{Reply}
 use Rattle.swarm_model.specs.declared.reply.Reply.TheVariants as reply
 use Rattle.swarm_model.specs.declared.rule.Rule.TheVariants as rule
@@ -27,34 +28,63 @@ IsByOther pass entry = entry.pass ≢ pass
 abbrev pub IsSettled : ℕ → ℕ → Entry → Type 0
 IsSettled pass moment entry = IsTrue (is_deadline entry.kind) × (entry.pass ≡ pass) × (entry.moment ≤ moment)
 
--- nothing happens: the caller has seen more than there is
-pub record IsEarly (size : ℕ) (settled : List Entry) (own : Option Entry) (answered : Reply) : Type 0 where
-  pub reply : answered ≡ reply.No (rule.FrontAhead size)
-  pub settled_is : settled ≡ []
-  pub own_is : own ≡ None
+-- a call: the number of its pass, the caller, the moment by the clock, the length of a log that the caller has seen, and the request
+pub record Call : Type 0 where
+  pub pass : ℕ
+  pub caller : List ℕ
+  pub moment : ℕ
+  pub after : Option ℕ
+  pub request : Request
 
--- what was due by the moment is settled, and then the request is answered
-pub record IsServed (s : PoolState) (pass : ℕ) (who : List ℕ) (moment : ℕ) (request : Request) (settled : List Entry) (own : Option Entry) (answered : Reply) : Type 0 where
-  pub due_first : AllByRecursion (IsSettled pass moment) settled
-  pub nothing_due : due_entry (replay s settled) moment pass ≡ None
-  pub reply : (answer (replay s settled) who moment pass request).reply ≡ answered
-  pub entry : (answer (replay s settled) who moment pass request).entry ≡ own
+-- the call at the moment of the pool that takes it
+abbrev pub taken_by : PoolState → Call → Call
+taken_by s call = record call { moment = moment_of s call.moment }
 
--- A call's point: others' entries came first, then what was due, and then the request's own.
-pub record IsPoint (start : PoolState) (pass : ℕ) (old new : List Entry) (who : List ℕ) (moment : ℕ) (after : Option ℕ) (request : Request) (answered : Reply) : Type 0 where
+-- what a pool answers to a call
+abbrev pub answer_to : PoolState → Call → Answer
+answer_to s call = answer s call.caller call.moment call.pass call.request
+
+-- the entries that a log gains in a call: those of other passes, those of the deadlines that had come, and the request's own
+pub record Growth : Type 0 where
   pub others : List Entry
   pub settled : List Entry
   pub own : Option Entry
+
+-- the entries that the call itself adds
+abbrev pub added : Growth → List Entry
+added growth = growth.settled ++ option_to_list growth.own
+
+-- the log grows by these entries, in this order, and is legal
+pub record Grows (start : PoolState) (pass : ℕ) (old new : List Entry) (growth : Growth) : Type 0 where
   pub legal : IsLegal start new
-  pub parts : new ≡ old ++ (others ++ (settled ++ option_to_list own))
-  pub by_others : AllByRecursion (IsByOther pass) others
-  pub acts : MatchBool (is_ahead (length (old ++ others)) after)
-      (IsEarly (length (old ++ others)) settled own answered)
-      (IsServed (replay start (old ++ others)) pass who (moment_of (replay start (old ++ others)) moment) request settled own answered)
+  pub parts : new ≡ old ++ (growth.others ++ added growth)
+  pub by_others : AllByRecursion (IsByOther pass) growth.others
+
+-- nothing happens: the caller has seen more than there is
+pub record IsFrontAhead (size : ℕ) (growth : Growth) (answered : Reply) : Type 0 where
+  pub reply : answered ≡ reply.No (rule.FrontAhead size)
+  pub settled_is : growth.settled ≡ []
+  pub own_is : growth.own ≡ None
+
+-- what was due by the call's moment is settled, and then the request is answered
+pub record IsServed (s : PoolState) (call : Call) (growth : Growth) (answered : Reply) : Type 0 where
+  pub due_first : AllByRecursion (IsSettled call.pass call.moment) growth.settled
+  pub nothing_due : due_entry (replay s growth.settled) call.moment call.pass ≡ None
+  pub reply : (answer_to (replay s growth.settled) call).reply ≡ answered
+  pub entry : (answer_to (replay s growth.settled) call).entry ≡ growth.own
+
+-- a call that finds this log, of a pool with these rows
+abbrev pub Finds : List Entry → PoolState → Call → Growth → Reply → Type 0
+Finds log s call growth answered = MatchBool (is_ahead (length log) call.after) (IsFrontAhead (length log) growth answered) (IsServed s (taken_by s call) growth answered)
+
+-- A call's point: others' entries came first, then what was due, and then the request's own.
+pub record IsPoint (start : PoolState) (call : Call) (old new : List Entry) (growth : Growth) (answered : Reply) : Type 0 where
+  pub grows : Grows start call.pass old new growth
+  pub finds : Finds (old ++ growth.others) (replay start (old ++ growth.others)) call growth answered
 
 -- the entry that comes next: that of a deadline, or else the request's own
-abbrev pub next_entry : PoolState → ℕ → List ℕ → ℕ → Request → Option Entry
-next_entry s pass who moment request = option_or (due_entry s moment pass) (answer s who moment pass request).entry
+abbrev pub next_entry : PoolState → Call → Option Entry
+next_entry s call = option_or (due_entry s call.moment call.pass) (answer_to s call).entry
 
 -- the log has no room for the entry that comes next
 abbrev pub LacksRoom : PoolState → List Entry → Option Entry → Type 0
@@ -62,12 +92,9 @@ LacksRoom s log next = IsSomeAnd next (λ entry. has_room s.settings log entry �
 
 -- A call that stopped: what was due was settled in part, and the request added nothing. Where it
 -- stopped for a full log, the log has no room for the entry that comes next.
-pub record IsStopped (start : PoolState) (pass : ℕ) (old new : List Entry) (who : List ℕ) (moment : ℕ) (after : Option ℕ) (request : Request) (is_full : Bool) : Type 0 where
-  pub others : List Entry
-  pub settled : List Entry
-  pub legal : IsLegal start new
-  pub parts : new ≡ old ++ (others ++ settled)
-  pub by_others : AllByRecursion (IsByOther pass) others
-  pub not_ahead : is_ahead (length (old ++ others)) after ≡ false
-  pub due_first : AllByRecursion (IsSettled pass (moment_of (replay start (old ++ others)) moment)) settled
-  pub full : OnTrue is_full (LacksRoom start new (next_entry (replay start new) pass who (moment_of (replay start (old ++ others)) moment) request))
+pub record IsStopped (start : PoolState) (call : Call) (old new : List Entry) (growth : Growth) (is_full : Bool) : Type 0 where
+  pub grows : Grows start call.pass old new growth
+  pub no_own : growth.own ≡ None
+  pub not_ahead : is_ahead (length (old ++ growth.others)) call.after ≡ false
+  pub due_first : AllByRecursion (IsSettled call.pass (moment_of (replay start (old ++ growth.others)) call.moment)) growth.settled
+  pub full : OnTrue is_full (LacksRoom start new (next_entry (replay start new) (taken_by (replay start (old ++ growth.others)) call)))

@@ -7,7 +7,7 @@ use Rattle.swarm_model.specs.declared.rule.Rule.TheVariants as rule
 use Rattle.swarm_model.specs.Deadlines.{due_entry}
 use Rattle.swarm_model.specs.Effects.{opening}
 use Rattle.swarm_model.specs.History.{moment_of}
-use Rattle.swarm_model.specs.Points.{is_ahead}
+use Rattle.swarm_model.specs.Points.{is_ahead, Call}
 use Rattle.swarm_history.specs.Settling.{IsOwnPoint}
 use Rattle.swarm_history.specs.Doors.{is_log_full}
 use Rattle.swarm_history.proofs.OwnPoints.{sound_history, early_point, due_next, own_next, settled_point, settled_stop}
@@ -29,10 +29,11 @@ stops (Err f) S P Q all stays lacks = all stays f lacks
 pub returns-then-is_ahead-clause-point : goal.returns-then-is_ahead-clause-point
 returns-then-is_ahead-clause-point g c =
     let k = g.M.Machine.kept c.args.machine.now in
+    let the_call : Call = record { pass = c.args.pass; caller = c.args.who.now; moment = c.args.moment; after = c.args.after; request = c.args.request.now } in
     let ahead = ahead_is (length k.log) c.length-length.result c.args.after c.is_ahead.result true c.length-length.ensures.length c.is_ahead.ensures c.if-is_ahead.true in
-    subst (λ (n : ℕ). IsOwnPoint (opening k.pool.settings) c.args.pass k.log k.log c.args.who.now c.args.moment c.args.after c.args.request.now (reply.No (rule.FrontAhead n)))
+    subst (λ (n : ℕ). IsOwnPoint (opening k.pool.settings) the_call k.log k.log (reply.No (rule.FrontAhead n)))
     (sym c.length-length.ensures.length)
-    (early_point (opening k.pool.settings) c.args.pass k.log c.args.who.now c.args.moment c.args.after c.args.request.now c.length-length.ensures.history.legal ahead)
+    (early_point (opening k.pool.settings) the_call k.log c.length-length.ensures.history.legal ahead)
 
 pub settle-requires-clause-not_late : goal.settle-requires-clause-not_late
 settle-requires-clause-not_late g c =
@@ -47,36 +48,39 @@ respond-requires-clause-not_late g c =
 pub returns-in_err-settle-clause-stopped : goal.returns-in_err-settle-clause-stopped
 returns-in_err-settle-clause-stopped g c =
     let k = g.M.Machine.kept c.args.machine.now in
+    let the_call : Call = record { pass = c.args.pass; caller = c.args.who.now; moment = c.args.moment; after = c.args.after; request = c.args.request.now } in
     let m = g.M.Machine.kept c.settle.new.machine in
     let behind = ahead_is (length k.log) c.length-length.result c.args.after c.is_ahead.result false c.length-length.ensures.length c.is_ahead.ensures c.if-is_ahead.false in
     let at = moment_is k.pool c.args.moment c.last.result c.min.result c.max-moment.result c.last.ensures.last c.min.ensures c.max-moment.ensures in
     let p = err_from_is_err_and c.from_residual.result c.from_residual.ensures.1 in
     rw (p.1, p.2)
-    (settled_stop c.args.pass c.args.who.now c.args.moment c.args.after c.args.request.now c.max-moment.result k m c.length-length.ensures.history behind at
+    (settled_stop the_call c.max-moment.result k m c.length-length.ensures.history behind at
     c.in_err-settle.ensures.settles m.log (is_log_full c.in_err-settle.field-0.0) refl
     (due_next (is_log_full c.in_err-settle.field-0.0) _ (due_entry m.pool c.max-moment.result c.args.pass) _ c.in_err-settle.ensures.full))
 
 pub returns-clause-point : goal.returns-clause-point
 returns-clause-point g c =
     let k = g.M.Machine.kept c.args.machine.now in
+    let the_call : Call = record { pass = c.args.pass; caller = c.args.who.now; moment = c.args.moment; after = c.args.after; request = c.args.request.now } in
     let m = g.M.Machine.kept c.settle.new.machine in
     let n = g.M.Machine.kept c.respond.new.machine in
     let behind = ahead_is (length k.log) c.length-length.result c.args.after c.is_ahead.result false c.length-length.ensures.length c.is_ahead.ensures c.if-is_ahead.false in
     let at = moment_is k.pool c.args.moment c.last.result c.min.result c.max-moment.result c.last.ensures.last c.min.ensures c.max-moment.ensures in
     IfOk-weaker c.respond.result _ _
-    (settled_point c.args.pass c.args.who.now c.args.moment c.args.after c.args.request.now c.max-moment.result k m c.length-length.ensures.history behind at
+    (settled_point the_call c.max-moment.result k m c.length-length.ensures.history behind at
     c.in_ok-settle.ensures.settles n c.in_ok-settle.ensures.nothing_due)
     c.respond.ensures.answers
 
 pub returns-clause-stopped : goal.returns-clause-stopped
 returns-clause-stopped g c =
     let k = g.M.Machine.kept c.args.machine.now in
+    let the_call : Call = record { pass = c.args.pass; caller = c.args.who.now; moment = c.args.moment; after = c.args.after; request = c.args.request.now } in
     let m = g.M.Machine.kept c.settle.new.machine in
     let n = g.M.Machine.kept c.respond.new.machine in
     let behind = ahead_is (length k.log) c.length-length.result c.args.after c.is_ahead.result false c.length-length.ensures.length c.is_ahead.ensures c.if-is_ahead.false in
     let at = moment_is k.pool c.args.moment c.last.result c.min.result c.max-moment.result c.last.ensures.last c.min.ensures c.max-moment.ensures in
     stops c.respond.result _ _ _
-    (λ stays f lacks. settled_stop c.args.pass c.args.who.now c.args.moment c.args.after c.args.request.now c.max-moment.result k m c.length-length.ensures.history behind at
+    (λ stays f lacks. settled_stop the_call c.max-moment.result k m c.length-length.ensures.history behind at
     c.in_ok-settle.ensures.settles n.log (is_log_full f) stays.log
     (own_next (is_log_full f) _ (due_entry m.pool c.max-moment.result c.args.pass) _ c.in_ok-settle.ensures.nothing_due lacks))
     c.respond.ensures.stays c.respond.ensures.full

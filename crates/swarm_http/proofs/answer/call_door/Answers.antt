@@ -1,7 +1,7 @@
 use Rattle.std.proofs.Common.{refl, ap, None}
 use Rattle.std.specs.Prelude.{Ok, Err}
 use Rattle.swarm_http.specs.Replies.{refusal}
-use Rattle.swarm_http.specs.Outcomes.{answered, aborted, no_reply_memory}
+use Rattle.swarm_http.specs.Outcomes.{DoorCall, answered, aborted, no_reply_memory}
 use Rattle.swarm_http.proofs.Asking.{is_called}
 use Rattle.swarm_http.proofs.answer.call_door.Goals as goal
 
@@ -9,9 +9,10 @@ pub returns-in-Ok-whole_reply-clause-answers : goal.returns-in-Ok-whole_reply-cl
 returns-in-Ok-whole_reply-clause-answers g c = λ head body same means.
     let d = c.in-Ok.ensures in
     let s = g.D.Door.state c.args.door.now in
+    let the_call : DoorCall = record { asks = record { who = c.args.who.now; asked = c.args.asked.now }; moment = c.now-moment.result; growth = d.growth } in
     record {
-      outcome = answered (record { who = c.args.who.now; asked = c.args.asked.now }) c.now-moment.result c.in-Ok.answered;
-      acts = is_called s.settings s.writer head body c.args.who.now c.args.asked.now c.now-moment.result c.args.after c.front_of.result (Ok c.in-Ok.answered) s.seen (g.D.Door.state c.call.new.self).seen
+      outcome = answered the_call c.in-Ok.answered;
+      acts = is_called s.settings s.writer head body the_call c.args.after c.front_of.result (Ok c.in-Ok.answered) s.seen (g.D.Door.state c.call.new.self).seen
           same c.front_of.ensures means d.done d.elsewhere;
       moments = c.now-moment.ensures;
       shown = c.in-Ok-whole_reply.ensures;
@@ -21,9 +22,10 @@ pub returns-in-Ok-clause-answers : goal.returns-in-Ok-clause-answers
 returns-in-Ok-clause-answers g c = λ head body same means.
     let d = c.in-Ok.ensures in
     let s = g.D.Door.state c.args.door.now in
+    let the_call : DoorCall = record { asks = record { who = c.args.who.now; asked = c.args.asked.now }; moment = c.now-moment.result; growth = d.growth } in
     record {
-      outcome = no_reply_memory (record { who = c.args.who.now; asked = c.args.asked.now }) c.now-moment.result c.in-Ok.answered;
-      acts = is_called s.settings s.writer head body c.args.who.now c.args.asked.now c.now-moment.result c.args.after c.front_of.result (Ok c.in-Ok.answered) s.seen (g.D.Door.state c.call.new.self).seen
+      outcome = no_reply_memory the_call c.in-Ok.answered;
+      acts = is_called s.settings s.writer head body the_call c.args.after c.front_of.result (Ok c.in-Ok.answered) s.seen (g.D.Door.state c.call.new.self).seen
           same c.front_of.ensures means d.done d.elsewhere;
       moments = c.now-moment.ensures;
       shown = refl;
@@ -33,9 +35,10 @@ pub returns-clause-answers : goal.returns-clause-answers
 returns-clause-answers g c = λ head body same means.
     let d = c.in-Err.ensures in
     let s = g.D.Door.state c.args.door.now in
+    let the_call : DoorCall = record { asks = record { who = c.args.who.now; asked = c.args.asked.now }; moment = c.now-moment.result; growth = d.growth } in
     record {
-      outcome = aborted (record { who = c.args.who.now; asked = c.args.asked.now }) c.now-moment.result c.in-Err.why;
-      acts = is_called s.settings s.writer head body c.args.who.now c.args.asked.now c.now-moment.result c.args.after c.front_of.result (Err c.in-Err.why) s.seen (g.D.Door.state c.call.new.self).seen
+      outcome = aborted the_call c.in-Err.why;
+      acts = is_called s.settings s.writer head body the_call c.args.after c.front_of.result (Err c.in-Err.why) s.seen (g.D.Door.state c.call.new.self).seen
           same c.front_of.ensures means d.done d.elsewhere;
       moments = c.now-moment.ensures;
       shown = ap (refusal None) c.stop_refusal.ensures;

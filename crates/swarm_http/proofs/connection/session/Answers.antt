@@ -1,5 +1,5 @@
 use Rattle.std.proofs.Common.{arith, subst, sym}
-use Rattle.swarm_http.proofs.Serving.{SoFar, begun, one_on, ended_so}
+use Rattle.swarm_http.proofs.Serving.{SoFar, begun, one_on, ended_so, retired}
 use Rattle.swarm_http.proofs.connection.session.Goals as goal
 
 pub requests-init : goal.requests-init
@@ -14,3 +14,6 @@ requests-preserved g c = one_on c.requests.invariant c.in-Next.ensures.step c.se
 
 pub returns-in-End-clause-answered : goal.returns-in-End-clause-answered
 returns-in-End-clause-answered g c = ended_so c.requests.invariant (omega arith) c.in-End.ensures.step
+
+pub returns-clause-answered : goal.returns-clause-answered
+returns-clause-answered g c = retired c.requests.invariant (omega arith)
