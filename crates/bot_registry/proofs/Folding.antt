@@ -1,27 +1,16 @@
--- A fold over what a list gives, one element further.
-use Rattle.std.proofs.Common.{◌≡◌, ℕ, ◌+◌, ◌<◌, ◌≤◌, List, [], ◌∷◌, length, get_or, take, refl, ap, Option, Some, None, arith, leb-true}
+-- The earliest deadline of a bot, and the moment before which none was heard.
+use Rattle.std.proofs.Common.{◌≡◌, ℕ, ◌+◌, ◌<◌, ◌≤◌, List, [], ◌∷◌, length, get_or, take, refl, Option, Some, None, arith, leb-true}
 use Rattle.std.specs.List.{fold, filter_map, cons_option, All}
-use Rattle.std.specs.Option.{option_to_list, option_and_then}
+use Rattle.std.specs.Option.{option_and_then}
 use Rattle.std.specs.Bool.{OnFalse}
 use Rattle.std.specs.Prelude.{nat_le, Bool, true, false, IfSome, if◌then◌else◌}
-use Rattle.std.proofs.lemmas.List.{take_more}
-use Rattle.std.proofs.lemmas.List.Elements.{filter_map-append, All-tail, All-more, All-weaker}
-use Rattle.std.proofs.lemmas.List.Sums.{fold-append}
+use Rattle.std.proofs.lemmas.List.Elements.{All-tail, All-more, All-weaker}
 use Rattle.swarm_model.specs.declared.bot_row.BotRow.{BotRow}
 use Rattle.swarm_model.specs.declared.deadline.Cause.TheVariants as cause
 use Rattle.swarm_model.specs.declared.deadline.Deadline.{Deadline}
 use Rattle.swarm_model.specs.Deadlines.{sooner, is_earlier, if_come}
-use Rattle.bot_registry.specs.Inside.{IsDeath, HeardSince, end_of}
-
-cons_nil : {Y : Type 0} (o : Option Y) → cons_option o [] ≡ option_to_list o
-cons_nil None = refl
-cons_nil (Some y) = refl
-
-pub fold-filter_map_more : {X Y B : Type 0} (f : B → Y → B) (h : X → Option Y) (b : B) (xs : List X) (i : ℕ) (x : X) → i < length xs →
-    x ≡ get_or xs i x →
-    fold f b (filter_map h (take (i + 1) xs)) ≡ fold f (fold f b (filter_map h (take i xs))) (option_to_list (h x))
-fold-filter_map_more f h b xs i x low is =
-    rw (take_more xs i x low, filter_map-append, fold-append, ← is) (ap (fold f (fold f b (filter_map h (take i xs)))) (cons_nil (h x)))
+use Rattle.row_changes.specs.Bots.{death_of}
+use Rattle.bot_registry.specs.Inside.{IsDeath, HeardSince}
 
 abbrev end_at : ℕ → BotRow → Deadline
 end_at timeout bot = record { moment = bot.contact + timeout; cause = cause.Bot; number = bot.no }
@@ -36,7 +25,7 @@ next_sooner P (Some best) d is here = by_earlier (is_earlier d best)
 
 -- what holds of each bot's deadline holds of the earliest
 soonest : (P : Deadline → Type 0) (timeout : ℕ) (rows : List BotRow) (best : Option Deadline) → IfSome best P → All (λ bot. OnFalse bot.dead (P (end_at timeout bot))) rows →
-    IfSome (fold sooner best (filter_map (end_of timeout) rows)) P
+    IfSome (fold sooner best (filter_map (death_of timeout) rows)) P
 soonest P timeout [] best is all = is
 soonest P timeout (bot ∷ rows) best is all =
     by_test bot.dead (all 0 bot (omega arith)) (soonest P timeout rows best is rest) (λ here. soonest P timeout rows (sooner best (end_at timeout bot)) (next_sooner P best (end_at timeout bot) is here) rest)
@@ -44,9 +33,9 @@ soonest P timeout (bot ∷ rows) best is all =
     rest : All (λ bot. OnFalse bot.dead (P (end_at timeout bot))) rows
     rest = All-tail (λ bot. OnFalse bot.dead (P (end_at timeout bot))) bot rows all
 
-    by_test : (dead : Bool) → OnFalse dead (P (end_at timeout bot)) → IfSome (fold sooner best (filter_map (end_of timeout) rows)) P →
-        (P (end_at timeout bot) → IfSome (fold sooner (sooner best (end_at timeout bot)) (filter_map (end_of timeout) rows)) P) →
-        IfSome (fold sooner best (cons_option (if dead then None else Some (end_at timeout bot)) (filter_map (end_of timeout) rows))) P
+    by_test : (dead : Bool) → OnFalse dead (P (end_at timeout bot)) → IfSome (fold sooner best (filter_map (death_of timeout) rows)) P →
+        (P (end_at timeout bot) → IfSome (fold sooner (sooner best (end_at timeout bot)) (filter_map (death_of timeout) rows)) P) →
+        IfSome (fold sooner best (cons_option (if dead then None else Some (end_at timeout bot)) (filter_map (death_of timeout) rows))) P
     by_test true here dead more = dead
     by_test false here dead more = more here
 
@@ -55,7 +44,7 @@ on_false true P p = tt
 on_false false P p = p
 
 -- the earliest of bots' deadlines is a bot's
-pub soonest_death : (timeout : ℕ) (rows : List BotRow) → IfSome (fold sooner None (filter_map (end_of timeout) rows)) IsDeath
+pub soonest_death : (timeout : ℕ) (rows : List BotRow) → IfSome (fold sooner None (filter_map (death_of timeout) rows)) IsDeath
 soonest_death timeout rows = soonest IsDeath timeout rows None tt (λ k d low. on_false (get_or rows k d).dead _ refl)
 
 late : (moment : ℕ) (o : Option Deadline) → IfSome o (λ d. moment < d.moment) → option_and_then (if_come moment) o ≡ None
@@ -68,7 +57,7 @@ late moment (Some d) is = by_test (nat_le d.moment moment) refl
 
 -- the earliest deadline of a bot, where it has come by a moment
 abbrev pub due_by : ℕ → ℕ → List BotRow → Option Deadline
-due_by moment timeout rows = option_and_then (if_come moment) (fold sooner None (filter_map (end_of timeout) rows))
+due_by moment timeout rows = option_and_then (if_come moment) (fold sooner None (filter_map (death_of timeout) rows))
 
 -- where every living bot was heard late enough, none is dead by the moment
 pub none_late : (moment since timeout : ℕ) (rows : List BotRow) → All (HeardSince since) rows → moment < since + timeout →

@@ -1,5 +1,3 @@
-mod Numbered
-mod Lent
 mod RowEffects
 mod Folding
 mod Named

@@ -1,5 +1,5 @@
 -- The rows after an entry.
-use Rattle.std.proofs.Common.{◌≡◌, ℕ, ◌+◌, ◌^◌, ◌≤◌, List, [], ◌∷◌, ◌++◌, map, length, append-nil, refl, sym, ap, ◌∙◌, subst, Option, Some, None, Bool, true, false, cond, arith, eqb-true}
+use Rattle.std.proofs.Common.{◌≡◌, ℕ, ◌+◌, ◌^◌, ◌≤◌, List, [], ◌∷◌, ◌++◌, map, length, refl, sym, ap, ◌∙◌, subst, Option, Some, None, Bool, true, false, cond, arith, eqb-true}
 use Rattle.std.specs.Prelude.{◌==◌, ◌<◌, if◌then◌else◌, MatchOption, IfSome, ⊤}
 use Rattle.std.specs.List.{find, All}
 use Rattle.std.specs.Option.{option_map_or}
@@ -10,65 +10,23 @@ use Rattle.dimensions.specs.declared.text.Text.{Text}
 use Rattle.dimensions.specs.declared.bot_dims.BotDims.{BotDims}
 use Rattle.swarm_model.specs.declared.bot_row.BotRow.{BotRow}
 use Rattle.swarm_model.specs.declared.attempt.Last.{Last}
-use Rattle.swarm_model.specs.declared.pool_state.PoolState.{PoolState}
-use Rattle.swarm_model.specs.declared.entry.Entry.{Entry}
 use Rattle.swarm_model.specs.declared.entry.EntryKind.{EntryKind}
 use Rattle.swarm_model.specs.declared.entry.EntryKind.TheVariants as kind
 use Rattle.swarm_model.specs.declared.entry.EventKind.{EventKind}
 use Rattle.swarm_model.specs.declared.entry.EventKind.TheVariants as event
 use Rattle.swarm_model.specs.Numbers.{AreNumbered, change_at}
 use Rattle.swarm_model.specs.Finding.{is_bot}
-use Rattle.swarm_model.specs.Effects.{no_of_bot, bot_after, after, session_row, event_effect, idle_bot_at, if_some, bot_at, heard, runs_task}
+use Rattle.swarm_model.specs.Effects.{no_of_bot, bot_after, session_row, event_effect, idle_bot_at, if_some, bot_at, heard, runs_task}
+use Rattle.row_changes.specs.declared.parts.BotParts.{BotParts}
+use Rattle.row_changes.specs.Rows.{IsHeard}
+use Rattle.row_changes.specs.Bots.{with_bot, bots_after, HasRoomFor}
+use Rattle.row_changes.proofs.Numbered.{find_before, changed_none, numbered-map, numbered-push}
+use Rattle.row_changes.proofs.RowEffects.{with_bot-new, with_bot-known}
 use Rattle.bot_registry.specs.Plain.{RegistryState}
 use Rattle.bot_registry.specs.Acting.{row_of, IsNewBot, Follows}
-use Rattle.bot_registry.specs.Inside.{IsHeard, HeardSince, with_bot, rows_after, HasRoom, IsNextBot, FollowsIn}
+use Rattle.bot_registry.specs.Inside.{HeardSince, IsNextBot, FollowsIn}
 use Rattle.bot_registry.specs.Names.{name_of, AreByName}
 use Rattle.bot_registry.proofs.Folding.{on_false}
-use Rattle.bot_registry.proofs.Numbered.{find_before, numbered-map, numbered-push}
-
--- the rows are those of every pool that had the rows before
-pub rows_after-is : (s : PoolState) (moment pass : ℕ) (k : EntryKind) → rows_after moment k s.bots ≡ (after s (record { moment = moment; pass = pass; kind = k })).bots
-rows_after-is s moment pass (kind.Handshake b id session dims q) = refl
-rows_after-is s moment pass (kind.Silence t) = sym (append-nil _)
-rows_after-is s moment pass (kind.Dead b) = sym (append-nil _)
-rows_after-is s moment pass (kind.Poll b dims q hint) = sym (append-nil _)
-rows_after-is s moment pass (kind.Claim b t claim) = sym (append-nil _)
-rows_after-is s moment pass (kind.Contact b) = sym (append-nil _)
-rows_after-is s moment pass (kind.Event b e text) = sym (append-nil _)
-rows_after-is s moment pass (kind.Update b t try_no chunk last) = sym (append-nil _)
-rows_after-is s moment pass (kind.Terminate b) = sym (append-nil _)
-rows_after-is s moment pass (kind.Slice t to) = sym (append-nil _)
-rows_after-is s moment pass (kind.Blob n kept) = sym (append-nil _)
-rows_after-is s moment pass (kind.New t who request state slice from) = sym (append-nil _)
-rows_after-is s moment pass (kind.Cancel t) = sym (append-nil _)
-rows_after-is s moment pass (kind.Kill t) = sym (append-nil _)
-rows_after-is s moment pass (kind.Put digest size) = sym (append-nil _)
-
--- where no bot has the number, a change at the number changes none
-none_at : (number : ℕ) (change : BotRow → BotRow) (bots : List BotRow) → find (is_bot number) bots ≡ None → map (change_at no_of_bot number change) bots ≡ bots
-none_at number change [] e = refl
-none_at number change (bot ∷ bots) e = by_test (bot.no == number) e (none_at number change bots)
-  where
-    by_test : (b : Bool) → cond b (Some bot) (find (is_bot number) bots) ≡ None → (find (is_bot number) bots ≡ None → map (change_at no_of_bot number change) bots ≡ bots) →
-        (cond b (change bot) bot ∷ map (change_at no_of_bot number change) bots) ≡ (bot ∷ bots)
-    by_test true h rest = absurd (cc (h))
-    by_test false h rest = ap (λ (others : List BotRow). bot ∷ others) (rest h)
-
--- the row of a new bot stands behind all others, which stay
-pub with_bot-new : (row : BotRow) (rows : List BotRow) → row_of rows row.no ≡ None → with_bot row rows ≡ rows ++ row ∷ []
-with_bot-new row rows none =
-    sym (ap (λ (xs : List BotRow). xs ++ row ∷ []) (sym (none_at row.no (λ old. row) rows none))
-    ∙ ap (λ (o : Option BotRow). map (change_at no_of_bot row.no (λ old. row)) rows ++ option_map_or (λ old. []) o (row ∷ [])) (sym none))
-
--- the row of a bot that is there stands at its place
-pub with_bot-known : (row known : BotRow) (rows : List BotRow) → row_of rows row.no ≡ Some known → with_bot row rows ≡ map (change_at no_of_bot row.no (λ old. row)) rows
-with_bot-known row known rows some =
-    ap (λ (o : Option BotRow). map (change_at no_of_bot row.no (λ old. row)) rows ++ option_map_or (λ old. []) o (row ∷ [])) some ∙ append-nil _
-
--- two changes, one after the other
-pub map-both : (f g : BotRow → BotRow) (rows : List BotRow) → map g (map f rows) ≡ map (λ bot. g (f bot)) rows
-map-both f g [] = refl
-map-both f g (row ∷ rows) = ap (λ (others : List BotRow). g (f row) ∷ others) (map-both f g rows)
 
 -- ---- the numbers stay
 
@@ -145,12 +103,12 @@ pub record Stays (old new : List BotRow) : Type 0 where
   pub numbers : map no_of_bot new ≡ map no_of_bot old
   pub names : map name_of new ≡ map name_of old
 
-rows_after-other : (moment : ℕ) (k : EntryKind) → IsOther k → (rows : List BotRow) → rows_after moment k rows ≡ map (bot_after moment k) rows
-rows_after-other moment (kind.Handshake b id session dims q) other rows = absurd other
-rows_after-other moment k other rows = refl
+bots_after-other : (moment : ℕ) (k : EntryKind) → IsOther k → (rows : List BotRow) → bots_after moment k rows ≡ map (bot_after moment k) rows
+bots_after-other moment (kind.Handshake b id session dims q) other rows = absurd other
+bots_after-other moment k other rows = refl
 
-pub other_stays : (moment : ℕ) (k : EntryKind) → IsOther k → (rows : List BotRow) → Stays rows (rows_after moment k rows)
-other_stays moment k other rows = rw (rows_after-other moment k other rows) (record {
+pub other_stays : (moment : ℕ) (k : EntryKind) → IsOther k → (rows : List BotRow) → Stays rows (bots_after moment k rows)
+other_stays moment k other rows = rw (bots_after-other moment k other rows) (record {
   numbers = kept_of_all no_of_bot (bot_after moment k) (after_no moment k) rows;
   names = kept_of_all name_of (bot_after moment k) (after_name moment k other) rows;
 })
@@ -168,7 +126,7 @@ renamed n b row (first ∷ rows) numbered same =
     by_test true test same rest =
         let is : first.no ≡ b = eqb-true first.no b test in
         let above : b < n + 1 = omega (arith, numbered.0) in
-        let others = ap (λ (xs : List BotRow). map name_of xs) (none_at b (λ old. row) rows (find_before (n + 1) b rows numbered.1 above)) in
+        let others = ap (λ (xs : List BotRow). map name_of xs) (changed_none no_of_bot rows b (λ old. row) (find_before no_of_bot (n + 1) b rows numbered.1 above)) in
         let name = sym same in cc (name, others)
     by_test false test same rest = ap (λ (others : List (List ℕ)). first.name ∷ others) (rest same)
 
@@ -253,7 +211,7 @@ all_added : (P : BotRow → Type 0) (row : BotRow) (o : Option BotRow) → P row
 all_added P row None here = All-cons P row [] here (All-nil P)
 all_added P row (Some old) here = All-nil P
 
-pub since_stays : (since moment : ℕ) (k : EntryKind) (rows : List BotRow) → since ≤ moment → All (HeardSince since) rows → All (HeardSince since) (rows_after moment k rows)
+pub since_stays : (since moment : ℕ) (k : EntryKind) (rows : List BotRow) → since ≤ moment → All (HeardSince since) rows → All (HeardSince since) (bots_after moment k rows)
 since_stays since moment (kind.Handshake b id session dims q) rows le all =
     All-append (HeardSince since) _ _ (map_since since moment (kind.Handshake b id session dims q) rows le all) (all_added (HeardSince since) (session_row moment b id session dims q) (row_of rows b) le)
 since_stays since moment k rows le all = map_since since moment k rows le all
@@ -261,7 +219,7 @@ since_stays since moment k rows le all = map_since since moment k rows le all
 -- ---- numbers and early moments, for all rows
 
 pub numbered_after : (moment : ℕ) (k : EntryKind) (rows : List BotRow) → AreNumbered no_of_bot 1 rows → AreNumbered no_of_bot 1 (map (bot_after moment k) rows)
-numbered_after moment k rows numbered = numbered-map (bot_after moment k) (after_no moment k) 1 rows numbered
+numbered_after moment k rows numbered = numbered-map no_of_bot (bot_after moment k) (after_no moment k) 1 rows numbered
 
 pub heard_after : (moment : ℕ) (k : EntryKind) (rows : List BotRow) → moment ≤ 2 ^ 40 → All IsHeard rows → All IsHeard (map (bot_after moment k) rows)
 heard_after moment k rows early heard =
@@ -277,12 +235,12 @@ session_row_after : (moment : ℕ) (row : BotRow) (rows : List BotRow) (o : Opti
 session_row_after moment row rows None is next heard old all =
     let none : with_bot row rows ≡ rows ++ row ∷ [] = with_bot-new row rows (sym is) in
     rw none (record {
-      numbered = numbered-push 1 rows row old.numbered (omega (arith, next));
+      numbered = numbered-push no_of_bot 1 rows row old.numbered (omega (arith, next));
       heard = All-push IsHeard rows row old.heard heard;
     })
 session_row_after moment row rows (Some bot) is next heard old all = rw (with_bot-known row bot rows (sym is)) all
 
-pub rows_stay : (moment : ℕ) (k : EntryKind) (kept : RegistryState) → moment ≤ 2 ^ 40 → Follows kept k → AreRows kept.rows → AreRows (rows_after moment k kept.rows)
+pub rows_stay : (moment : ℕ) (k : EntryKind) (kept : RegistryState) → moment ≤ 2 ^ 40 → Follows kept k → AreRows kept.rows → AreRows (bots_after moment k kept.rows)
 rows_stay moment (kind.Handshake b id session dims q) kept early follows old =
     session_row_after moment (session_row moment b id session dims q) kept.rows (row_of kept.rows b) refl (next_of (row_of kept.rows b) follows) early old
     (record { numbered = numbered_after moment (kind.Handshake b id session dims q) kept.rows old.numbered; heard = heard_after moment (kind.Handshake b id session dims q) kept.rows early old.heard })
@@ -294,7 +252,7 @@ rows_stay moment k kept early follows old =
     record { numbered = numbered_after moment k kept.rows old.numbered; heard = heard_after moment k kept.rows early old.heard }
 
 -- where a handshake needs room, there may be one bot more
-pub room_for : (kept : RegistryState) (k : EntryKind) (len capacity : ℕ) → Follows kept k → (length kept.rows < kept.most → len < capacity) → HasRoom kept.rows len capacity k
+pub room_for : (kept : RegistryState) (k : EntryKind) (len capacity : ℕ) → Follows kept k → (length kept.rows < kept.most → len < capacity) → HasRoomFor kept.rows len capacity k
 room_for kept (kind.Handshake b id session dims q) len capacity follows room = by_row (row_of kept.rows b) follows
   where
     by_row : (o : Option BotRow) → MatchOption o (IsNewBot kept b id) (λ bot. bot.name ≡ id) → MatchOption o (len < capacity) (λ bot. ⊤)
@@ -310,8 +268,10 @@ follows_in kept (kind.Handshake b id session dims q) len capacity follows room =
     by_row (Some bot) same = same
 follows_in kept k len capacity follows room = tt
 
-pub ready_is : (o : Option Entry) (copy e : Entry) → o ≡ Some copy → o ≡ Some e → copy ≡ e
-ready_is o copy e is made = let same : Some copy ≡ Some e = sym is ∙ made in cc
+pub room_of : {P : Type 0} (o : Option BotParts) (parts : BotParts) → o ≡ Some parts → IfSome o (λ p. P) → P
+room_of {P} o parts is room = subst (λ (x : Option BotParts). IfSome x (λ p. P)) is room
 
-pub room_of : {P : Type 0} (o : Option Entry) (copy : Entry) → o ≡ Some copy → IfSome o (λ e. P) → P
-room_of {P} o copy is room = subst (λ (x : Option Entry). IfSome x (λ e. P)) is room
+-- where no bot has the number, a handshake is that of a new bot
+pub next_bot : (rows : List BotRow) (len capacity number : ℕ) (name : List ℕ) (o : Option BotRow) → o ≡ None →
+    MatchOption o (IsNextBot rows len capacity number name) (λ bot. bot.name ≡ name) → IsNextBot rows len capacity number name
+next_bot rows len capacity number name o none all = subst (λ (x : Option BotRow). MatchOption x (IsNextBot rows len capacity number name) (λ bot. bot.name ≡ name)) none all

@@ -1,15 +1,15 @@
 -- What a registry keeps, and what holds of it.
-use Rattle.std.specs.Prelude.{◌≡◌, ℕ, ◌+◌, ◌^◌, ◌<◌, ◌≤◌, List, [], ◌∷◌, ◌++◌, map, length, Option, Some, None, IfSome, MatchOption, ⊤, vec_len, vec_capacity, if◌then◌else◌}
+use Rattle.std.specs.Prelude.{◌≡◌, ℕ, ◌+◌, ◌^◌, ◌<◌, ◌≤◌, List, map, length, None, IfSome, MatchOption, ⊤, vec_len, vec_capacity}
 use Rattle.std.specs.Bool.{OnFalse}
 use Rattle.std.specs.List.{All}
-use Rattle.std.specs.Option.{option_map_or}
 use Rattle.swarm_model.specs.declared.bot_row.BotRow.{BotRow}
 use Rattle.swarm_model.specs.declared.deadline.Cause.TheVariants as cause
 use Rattle.swarm_model.specs.declared.deadline.Deadline.{Deadline}
 use Rattle.swarm_model.specs.declared.entry.EntryKind.{EntryKind}
 use Rattle.swarm_model.specs.declared.entry.EntryKind.TheVariants as kind
-use Rattle.swarm_model.specs.Numbers.{AreNumbered, change_at}
-use Rattle.swarm_model.specs.Effects.{no_of_bot, runs_task, silent_bot, bot_after, session_row}
+use Rattle.swarm_model.specs.Numbers.{AreNumbered}
+use Rattle.swarm_model.specs.Effects.{no_of_bot}
+use Rattle.row_changes.specs.Rows.{IsHeard}
 use Rattle.bot_registry.specs.declared.registry.Registry.TheInside.{Inside}
 use Rattle.bot_registry.specs.Plain.{RegistryState}
 use Rattle.bot_registry.specs.Acting.{row_of, row_named}
@@ -18,10 +18,6 @@ use Rattle.bot_registry.specs.Names.{name_of, AreByName}
 abbrev pub kept_of : Inside → RegistryState
 kept_of registry =
     record { rows = registry.rows.items; ready = registry.ready; most = registry.most; death_timeout = registry.death_timeout }
-
--- a moment to which the seconds of a timeout can be added
-abbrev pub IsHeard : BotRow → Type 0
-IsHeard bot = bot.contact ≤ 2 ^ 40
 
 -- a bot that isn't dead was heard at the moment or after it
 abbrev pub HeardSince : ℕ → BotRow → Type 0
@@ -40,29 +36,8 @@ pub record IsKept (registry : Inside) : Type 0 where
   pub named : AreByName (map no_of_bot registry.rows.items) (map name_of registry.rows.items) registry.by_name.items
   pub early : registry.heard_since ≤ 2 ^ 40
   pub since : All (HeardSince registry.heard_since) registry.rows.items
-  pub prepared : IfSome registry.ready (λ entry.
+  pub prepared : IfSome registry.ready (λ parts.
       HasPlaces (length registry.rows.items) registry.most (vec_len registry.rows) (vec_capacity registry.rows) (vec_len registry.by_name) (vec_capacity registry.by_name))
-
-abbrev pub silent_bot_if : ℕ → BotRow → BotRow
-silent_bot_if number bot = if runs_task number bot then silent_bot bot else bot
-
--- the rows with the row of a bot that comes
-abbrev pub with_bot : BotRow → List BotRow → List BotRow
-with_bot row rows = map (change_at no_of_bot row.no (λ old. row)) rows ++ option_map_or (λ old. []) (row_of rows row.no) (row ∷ [])
-
--- the rows after an entry of this kind
-abbrev pub rows_after : ℕ → EntryKind → List BotRow → List BotRow
-rows_after moment (kind.Handshake b id session dims q) rows = with_bot (session_row moment b id session dims q) rows
-rows_after moment entry rows = map (bot_after moment entry) rows
-
--- there is room for a bot that comes for the first time
-abbrev pub HasRoom : List BotRow → ℕ → ℕ → EntryKind → Type 0
-HasRoom rows len capacity (kind.Handshake b id session dims q) = MatchOption (row_of rows b) (len < capacity) (λ bot. ⊤)
-HasRoom rows len capacity entry = ⊤
-
--- the deadline of a bot that isn't dead
-abbrev pub end_of : ℕ → BotRow → Option Deadline
-end_of timeout bot = if bot.dead then None else Some (record { moment = bot.contact + timeout; cause = cause.Bot; number = bot.no })
 
 -- the deadline is a bot's
 abbrev pub IsDeath : Deadline → Type 0

@@ -8,10 +8,11 @@ ghost use Rattle.swarm_model.specs.Numbers.{AreNumbered};
 ghost use Rattle.swarm_model.specs.Effects.{no_of_bot};
 ghost use Rattle.bot_registry.specs.Acting.{row_named};
 ghost use Rattle.bot_registry.specs.Names.{name_of, name_at, AreByName};
-ghost use Rattle.bot_registry.specs.Inside.{rows_after, FollowsIn};
+ghost use Rattle.row_changes.specs.Bots.{bots_after};
+ghost use Rattle.bot_registry.specs.Inside.{FollowsIn};
 
-use crate::scans::row_of;
 use dimensions::Text;
+use row_changes::row_of;
 use std::cmp::Ordering;
 use swarm_model::{BotRow, EntryKind};
 
@@ -77,7 +78,7 @@ pub(crate) fn follow(rows: &[BotRow], numbers: &mut Vec<u32>, kind: &EntryKind)
     requires numbered { AreNumbered no_of_bot 1 rows.now }
     requires named { AreByName (map no_of_bot rows.now) (map name_of rows.now) numbers.old.items }
     requires follows { FollowsIn rows.now (vec_len numbers.old) (vec_capacity numbers.old) kind.now }
-    ensures { (moment : ℕ) → AreByName (map no_of_bot (rows_after moment kind.now rows.now)) (map name_of (rows_after moment kind.now rows.now)) numbers.new.items }
+    ensures { (moment : ℕ) → AreByName (map no_of_bot (bots_after moment kind.now rows.now)) (map name_of (bots_after moment kind.now rows.now)) numbers.new.items }
 {
     if let EntryKind::Handshake { b, id, .. } = kind {
         if row_of(rows, *b).is_none() {

@@ -3,12 +3,13 @@ ghost use Rattle.std.specs.List.{list_any};
 ghost use Rattle.std.specs.Option.{option_copied, option_map};
 ghost use Rattle.swarm_model.specs.Slices.{could_run};
 ghost use Rattle.swarm_model.specs.Effects.{no_of_bot};
+ghost use Rattle.row_changes.specs.Parts.{bot_parts};
 ghost use Rattle.bot_registry.specs.Acting.{row_of, row_named, IsAfter, Follows};
 ghost use Rattle.bot_registry.specs.Silence.{IsDueDeath};
 
-use crate::acting::act;
-use crate::{names, scans, silence};
-use dimensions::{DimSet, Text, TryCopy};
+use crate::{names, silence};
+use dimensions::{DimSet, Text};
+use row_changes::{BotParts, change_bots, is_capable, row_of};
 use std::alloc::{AllocError, Global};
 use std::marker::Model;
 use std::mem;
@@ -25,7 +26,8 @@ pub struct Registry {
     by_name: Vec<u32>,
     /// No bot that isn't dead was last heard before this moment.
     heard_since: u64,
-    ready: Option<Entry>,
+    /// What the entry that was reserved moves into a row.
+    ready: Option<BotParts>,
 }
 
 impl Model for Registry {
@@ -75,14 +77,14 @@ impl Registry {
     pub fn bot(&self, no: u32) -> Option<&BotRow>
         ensures { option_copied result ≡ row_of self.now.rows no }
     {
-        scans::row_of(&self.rows, no)
+        row_of(&self.rows, no)
     }
 
     /// Whether some fit bot, busy or not, has the dimensions.
     pub fn capable(&self, dims: &DimSet) -> bool
         ensures { result ≡ list_any (could_run dims.now) self.now.rows }
     {
-        scans::capable(&self.rows, dims)
+        is_capable(&self.rows, dims)
     }
 
     /// Of the deadlines of bots that aren't dead, the earliest by moment and then number, where it
@@ -98,7 +100,7 @@ impl Registry {
 
     /// Makes ready all that the entry's change of the rows needs, so that `apply` takes no memory.
     pub fn reserve(&mut self, entry: &Entry) -> Result<(), AllocError>
-        ensures ok { OnOk result (self.new ≡ record self.old { ready = Some entry.now }) }
+        ensures ok { OnOk result (self.new ≡ record self.old { ready = Some (bot_parts entry.now.kind) }) }
         ensures err { OnErr result (self.new ≡ record self.old { ready = None }) }
     {
         drop(self.ready.take());
@@ -106,14 +108,14 @@ impl Registry {
             self.rows.reserve(1)?;
             self.by_name.reserve(1)?;
         }
-        let copy = entry.try_copy(self.alloc)?;
-        drop(mem::replace(&mut self.ready, Some(copy)));
+        let parts = BotParts::copied(self.alloc, &entry.kind)?;
+        drop(mem::replace(&mut self.ready, Some(parts)));
         Ok(())
     }
 
     /// Does to the rows what the entry does that was reserved just before. It takes no memory.
     pub fn apply(&mut self, entry: &Entry)
-        requires ready { self.old.ready ≡ Some entry.now }
+        requires ready { self.old.ready ≡ Some (bot_parts entry.now.kind) }
         requires early { entry.now.moment ≤ 2 ^ 40 }
         requires follows { Follows self.old entry.now.kind }
         ensures rows { IsAfter self.old.rows entry.now self.new.rows }
@@ -121,20 +123,15 @@ impl Registry {
     {
         match self.ready.take() {
             None => unreachable!(),
-            Some(copy) => {
-                let Entry {
-                    moment,
-                    pass: _,
-                    kind,
-                } = copy;
-                names::follow(&self.rows, &mut self.by_name, &kind);
-                act(&mut self.rows, self.alloc, moment, kind);
-                let since = self.heard_since.min(moment);
+            Some(parts) => {
+                names::follow(&self.rows, &mut self.by_name, &entry.kind);
+                change_bots(&mut self.rows, self.alloc, entry.moment, &entry.kind, parts);
+                let since = self.heard_since.min(entry.moment);
                 self.heard_since = silence::heard_since(
                     &self.rows,
                     since,
                     self.death_timeout,
-                    moment,
+                    entry.moment,
                 );
             }
         }

@@ -1,78 +1,24 @@
 //! The first bot that was silent for too long.
 ghost use Rattle.std.specs.Prelude.{◌≡◌, ◌≤◌, ◌^◌, None, IfSome};
 ghost use Rattle.std.specs.List.{fold, filter_map, All};
-ghost use Rattle.std.specs.Option.{option_map, option_and_then, option_to_list};
-ghost use Rattle.swarm_model.specs.Deadlines.{rank, is_earlier, earlier, sooner, if_come};
+ghost use Rattle.std.specs.Option.{option_map, option_and_then};
+ghost use Rattle.swarm_model.specs.Deadlines.{sooner, if_come};
+ghost use Rattle.row_changes.specs.Rows.{IsHeard};
+ghost use Rattle.row_changes.specs.Bots.{death_of};
 ghost use Rattle.bot_registry.specs.Silence.{death};
-ghost use Rattle.bot_registry.specs.Inside.{IsHeard, HeardSince, IsDeath, end_of};
+ghost use Rattle.bot_registry.specs.Inside.{HeardSince, IsDeath};
 
-use swarm_model::{BotRow, Cause, Deadline};
-
-fn rank(cause: Cause) -> u8
-    ensures { result ≡ rank cause }
-{
-    match cause {
-        Cause::Slice => 1,
-        Cause::Silence => 2,
-        Cause::Bot => 3,
-    }
-}
-
-fn is_earlier(one: Deadline, other: Deadline) -> bool
-    ensures { result ≡ is_earlier one other }
-{
-    one.moment < other.moment
-        || (one.moment == other.moment
-            && (rank(one.cause) < rank(other.cause)
-                || (rank(one.cause) == rank(other.cause) && one.number < other.number)))
-}
-
-fn earlier(best: Option<Deadline>, deadline: Deadline) -> Deadline
-    ensures { result ≡ earlier best deadline }
-{
-    match best {
-        None => deadline,
-        Some(best) => {
-            if is_earlier(deadline, best) {
-                deadline
-            } else {
-                best
-            }
-        }
-    }
-}
-
-fn sooner_of(best: Option<Deadline>, deadline: Option<Deadline>) -> Option<Deadline>
-    ensures { result ≡ fold sooner best (option_to_list deadline) }
-{
-    match deadline {
-        None => best,
-        Some(deadline) => Some(earlier(best, deadline)),
-    }
-}
-
-fn end_of(timeout: u32, bot: &BotRow) -> Option<Deadline>
-    requires { IsHeard bot.now }
-    ensures { result ≡ end_of timeout bot.now }
-{
-    if bot.dead {
-        return None;
-    }
-    Some(Deadline {
-        moment: bot.contact + u64::from(timeout),
-        cause: Cause::Bot,
-        number: bot.no,
-    })
-}
+use row_changes::{death_of, sooner_of};
+use swarm_model::{BotRow, Deadline};
 
 /// The earliest deadline of a bot.
 pub(crate) fn first_end(rows: &[BotRow], timeout: u32) -> Option<Deadline>
     requires { All IsHeard rows.now }
-    ensures { result ≡ fold sooner None (filter_map (end_of timeout) rows.now) }
+    ensures { result ≡ fold sooner None (filter_map (death_of timeout) rows.now) }
 {
     let mut soonest = None;
     for bot in rows {
-        soonest = sooner_of(soonest, end_of(timeout, bot));
+        soonest = sooner_of(soonest, death_of(timeout, bot));
     }
     soonest
 }

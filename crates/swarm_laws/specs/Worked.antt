@@ -8,8 +8,7 @@ use Rattle.swarm_model.specs.declared.entry.Entry.{Entry}
 use Rattle.swarm_model.specs.declared.entry.EntryKind.TheVariants as kind
 use Rattle.swarm_model.specs.Answers.{entry_at}
 use Rattle.swarm_model.specs.Effects.{opening}
-use Rattle.swarm_model.specs.Examples.{settings, small_task, properties}
-use Rattle.swarm_model.specs.EndExamples.{exits}
+use Rattle.swarm_model.specs.Examples.{settings, small_task, properties, exits}
 use Rattle.swarm_model.specs.History.{IsCaused}
 
 abbrev pub small_dims : BotDims

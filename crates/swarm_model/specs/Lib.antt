@@ -24,6 +24,3 @@ pub mod Verdicts
 pub mod Points
 pub mod MachineState
 pub mod Examples
-pub mod BotExamples
-pub mod EndExamples
-pub mod ReuseExamples

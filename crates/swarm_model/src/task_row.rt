@@ -1,4 +1,4 @@
-use crate::{Attempt, TaskState};
+use crate::{Attempt, Last, TaskState};
 use dimensions::Text;
 use task_props::{NewTask, Slice};
 
@@ -27,6 +27,8 @@ impl TaskRow {
     ghost use Rattle.std.specs.Option.{option_copied};
     ghost use Rattle.swarm_model.specs.Finding.{has_state};
     ghost use Rattle.swarm_model.specs.Slices.{current_slice};
+    ghost use Rattle.swarm_model.specs.Views.{last_of};
+    ghost use Rattle.swarm_model.specs.Answers.{has_try, try_of};
 
     pub fn has_state(&self, state: TaskState) -> bool
         ensures { result ≡ has_state state self.now }
@@ -39,5 +41,34 @@ impl TaskRow {
         ensures { option_copied result ≡ current_slice self.now }
     {
         self.request.task_slices.as_slice().get(self.slice as usize)
+    }
+
+    /// The last report of the task's run.
+    pub fn last_report(&self) -> Option<&Last>
+        ensures { option_copied result ≡ last_of self.now }
+    {
+        match &self.attempt {
+            None => None,
+            Some(attempt) => attempt.last.as_ref(),
+        }
+    }
+
+    /// The number of the task's try, or 0 where it has none.
+    pub fn try_no(&self) -> u32
+        ensures { result ≡ try_of self.now }
+    {
+        match &self.attempt {
+            None => 0,
+            Some(attempt) => attempt.try_no,
+        }
+    }
+
+    pub fn has_try(&self, try_no: u32) -> bool
+        ensures { result ≡ has_try try_no self.now.attempt }
+    {
+        match &self.attempt {
+            None => false,
+            Some(attempt) => attempt.try_no == try_no,
+        }
     }
 }

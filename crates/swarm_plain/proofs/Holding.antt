@@ -8,7 +8,8 @@ use Rattle.swarm_model.specs.MachineState.{IsHistory}
 use Rattle.swarm_laws.proofs.Sound.{sound_always}
 use Rattle.swarm_plain.specs.declared.rows.Rows.{Rows}
 use Rattle.swarm_plain.specs.declared.list_pool.ListPool.TheInside.{Inside}
-use Rattle.swarm_plain.specs.Inside.{state_of, IsEarly, IsHeard, HasFewSlices, IsInOrder}
+use Rattle.row_changes.specs.Rows.{HasFewSlices, IsEarly, IsHeard}
+use Rattle.swarm_plain.specs.Inside.{state_of, IsInOrder}
 use Rattle.swarm_plain.specs.Invariant.{kept_of, IsKept}
 
 pub kept_sound : (pool : Inside) → IsKept pool → IsSound (state_of pool.rows)

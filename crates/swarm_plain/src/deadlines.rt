@@ -1,91 +1,16 @@
 //! The earliest deadline, by a scan of the rows.
 ghost use Rattle.std.specs.Prelude.{◌≡◌, None, IfSome};
 ghost use Rattle.std.specs.List.{fold, filter_map, All};
-ghost use Rattle.std.specs.Option.{option_copied, option_map, option_to_list};
-ghost use Rattle.swarm_model.specs.Slices.{current_slice};
+ghost use Rattle.std.specs.Option.{option_copied};
 ghost use Rattle.swarm_model.specs.Finding.{bot_of};
-ghost use Rattle.swarm_model.specs.Deadlines.{rank, slice_limit, slice_end, runner_of, silence_limit, silence_end, bot_end, is_earlier, earlier, sooner, next_deadline};
-ghost use Rattle.swarm_plain.specs.Inside.{state_of, IsEarly, IsHeard};
+ghost use Rattle.swarm_model.specs.Deadlines.{slice_end, runner_of, silence_end, bot_end, sooner, next_deadline};
+ghost use Rattle.row_changes.specs.Rows.{IsEarly, IsHeard};
+ghost use Rattle.swarm_plain.specs.Inside.{state_of};
 
 use crate::rows::Rows;
 use crate::scans;
-use swarm_model::{BotRow, Cause, Deadline, TaskRow, TaskState};
-use task_props::Slice;
-
-fn rank(cause: Cause) -> u8
-    ensures { result ≡ rank cause }
-{
-    match cause {
-        Cause::Slice => 1,
-        Cause::Silence => 2,
-        Cause::Bot => 3,
-    }
-}
-
-fn is_earlier(one: Deadline, other: Deadline) -> bool
-    ensures { result ≡ is_earlier one other }
-{
-    one.moment < other.moment
-        || (one.moment == other.moment
-            && (rank(one.cause) < rank(other.cause)
-                || (rank(one.cause) == rank(other.cause) && one.number < other.number)))
-}
-
-fn earlier(best: Option<Deadline>, deadline: Deadline) -> Deadline
-    ensures { result ≡ earlier best deadline }
-{
-    match best {
-        None => deadline,
-        Some(best) => {
-            if is_earlier(deadline, best) {
-                deadline
-            } else {
-                best
-            }
-        }
-    }
-}
-
-fn sooner_of(best: Option<Deadline>, deadline: Option<Deadline>) -> Option<Deadline>
-    ensures { result ≡ fold sooner best (option_to_list deadline) }
-{
-    match deadline {
-        None => best,
-        Some(deadline) => Some(earlier(best, deadline)),
-    }
-}
-
-fn slice_limit(task: &TaskRow, slice: &Slice) -> Deadline
-    requires { IsEarly task.now }
-    ensures { result ≡ slice_limit task.now slice.now }
-{
-    Deadline {
-        moment: task.since + u64::from(slice.expiration_secs),
-        cause: Cause::Slice,
-        number: task.no,
-    }
-}
-
-fn limit_of(task: &TaskRow, slice: Option<&Slice>) -> Option<Deadline>
-    requires { IsEarly task.now }
-    ensures { result ≡ option_map (slice_limit task.now) (option_copied slice.entry) }
-{
-    match slice {
-        None => None,
-        Some(slice) => Some(slice_limit(task, slice)),
-    }
-}
-
-fn slice_end(task: &TaskRow) -> Option<Deadline>
-    requires { IsEarly task.now }
-    ensures { result ≡ slice_end task.now }
-{
-    if task.has_state(TaskState::Pending) {
-        limit_of(task, task.current_slice())
-    } else {
-        None
-    }
-}
+use row_changes::{death_of, silence_limit, slice_end, sooner_of};
+use swarm_model::{BotRow, Deadline, TaskRow, TaskState};
 
 fn bot_of(rows: &Rows, number: u32) -> Option<&BotRow>
     requires { All IsHeard rows.now.bots.items }
@@ -107,17 +32,6 @@ fn runner_of<'a>(rows: &'a Rows, task: &TaskRow) -> Option<&'a BotRow>
     }
 }
 
-fn silence_limit(task: &TaskRow, bot: &BotRow) -> Deadline
-    requires { IsHeard bot.now }
-    ensures { result ≡ silence_limit task.now bot.now }
-{
-    Deadline {
-        moment: bot.contact + u64::from(task.request.bot_ping_tolerance_secs),
-        cause: Cause::Silence,
-        number: task.no,
-    }
-}
-
 fn silence_end(rows: &Rows, task: &TaskRow) -> Option<Deadline>
     requires { All IsHeard rows.now.bots.items }
     ensures { result ≡ silence_end (state_of rows.now) task.now }
@@ -135,14 +49,7 @@ fn bot_end(rows: &Rows, bot: &BotRow) -> Option<Deadline>
     requires { IsHeard bot.now }
     ensures { result ≡ bot_end (state_of rows.now) bot.now }
 {
-    if bot.dead {
-        return None;
-    }
-    Some(Deadline {
-        moment: bot.contact + u64::from(rows.settings.death_timeout_secs),
-        cause: Cause::Bot,
-        number: bot.no,
-    })
+    death_of(rows.settings.death_timeout_secs, bot)
 }
 
 fn slices_ends(rows: &Rows) -> Option<Deadline>

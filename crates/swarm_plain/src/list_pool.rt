@@ -3,11 +3,11 @@ ghost use Rattle.std.specs.Option.{option_map, option_to_list};
 ghost use Rattle.swarm_model.specs.Answers.{entry_at};
 
 use crate::deadlines::next_deadline;
-use crate::effects::push;
 use crate::rows::Rows;
 use crate::{scans, sources};
 use content_store::Filled;
 use dimensions::{BotDims, DimSet, Text, TryCopy};
+use row_changes::is_capable;
 use sha2::{Digest as Hash, Sha256};
 use std::alloc::{AllocError, Global};
 use std::marker::Model;
@@ -133,7 +133,7 @@ impl PoolQueries for ListPool {
     }
 
     fn capable(&self, dims: &DimSet) -> bool {
-        scans::capable(self.rows.bots.as_slice(), dims)
+        is_capable(self.rows.bots.as_slice(), dims)
     }
 
     fn next_deadline(&self) -> Option<Deadline> {
@@ -211,10 +211,10 @@ impl Machine for ListPool {
                     entry: copy,
                     weight,
                 } = ready;
-                self.rows.apply(self.alloc, copy);
+                self.rows.apply(self.alloc, &entry, copy);
                 let _most = self.rows.settings.most_weight;
                 self.weight += weight;
-                push(&mut self.log, entry);
+                self.log.push_reserved(entry);
             }
         }
     }

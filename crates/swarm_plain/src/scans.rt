@@ -1,16 +1,16 @@
 ghost use Rattle.std.specs.Prelude.{◌≡◌, map, None, if◌then◌else◌};
 ghost use Rattle.swarm_model.specs.History.{states};
-ghost use Rattle.std.specs.List.{find, filter, fold, count_by, list_any};
+ghost use Rattle.std.specs.List.{find, filter, fold, count_by};
 ghost use Rattle.std.specs.Option.{option_copied};
 ghost use Rattle.swarm_model.specs.Finding.{is_task, is_bot, is_called, has_state, is_wanted};
-ghost use Rattle.swarm_model.specs.Slices.{is_fit, could_run, takes_slice, waits_for, goes_before, foremost};
-ghost use Rattle.swarm_model.specs.Answers.{is_claim, is_claimed};
+ghost use Rattle.swarm_model.specs.Slices.{waits_for, goes_before, foremost};
+ghost use Rattle.swarm_model.specs.Answers.{is_claimed};
 ghost use Rattle.swarm_model.specs.Reuse.{is_sent};
 ghost use Rattle.dimensions.specs.Rules.{is_empty};
 
-use dimensions::{BotDims, DimSet, Text};
-use swarm_model::{Attempt, BotRow, TaskRow, TaskState};
-use task_props::Slice;
+use dimensions::{BotDims, Text};
+use row_changes::{is_claimed, is_sent, waits_for};
+use swarm_model::{BotRow, TaskRow, TaskState};
 
 fn is_task(number: u32, task: &TaskRow) -> bool
     ensures { result ≡ is_task number task.now }
@@ -78,32 +78,11 @@ pub(crate) fn bot_named<'a>(bots: &'a [BotRow], name: &Text) -> Option<&'a BotRo
     bots.iter().find(|bot| is_called(name, bot))
 }
 
-fn is_claim(bot: u32, claim: &Text, attempt: &Attempt) -> bool
-    ensures { result ≡ is_claim bot claim.now attempt.now }
-{
-    attempt.bot == bot && attempt.claim == *claim
-}
-
-fn is_claimed(bot: u32, claim: &Text, task: &TaskRow) -> bool
-    ensures { result ≡ is_claimed bot claim.now task.now }
-{
-    match &task.attempt {
-        Some(attempt) => is_claim(bot, claim, attempt),
-        None => false,
-    }
-}
-
 /// The task that the bot claimed under this id.
 pub(crate) fn claimed<'a>(tasks: &'a [TaskRow], bot: u32, claim: &Text) -> Option<&'a TaskRow>
     ensures { option_copied result ≡ find (is_claimed bot claim.now) tasks.now }
 {
     tasks.iter().find(|task| is_claimed(bot, claim, task))
-}
-
-fn is_sent(who: &Text, uuid: &Text, task: &TaskRow) -> bool
-    ensures { result ≡ is_sent who.now uuid.now task.now }
-{
-    task.creator == *who && task.request.request_uuid == *uuid
 }
 
 /// The first task with this caller and this uuid.
@@ -122,21 +101,6 @@ pub(crate) fn sent<'a>(tasks: &'a [TaskRow], who: &Text, uuid: &Text) -> Option<
     } else {
         first_sent(tasks, who, uuid)
     }
-}
-
-fn takes_slice(dims: &BotDims, slice: Option<&Slice>) -> bool
-    ensures { result ≡ takes_slice dims.now (option_copied slice.entry) }
-{
-    match slice {
-        Some(slice) => slice.properties.dimensions.matches(dims),
-        None => false,
-    }
-}
-
-fn waits_for(dims: &BotDims, task: &TaskRow) -> bool
-    ensures { result ≡ waits_for dims.now task.now }
-{
-    task.has_state(TaskState::Pending) && takes_slice(dims, task.current_slice())
 }
 
 fn goes_before(one: &TaskRow, other: &TaskRow) -> bool
@@ -174,19 +138,6 @@ pub(crate) fn first<'a>(tasks: &'a [TaskRow], dims: &BotDims) -> Option<&'a Task
     best
 }
 
-/// Whether the bot may take work, now or once it is done with what it runs.
-fn is_fit(bot: &BotRow) -> bool
-    ensures { result ≡ is_fit bot.now }
-{
-    !bot.dead && bot.quarantined.as_str().is_empty() && !bot.terminating
-}
-
-fn could_run(dims: &DimSet, bot: &BotRow) -> bool
-    ensures { result ≡ could_run dims.now bot.now }
-{
-    is_fit(bot) && dims.matches(&bot.dims)
-}
-
 fn is_bot(number: u32, bot: &BotRow) -> bool
     ensures { result ≡ is_bot number bot.now }
 {
@@ -198,11 +149,4 @@ pub(crate) fn bot_of(bots: &[BotRow], number: u32) -> Option<&BotRow>
     ensures { option_copied result ≡ find (is_bot number) bots.now }
 {
     bots.iter().find(|bot| is_bot(number, bot))
-}
-
-/// Whether some fit bot, busy or not, has the dimensions.
-pub(crate) fn capable(bots: &[BotRow], dims: &DimSet) -> bool
-    ensures { result ≡ list_any (could_run dims.now) bots.now }
-{
-    bots.iter().any(|bot| could_run(dims, bot))
 }

@@ -2,29 +2,18 @@
 ghost use Rattle.std.specs.Prelude.{◌≡◌, IfOk, None};
 ghost use Rattle.std.specs.List.{fold};
 ghost use Rattle.std.specs.Option.{option_copied};
-ghost use Rattle.swarm_model.specs.Views.{last_of};
 ghost use Rattle.swarm_model.specs.Reuse.{ended_well, is_young, has_hash, ran_hash, is_source, newer};
 
 use std::alloc::{AllocError, Global};
-use swarm_model::{Last, TaskRow, TaskState};
+use swarm_model::{TaskRow, TaskState};
 use task_props::{Digest, Slice};
-
-/// The last update of the task's run.
-fn last_of(task: &TaskRow) -> Option<&Last>
-    ensures { option_copied result ≡ last_of task.now }
-{
-    match &task.attempt {
-        None => None,
-        Some(attempt) => attempt.last.as_ref(),
-    }
-}
 
 /// Whether the run reported its end with 0.
 fn ended_well(task: &TaskRow) -> bool
     ensures { result ≡ ended_well task.now }
 {
     task.has_state(TaskState::Completed)
-        && match last_of(task) {
+        && match task.last_report() {
             None => false,
             Some(last) => last.exit_code == 0,
         }

@@ -5,7 +5,6 @@ ghost use Rattle.swarm_model.specs.Answers.{with, claim_again, unfit_of, claims,
 
 use crate::PoolQueries;
 use crate::replies::{refusal, reply_with_entry, unfit_refusal};
-use crate::rows::{is_empty, try_of};
 use crate::runs::{busy_refusal, run};
 use dimensions::{Text, TryCopy};
 use std::alloc::{AllocError, Global};
@@ -19,7 +18,7 @@ fn claim_again(alloc: Global, bot: &BotRow, task: &TaskRow) -> Result<Decision, 
     if task.state.is_final() {
         Ok(refusal(Rule::ClaimOver {
             task: task.no,
-            try_no: try_of(task),
+            try_no: task.try_no(),
             state: task.state,
         }))
     } else {
@@ -33,7 +32,7 @@ fn unfit_of(bot: &BotRow) -> Option<Unfit>
 {
     if bot.dead {
         Some(Unfit::Dead)
-    } else if !is_empty(&bot.quarantined) {
+    } else if !bot.quarantined.as_str().is_empty() {
         Some(Unfit::Quarantined)
     } else if bot.terminating {
         Some(Unfit::Terminating)

@@ -19,7 +19,6 @@ mod pool_queries;
 mod reading;
 mod replies;
 mod reusing;
-mod rows;
 mod runs;
 mod settling;
 mod terminating;

@@ -5,7 +5,6 @@ ghost use Rattle.swarm_model.specs.Answers.{with, sleep_secs, dims_unless, text_
 
 use crate::PoolQueries;
 use crate::replies::{refusal, reply_with_entry, unfit_refusal};
-use crate::rows::is_empty;
 use crate::runs::busy_refusal;
 use dimensions::{BotDims, Text, TryCopy};
 use std::alloc::{AllocError, Global};
@@ -85,7 +84,7 @@ fn poll_row<P: PoolQueries, L: Ledger>(
     let sleep = Reply::Sleep {
         secs: sleep_secs(bot),
     };
-    if !is_empty(quarantined) {
+    if !quarantined.as_str().is_empty() {
         return polls(alloc, bot, dims, quarantined, false, sleep);
     }
     if pool.first_for(dims, steps).is_some() {

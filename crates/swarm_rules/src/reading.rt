@@ -6,7 +6,6 @@ ghost use Rattle.swarm_model.specs.Answers.{if_named, named_task, with, result_o
 use crate::PoolQueries;
 use crate::permitting::{denied, may};
 use crate::replies::{refusal, reply_only};
-use crate::rows::has_try;
 use crate::views::view_of;
 use dimensions::Text;
 use std::alloc::{AllocError, Global};
@@ -16,7 +15,7 @@ use swarm_model::{Decision, Permission, Reply, Rule, Steps, TaskRow, TaskState};
 fn if_named(try_no: u32, task: &TaskRow) -> Option<&TaskRow>
     ensures { option_copied result ≡ if_named try_no task.now }
 {
-    if try_no == 0 || has_try(try_no, &task.attempt) {
+    if try_no == 0 || task.has_try(try_no) {
         Some(task)
     } else {
         None

@@ -5,7 +5,6 @@ ghost use Rattle.swarm_model.specs.Answers.{run_on, busy, run_from, run};
 
 use crate::PoolQueries;
 use crate::replies::refusal;
-use crate::rows::try_of;
 use dimensions::TryCopy;
 use std::alloc::{AllocError, Global};
 use std::sync::ledger::Ledger;
@@ -31,7 +30,7 @@ fn busy(task: &TaskRow) -> Decision
 {
     refusal(Rule::BotBusy {
         task: task.no,
-        try_no: try_of(task),
+        try_no: task.try_no(),
     })
 }
 

@@ -8,18 +8,8 @@ use crate::PoolQueries;
 use dimensions::{Seq, Text, TryCopy};
 use std::alloc::{AllocError, Global};
 use std::sync::ledger::Ledger;
-use swarm_model::{Attempt, Last, Steps, TaskRow, TaskView};
+use swarm_model::{Attempt, Steps, TaskRow, TaskView};
 use task_props::File;
-
-/// The last update of the task's run.
-fn last_of(task: &TaskRow) -> Option<&Last>
-    ensures { option_copied result ≡ last_of task.now }
-{
-    match &task.attempt {
-        None => None,
-        Some(attempt) => attempt.last.as_ref(),
-    }
-}
 
 /// A run is named by its task and its try.
 fn run_of(task: &TaskRow) -> Option<(u32, u32)>
@@ -46,7 +36,7 @@ fn exit_code_of(task: &TaskRow) -> Option<i32>
 {
     match task.source {
         Some(_) => Some(0),
-        None => match last_of(task) {
+        None => match task.last_report() {
             None => None,
             Some(last) => Some(last.exit_code),
         },
@@ -56,7 +46,7 @@ fn exit_code_of(task: &TaskRow) -> Option<i32>
 fn dropped_of(task: &TaskRow) -> Option<u64>
     ensures { result ≡ option_map (λ last. last.dropped) (last_of task.now) }
 {
-    match last_of(task) {
+    match task.last_report() {
         None => None,
         Some(last) => Some(last.dropped),
     }
@@ -65,7 +55,7 @@ fn dropped_of(task: &TaskRow) -> Option<u64>
 fn duration_of(task: &TaskRow) -> Option<u64>
     ensures { result ≡ option_map (λ last. last.duration_ms) (last_of task.now) }
 {
-    match last_of(task) {
+    match task.last_report() {
         None => None,
         Some(last) => Some(last.duration_ms),
     }
@@ -74,7 +64,7 @@ fn duration_of(task: &TaskRow) -> Option<u64>
 fn files_of(alloc: Global, task: &TaskRow) -> Result<Seq<File>, AllocError>
     ensures { IfOk result (λ files. files ≡ files_of (last_of task.now)) }
 {
-    match last_of(task) {
+    match task.last_report() {
         None => Ok(Seq::new(alloc)),
         Some(last) => last.files.try_copy(alloc),
     }

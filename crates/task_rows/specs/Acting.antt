@@ -1,5 +1,5 @@
 -- What an entry does to the rows, and what each call needs of it.
-use Rattle.std.specs.Prelude.{◌≡◌, ℕ, ◌+◌, ◌<◌, ◌≤◌, ◌^◌, List, length, Option, Some, None, IfSome, ⊤}
+use Rattle.std.specs.Prelude.{◌≡◌, ℕ, ◌+◌, ◌<◌, ◌^◌, List, Option, Some, None, IfSome, ⊤}
 use Rattle.std.specs.List.{find}
 use Rattle.std.specs.Option.{option_and_then}
 use Rattle.swarm_model.specs.declared.task_row.TaskRow.{TaskRow}
@@ -81,6 +81,3 @@ FitsBehind chunk attempt = attempt.length + chunk.size < 2 ^ 32
 -- where the chunk goes on from the output of the run, it fits behind it
 abbrev pub StaysShort : Option Attempt → Option Chunk → Type 0
 StaysShort run chunk = IfSome chunk (λ c. IfSome run (λ attempt. c.start ≡ attempt.length → FitsBehind c attempt))
-
-abbrev pub HasFewSlices : TaskRow → Type 0
-HasFewSlices task = length task.request.task_slices ≤ 8

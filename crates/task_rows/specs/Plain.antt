@@ -1,9 +1,9 @@
 -- What contracts see of the rows of a pool's tasks.
 use Rattle.std.specs.Prelude.{List, Option}
 use Rattle.swarm_model.specs.declared.task_row.TaskRow.{TaskRow}
-use Rattle.swarm_model.specs.declared.entry.Entry.{Entry}
+use Rattle.row_changes.specs.declared.parts.TaskParts.{TaskParts}
 
--- the rows, and the entry that is made ready
+-- the rows, and what is made ready of an entry
 pub record TaskRowsState : Type 0 where
   pub rows : List TaskRow
-  pub ready : Option Entry
+  pub ready : Option TaskParts

@@ -1,73 +1,27 @@
 //! Rows that are found and changed at their places.
-ghost use Rattle.std.specs.Prelude.{◌≡◌, None, map, IfSome, MatchOption};
-ghost use Rattle.std.specs.List.{All};
-ghost use Rattle.std.specs.Option.{option_copied};
+ghost use Rattle.std.specs.Prelude.{◌≡◌, map, IfSome, vec_capacity};
 ghost use Rattle.swarm_model.specs.Numbers.{AreNumbered};
-ghost use Rattle.swarm_model.specs.Effects.{no_of_task, task_at, expired_slice, fresh_chunk, chunk_at, ended_run_at, if_some};
-ghost use Rattle.task_rows.specs.Acting.{row_of, run_of, FitsBehind, StaysShort, HasFewSlices};
-ghost use Rattle.task_rows.specs.Inside.{KeepsNumber, StandsAt, TakesChunk, TakesFresh};
+ghost use Rattle.swarm_model.specs.Effects.{no_of_task, task_at, fresh_chunk, chunk_at, ended_run_at, if_some};
+ghost use Rattle.row_changes.specs.Rows.{HoldsAt};
+ghost use Rattle.row_changes.specs.Parts.{task_parts};
+ghost use Rattle.task_rows.specs.Acting.{run_of, chunk_in, FitsBehind, StaysShort, Claims, EndsRun, IsAfter, IsAfterRun};
+ghost use Rattle.task_rows.specs.Inside.{KeepsNumber, TakesChunk, TakesFresh, HasRoom};
 
 use crate::output;
-use dimensions::SpareBuffer;
-use swarm_model::{Change, Chunk, ExpireSlice, Finish, Last, TaskRow, change_row};
-
-/// The place of the row of a number, where there is one.
-fn place_of(rows: &[TaskRow], no: u32) -> Option<usize>
-    requires { AreNumbered no_of_task 1 rows.now }
-    ensures { MatchOption result (row_of rows.now no ≡ None) (StandsAt rows.now no) }
-{
-    if no == 0 {
-        return None;
-    }
-    let place = no as usize - 1;
-    if place < rows.len() {
-        Some(place)
-    } else {
-        None
-    }
-}
-
-/// The row of a number.
-pub(crate) fn row_of(rows: &[TaskRow], no: u32) -> Option<&TaskRow>
-    requires { AreNumbered no_of_task 1 rows.now }
-    ensures { option_copied result ≡ row_of rows.now no }
-{
-    match place_of(rows, no) {
-        None => None,
-        Some(place) => Some(&rows[place]),
-    }
-}
-
-fn change_in<C: Change<TaskRow> + Drop>(rows: &mut Vec<TaskRow>, no: u32, by: C)
-    requires numbered { AreNumbered no_of_task 1 rows.old.items }
-    requires fits { All C.fits rows.old.items }
-    ensures { rows.new.items ≡ map (task_at no (C.change by)) rows.old.items }
-{
-    change_row(rows.as_mut_slice(), no, by);
-}
+use dimensions::{ReservedVec, SpareBuffer};
+use row_changes::{Change, Finish, LoseRun, StartRun, TaskParts, change_row, place_of, row_of};
+use std::alloc::Global;
+use swarm_model::{Chunk, Entry, EntryKind, Last, TaskRow};
 
 /// Changes the row of a number, where there is one.
 pub(crate) fn change<C: Change<TaskRow> + Drop>(rows: &mut Vec<TaskRow>, no: u32, by: C)
     requires numbered { AreNumbered no_of_task 1 rows.old.items }
-    requires fits { All C.fits rows.old.items }
+    requires fits { HoldsAt no_of_task no C.fits rows.old.items }
     requires keeps { KeepsNumber (C.change by) }
     ensures rows { rows.new.items ≡ map (task_at no (C.change by)) rows.old.items }
     ensures numbered { AreNumbered no_of_task 1 rows.new.items }
 {
-    change_in(rows, no, by);
-}
-
-/// The slice of the task of a number ran out.
-pub(crate) fn shift(rows: &mut Vec<TaskRow>, no: u32, by: ExpireSlice)
-    requires numbered { AreNumbered no_of_task 1 rows.old.items }
-    requires few { IfSome (row_of rows.old.items no) HasFewSlices }
-    ensures rows { rows.new.items ≡ map (task_at no (expired_slice by.moment by.to)) rows.old.items }
-    ensures numbered { AreNumbered no_of_task 1 rows.new.items }
-{
-    match place_of(rows, no) {
-        None => drop(by),
-        Some(place) => by.apply(&mut rows[place]),
-    }
+    change_row(rows, no, by);
 }
 
 fn lengthen(rows: &mut Vec<TaskRow>, no: u32, chunk: Chunk, spare: &mut SpareBuffer<Chunk>)
@@ -133,4 +87,69 @@ pub(crate) fn close(
         last,
     };
     change(rows, no, finish);
+}
+
+/// A bot begins the task of a number, under the id that the entry's parts are.
+pub(crate) fn start(
+    rows: &mut Vec<TaskRow>,
+    alloc: Global,
+    no: u32,
+    entry: &Entry,
+    parts: TaskParts,
+)
+    requires numbered { AreNumbered no_of_task 1 rows.old.items }
+    requires claims { Claims no entry.now.kind }
+    requires parts { parts ≡ task_parts entry.now.kind }
+    ensures rows { IsAfter rows.old.items entry.now rows.new.items }
+    ensures numbered { AreNumbered no_of_task 1 rows.new.items }
+{
+    match &entry.kind {
+        EntryKind::Claim { b, .. } => match parts {
+            TaskParts::Claim(claim) => {
+                let run = StartRun {
+                    moment: entry.moment,
+                    bot: *b,
+                    claim,
+                    chunks: ReservedVec::new(alloc),
+                };
+                change(rows, no, run);
+            }
+            other => {
+                drop(other);
+                unreachable!()
+            }
+        },
+        _ => unreachable!(),
+    }
+}
+
+/// The run of the task of a number ends: with the last report that the entry's parts are, or
+/// without one.
+pub(crate) fn end_run(
+    rows: &mut Vec<TaskRow>,
+    no: u32,
+    entry: &Entry,
+    parts: TaskParts,
+    spare: &mut SpareBuffer<Chunk>,
+)
+    requires numbered { AreNumbered no_of_task 1 rows.old.items }
+    requires ends { EndsRun no entry.now.kind }
+    requires parts { parts ≡ task_parts entry.now.kind }
+    requires room { HasRoom rows.old.items (vec_capacity rows.old) spare.old parts }
+    requires short { StaysShort (run_of rows.old.items no) (chunk_in entry.now.kind) }
+    ensures rows { IsAfterRun rows.old.items no entry.now rows.new.items }
+    ensures numbered { AreNumbered no_of_task 1 rows.new.items }
+{
+    let moment = entry.moment;
+    match parts {
+        TaskParts::Report {
+            task: _,
+            chunk,
+            last: Some(last),
+        } => close(rows, no, moment, chunk, last, spare),
+        other => {
+            drop(other);
+            change(rows, no, LoseRun { moment });
+        }
+    }
 }

@@ -1,15 +1,17 @@
 //! What is made ready for an entry, and what is taken from it.
 ghost use Rattle.std.specs.Prelude.{◌≡◌, ◌∷◌, [], OnOk, vec_capacity};
 ghost use Rattle.swarm_model.specs.Numbers.{AreNumbered};
-ghost use Rattle.swarm_model.specs.Effects.{no_of_task, end_at, added_tasks};
+ghost use Rattle.swarm_model.specs.Effects.{no_of_task, added_tasks};
+ghost use Rattle.row_changes.specs.Parts.{task_parts};
 ghost use Rattle.task_rows.specs.Acting.{AddsRow, run_of, chunk_in};
 ghost use Rattle.task_rows.specs.Inside.{HasRoom, TakesChunk, TakesFresh};
 
-use crate::in_place::{fresh, row_of};
+use crate::in_place::fresh;
 use crate::output::make_chunk_room;
 use dimensions::SpareBuffer;
+use row_changes::{TaskParts, new_row, row_of};
 use std::alloc::AllocError;
-use swarm_model::{Chunk, Entry, EntryKind, TaskRow, TaskState};
+use swarm_model::{Chunk, Entry, EntryKind, TaskRow};
 
 /// Makes the room that the entry needs.
 pub(crate) fn make_room(
@@ -19,7 +21,7 @@ pub(crate) fn make_room(
 ) -> Result<(), AllocError>
     requires { AreNumbered no_of_task 1 rows.old.items }
     ensures rows { rows.new.items ≡ rows.old.items }
-    ensures room { OnOk result (HasRoom rows.old.items (vec_capacity rows.new) spare.new entry.now.kind) }
+    ensures room { OnOk result (HasRoom rows.old.items (vec_capacity rows.new) spare.new (task_parts entry.now.kind)) }
 {
     match &entry.kind {
         EntryKind::New { .. } => rows.reserve(1),
@@ -57,50 +59,35 @@ fn make_run_room(
     }
 }
 
-fn end_at(state: TaskState, moment: u64) -> Option<u64>
-    ensures { result ≡ end_at state moment }
-{
-    match state {
-        TaskState::Pending => None,
-        _ => Some(moment),
-    }
-}
-
-/// The row that an entry adds; the entry's texts move into it.
-pub(crate) fn row_from(no: u32, entry: Entry) -> TaskRow
-    requires { AddsRow no entry.kind }
+/// The row that an entry adds, whose parts move into it.
+pub(crate) fn row_from(no: u32, entry: &Entry, parts: TaskParts) -> TaskRow
+    requires adds { AddsRow no entry.now.kind }
+    requires parts { parts ≡ task_parts entry.now.kind }
     ensures no { result.no ≡ no }
-    ensures row { added_tasks entry.moment entry.kind ≡ result ∷ [] }
+    ensures row { added_tasks entry.now.moment entry.now.kind ≡ result ∷ [] }
 {
-    let Entry {
-        moment,
-        pass: _,
-        kind,
-    } = entry;
-    match kind {
+    match &entry.kind {
         EntryKind::New {
-            t: _,
-            who,
-            request,
             state,
             slice,
             from,
-        } => TaskRow {
-            no,
-            creator: who,
-            request,
-            created: moment,
-            state,
-            slice,
-            since: moment,
-            attempt: None,
-            source: from,
-            ended: end_at(state, moment),
+            ..
+        } => match parts {
+            TaskParts::New { creator, request } => new_row(
+                entry.moment,
+                no,
+                creator,
+                request,
+                *state,
+                *slice,
+                *from,
+            ),
+            other => {
+                drop(other);
+                unreachable!()
+            }
         },
-        other => {
-            drop(other);
-            unreachable!()
-        }
+        _ => unreachable!(),
     }
 }
 

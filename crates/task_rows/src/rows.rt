@@ -1,17 +1,17 @@
 ghost use Rattle.std.specs.Prelude.{◌≡◌, ◌+◌, [], length, Some, None, IfSome, OnOk, OnErr};
-ghost use Rattle.task_rows.specs.Acting.{row_of, run_of, chunk_in, IsAfter, IsAfterRun, AddsRow, Claims, Reports, EndsRun, Cancels, Kills, EndsSlice, StaysShort, HasFewSlices};
+ghost use Rattle.row_changes.specs.Rows.{HasFewSlices};
+ghost use Rattle.row_changes.specs.Parts.{task_parts};
+ghost use Rattle.task_rows.specs.Acting.{row_of, run_of, chunk_in, IsAfter, IsAfterRun, AddsRow, Claims, Reports, EndsRun, Cancels, Kills, EndsSlice, StaysShort};
 
-use crate::in_place::{change, close, keep_chunk, row_of, shift};
+use crate::in_place::{change, end_run, keep_chunk, start};
 use crate::making::{chunk_of, make_room, row_from};
-use dimensions::{ReservedVec, SpareBuffer, TryCopy};
+use dimensions::SpareBuffer;
+use row_changes::{Cancel, ExpireSlice, MarkKill, TaskParts, row_of};
 use std::alloc::{AllocError, Global};
 use std::marker::Model;
 use std::mem;
 use std::sync::ledger::Ledger;
-use swarm_model::{
-    Cancel, Chunk, Entry, EntryKind, ExpireSlice, LoseRun, MarkKill, ReadRows, StartRun, Steps,
-    TaskRow,
-};
+use swarm_model::{Chunk, Entry, EntryKind, ReadRows, Steps, TaskRow};
 
 /// The rows of a pool's tasks. Tasks are numbered from 1 in the order of their acceptance.
 ///
@@ -23,7 +23,8 @@ pub struct TaskRows {
     rows: Vec<TaskRow>,
     /// A larger buffer for the run whose chunks fill their own.
     spare: SpareBuffer<Chunk>,
-    ready: Option<Entry>,
+    /// What the entry that was reserved moves into a row.
+    ready: Option<TaskParts>,
 }
 
 impl Model for TaskRows {
@@ -53,19 +54,19 @@ impl TaskRows {
 
     /// Makes ready all that the entry's change of a row needs.
     pub fn reserve(&mut self, entry: &Entry) -> Result<(), AllocError>
-        ensures ok { OnOk result (self.new ≡ record self.old { ready = Some entry.now }) }
+        ensures ok { OnOk result (self.new ≡ record self.old { ready = Some (task_parts entry.now.kind) }) }
         ensures err { OnErr result (self.new ≡ record self.old { ready = None }) }
     {
         drop(self.ready.take());
         make_room(&mut self.rows, &mut self.spare, entry)?;
-        let copy = entry.try_copy(self.alloc)?;
-        drop(mem::replace(&mut self.ready, Some(copy)));
+        let parts = TaskParts::copied(self.alloc, &entry.kind)?;
+        drop(mem::replace(&mut self.ready, Some(parts)));
         Ok(())
     }
 
     /// Adds the row of a new task.
     pub fn add_row(&mut self, no: u32, entry: &Entry)
-        requires ready { self.old.ready ≡ Some entry.now }
+        requires ready { self.old.ready ≡ Some (task_parts entry.now.kind) }
         requires adds { AddsRow no entry.now.kind }
         requires next { no ≡ length self.old.rows + 1 }
         ensures rows { IsAfter self.old.rows entry.now self.new.rows }
@@ -73,8 +74,8 @@ impl TaskRows {
     {
         match self.ready.take() {
             None => unreachable!(),
-            Some(copy) => {
-                let row = row_from(no, copy);
+            Some(parts) => {
+                let row = row_from(no, entry, parts);
                 self.rows.push_reserved(row);
             }
         }
@@ -82,41 +83,20 @@ impl TaskRows {
 
     /// A bot begins the task.
     pub fn claim_row(&mut self, no: u32, entry: &Entry)
-        requires ready { self.old.ready ≡ Some entry.now }
+        requires ready { self.old.ready ≡ Some (task_parts entry.now.kind) }
         requires claims { Claims no entry.now.kind }
         ensures rows { IsAfter self.old.rows entry.now self.new.rows }
         ensures ready { self.new.ready ≡ None }
     {
         match self.ready.take() {
             None => unreachable!(),
-            Some(copy) => {
-                let Entry {
-                    moment,
-                    pass: _,
-                    kind,
-                } = copy;
-                match kind {
-                    EntryKind::Claim { b, t: _, claim } => {
-                        let start = StartRun {
-                            moment,
-                            bot: b,
-                            claim,
-                            chunks: ReservedVec::new(self.alloc),
-                        };
-                        change(&mut self.rows, no, start);
-                    }
-                    other => {
-                        drop(other);
-                        unreachable!()
-                    }
-                }
-            }
+            Some(parts) => start(&mut self.rows, self.alloc, no, entry, parts),
         }
     }
 
     /// The run goes on after a report, whose chunk is kept where it goes on from the output.
     pub fn append_chunk(&mut self, no: u32, entry: &Entry)
-        requires ready { self.old.ready ≡ Some entry.now }
+        requires ready { self.old.ready ≡ Some (task_parts entry.now.kind) }
         requires reports { Reports no entry.now.kind }
         requires short { StaysShort (run_of self.old.rows no) (chunk_in entry.now.kind) }
         ensures rows { IsAfter self.old.rows entry.now self.new.rows }
@@ -130,7 +110,7 @@ impl TaskRows {
     /// with its bot's next session. An entry with a session doesn't name the task: the rows are
     /// those of the pools in which its bot runs the task.
     pub fn finish(&mut self, no: u32, entry: &Entry)
-        requires ready { self.old.ready ≡ Some entry.now }
+        requires ready { self.old.ready ≡ Some (task_parts entry.now.kind) }
         requires ends { EndsRun no entry.now.kind }
         requires short { StaysShort (run_of self.old.rows no) (chunk_in entry.now.kind) }
         ensures rows { IsAfterRun self.old.rows no entry.now self.new.rows }
@@ -138,30 +118,13 @@ impl TaskRows {
     {
         match self.ready.take() {
             None => unreachable!(),
-            Some(copy) => {
-                let Entry {
-                    moment,
-                    pass: _,
-                    kind,
-                } = copy;
-                match kind {
-                    EntryKind::Update {
-                        chunk,
-                        last: Some(last),
-                        ..
-                    } => close(&mut self.rows, no, moment, chunk, last, &mut self.spare),
-                    other => {
-                        drop(other);
-                        change(&mut self.rows, no, LoseRun { moment });
-                    }
-                }
-            }
+            Some(parts) => end_run(&mut self.rows, no, entry, parts, &mut self.spare),
         }
     }
 
     /// The task, which waits, is canceled.
     pub fn cancel(&mut self, no: u32, entry: &Entry)
-        requires ready { self.old.ready ≡ Some entry.now }
+        requires ready { self.old.ready ≡ Some (task_parts entry.now.kind) }
         requires cancels { Cancels no entry.now.kind }
         ensures rows { IsAfter self.old.rows entry.now self.new.rows }
         ensures ready { self.new.ready ≡ None }
@@ -173,7 +136,7 @@ impl TaskRows {
 
     /// The run is asked to stop.
     pub fn mark_kill(&mut self, no: u32, entry: &Entry)
-        requires ready { self.old.ready ≡ Some entry.now }
+        requires ready { self.old.ready ≡ Some (task_parts entry.now.kind) }
         requires kills { Kills no entry.now.kind }
         ensures rows { IsAfter self.old.rows entry.now self.new.rows }
         ensures ready { self.new.ready ≡ None }
@@ -184,7 +147,7 @@ impl TaskRows {
 
     /// The task's slice ran out: it comes to another one, or ends at its last.
     pub fn next_slice(&mut self, no: u32, entry: &Entry)
-        requires ready { self.old.ready ≡ Some entry.now }
+        requires ready { self.old.ready ≡ Some (task_parts entry.now.kind) }
         requires slice { EndsSlice no entry.now.kind }
         requires few { IfSome (row_of self.old.rows no) HasFewSlices }
         ensures rows { IsAfter self.old.rows entry.now self.new.rows }
@@ -193,7 +156,7 @@ impl TaskRows {
         drop(self.ready.take());
         let moment = entry.moment;
         match &entry.kind {
-            EntryKind::Slice { to, .. } => shift(
+            EntryKind::Slice { to, .. } => change(
                 &mut self.rows,
                 no,
                 ExpireSlice { moment, to: *to },

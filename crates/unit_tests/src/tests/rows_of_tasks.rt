@@ -3,7 +3,8 @@
 ghost use Rattle.std.specs.Prelude.{◌≡◌, ◌<◌, IfSome, IfOk};
 ghost use Rattle.std.specs.Bool.{OnTrue};
 ghost use Rattle.std.specs.Option.{option_copied, option_and_then};
-ghost use Rattle.task_rows.specs.Acting.{AddsRow, EndsSlice, HasFewSlices, StaysShort};
+ghost use Rattle.row_changes.specs.Rows.{HasFewSlices};
+ghost use Rattle.task_rows.specs.Acting.{AddsRow, EndsSlice, StaysShort};
 
 use crate::tests::{bot_pairs, pairs};
 use dimensions::{BotDims, DimSet, Seq, Text};

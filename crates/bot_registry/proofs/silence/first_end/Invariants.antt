@@ -1,8 +1,8 @@
 use Rattle.std.proofs.Common.{◌≡◌, take, None}
 use Rattle.std.specs.List.{fold, filter_map}
 use Rattle.swarm_model.specs.Deadlines.{sooner}
-use Rattle.bot_registry.specs.Inside.{end_of}
+use Rattle.row_changes.specs.Bots.{death_of}
 use Rattle.bot_registry.proofs.silence.first_end.Given as goal
 
 abbrev pub invariant-loop-bot : goal.invariant-loop-bot
-invariant-loop-bot l = l.soonest ≡ fold sooner None (filter_map (end_of l.timeout) (take l.bot-index l.rows))
+invariant-loop-bot l = l.soonest ≡ fold sooner None (filter_map (death_of l.timeout) (take l.bot-index l.rows))

@@ -1,7 +1,7 @@
 -- The bot that is found is one of them.
 use Rattle.swarm_model.specs.Finding.{is_bot}
-use Rattle.swarm_plain.specs.Inside.{IsHeard}
-use Rattle.swarm_plain.proofs.Found.{IfSome-find}
+use Rattle.row_changes.specs.Rows.{IsHeard}
+use Rattle.row_changes.proofs.Found.{IfSome-find}
 use Rattle.swarm_plain.proofs.deadlines.bot_of.Goals as goal
 
 pub returns-clause-heard : goal.returns-clause-heard

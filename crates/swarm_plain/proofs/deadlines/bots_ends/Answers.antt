@@ -1,7 +1,7 @@
 -- One row more is looked at.
 use Rattle.swarm_model.specs.Deadlines.{sooner, bot_end}
 use Rattle.swarm_plain.specs.Inside.{state_of}
-use Rattle.swarm_plain.proofs.Folding.{fold-filter_map_more}
+use Rattle.row_changes.proofs.Folding.{fold-filter_map_more}
 use Rattle.swarm_plain.proofs.deadlines.bots_ends.Goals as goal
 
 pub loop-bot-preserved : goal.loop-bot-preserved

@@ -1,7 +1,7 @@
 -- One row more is looked at.
 use Rattle.std.proofs.Common.{None}
 use Rattle.swarm_model.specs.Deadlines.{sooner, slice_end}
-use Rattle.swarm_plain.proofs.Folding.{fold-filter_map_more}
+use Rattle.row_changes.proofs.Folding.{fold-filter_map_more}
 use Rattle.swarm_plain.proofs.deadlines.slices_ends.Goals as goal
 
 pub loop-task-preserved : goal.loop-task-preserved

@@ -1,5 +1,5 @@
 -- The log goes on by an entry that may follow it, and the rows by what it does.
-use Rattle.std.proofs.Common.{◌≡◌, ◌∷◌, [], ◌++◌, None, IsTrue, arith, sym, ap, ◌∙◌, subst, vec_len, vec_capacity}
+use Rattle.std.proofs.Common.{◌≡◌, ◌∷◌, [], ◌++◌, None, arith, sym, ap, ◌∙◌, subst, vec_len, vec_capacity}
 use Rattle.std.specs.List.{sum_by}
 use Rattle.std.proofs.lemmas.List.Sums.{sum_by-append}
 use Rattle.swarm_model.specs.declared.pool_settings.PoolSettings.{PoolSettings}
@@ -7,10 +7,8 @@ use Rattle.std.specs.Option.{option_map}
 use Rattle.swarm_model.specs.MachineState.{MachineState, IsRight, KeepsFinals}
 use Rattle.swarm_laws.proofs.MachineLaws.{is_right, keeps_finals}
 use Rattle.swarm_plain.specs.declared.list_pool.Ready.{Ready}
-use Rattle.swarm_model.specs.declared.entry.Entry.{Entry}
 use Rattle.swarm_model.specs.Effects.{opening, after}
 use Rattle.swarm_model.specs.Entries.{weight}
-use Rattle.swarm_laws.specs.Served.{is_served, ends_run}
 use Rattle.swarm_model.specs.History.{replay}
 use Rattle.swarm_laws.proofs.EntryPreconditions.{served_kind, report_ends}
 use Rattle.swarm_plain.specs.Inside.{state_of}
@@ -21,16 +19,15 @@ use Rattle.swarm_plain.proofs.Holding.{kept_sound, kept_history, in_order}
 use Rattle.swarm_plain.proofs.list_pool.ListPoolMachine.commit.Goals as goal
 
 pub apply-requires-clause-served : goal.apply-requires-clause-served
-apply-requires-clause-served c =
-    let is = sym c.take.ensures.value ∙ c.in-Some.is in
-    let same = ready_is c.self.inside.ready c.in-Some.ready c.args.entry is (ap (λ k. k.ready) c.self.view_is ∙ c.requires.ready) in
-    subst (λ (e : Entry). IsTrue (is_served e.kind)) (sym same) (served_kind (state_of c.self.inside.rows) c.args.entry (rw (← c.self.view_is) at c.requires.follows))
+apply-requires-clause-served c = served_kind (state_of c.self.inside.rows) c.args.entry (rw (← c.self.view_is) at c.requires.follows)
 
 pub apply-requires-clause-ends : goal.apply-requires-clause-ends
-apply-requires-clause-ends c =
+apply-requires-clause-ends c = report_ends (state_of c.self.inside.rows) c.args.entry (rw (← c.self.view_is) at c.requires.follows)
+
+pub apply-requires-clause-copy : goal.apply-requires-clause-copy
+apply-requires-clause-copy c =
     let is = sym c.take.ensures.value ∙ c.in-Some.is in
-    let same = ready_is c.self.inside.ready c.in-Some.ready c.args.entry is (ap (λ k. k.ready) c.self.view_is ∙ c.requires.ready) in
-    subst (λ (e : Entry). IsTrue (ends_run e.kind)) (sym same) (report_ends (state_of c.self.inside.rows) c.args.entry (rw (← c.self.view_is) at c.requires.follows))
+    ready_is c.self.inside.ready c.in-Some.ready c.args.entry is (ap (λ k. k.ready) c.self.view_is ∙ c.requires.ready)
 
 pub apply-requires-clause-order : goal.apply-requires-clause-order
 apply-requires-clause-order c = in_order c.self.inside.rows (kept_sound c.self.inside c.self.invariant)
@@ -50,26 +47,24 @@ invariant_of-self c =
     let settings = c.apply.ensures.settings in
     record {
       rules = rw settings c.self.invariant.rules;
-      replayed = subst (λ (p : PoolSettings). state_of c.apply.new.self ≡ replay (opening p) c.push.new.rows.items) (sym settings)
-          (replayed_more (opening c.self.inside.rows.settings) (state_of c.self.inside.rows) (state_of c.apply.new.self) c.self.inside.log.items c.push.new.rows.items c.args.entry
-          c.self.invariant.replayed c.push.ensures (c.apply.ensures.state ∙ ap (λ (e : Entry). after (state_of c.self.inside.rows) e) same));
-      legal = rw (settings, c.push.ensures) (legal_more (opening c.self.inside.rows.settings) c.self.inside.log.items c.args.entry c.self.invariant.legal follows room);
-      weighs = omega (arith, sum_by-append weight c.self.inside.log.items (c.args.entry ∷ []), ap (sum_by weight) c.push.ensures, made.weighs, ap weight same, c.self.invariant.weighs);
+      replayed = subst (λ (p : PoolSettings). state_of c.apply.new.self ≡ replay (opening p) c.push_reserved.new.self.items) (sym settings)
+          (replayed_more (opening c.self.inside.rows.settings) (state_of c.self.inside.rows) (state_of c.apply.new.self) c.self.inside.log.items c.push_reserved.new.self.items c.args.entry
+          c.self.invariant.replayed c.push_reserved.ensures.items c.apply.ensures.state);
+      legal = rw (settings, c.push_reserved.ensures.items) (legal_more (opening c.self.inside.rows.settings) c.self.inside.log.items c.args.entry c.self.invariant.legal follows room);
+      weighs = omega (arith, sum_by-append weight c.self.inside.log.items (c.args.entry ∷ []), ap (sum_by weight) c.push_reserved.ensures.items, made.weighs, ap weight same, c.self.invariant.weighs);
       prepared = rw c.take.ensures.after tt;
     }
 
 pub returns : goal.returns
 returns c =
-    let is = sym c.take.ensures.value ∙ c.in-Some.is in
-    let same = ready_is c.self.inside.ready c.in-Some.ready c.args.entry is (ap (λ k. k.ready) c.self.view_is ∙ c.requires.ready) in
-    let pool_is = c.apply.ensures.state ∙ ap (λ (e : Entry). after (state_of c.self.inside.rows) e) same in
+    let pool_is = c.apply.ensures.state in
     let none = ap (option_map (λ (r : Ready). r.entry)) c.take.ensures.after in
     let follows = rw (← c.self.view_is) at c.requires.follows in
     let history = kept_history c.self.inside c.self.invariant in
-    let new : MachineState = record { pool = state_of c.apply.new.self; log = c.push.new.rows.items; ready = None; held = [] } in
+    let new : MachineState = record { pool = state_of c.apply.new.self; log = c.push_reserved.new.self.items; ready = None; held = [] } in
     record {
       right = subst (λ (k : MachineState). IsRight k c.args.entry) c.self.view_is (is_right (kept_of c.self.inside) history c.args.entry follows);
       finals = subst (λ (k : MachineState). KeepsFinals k new) c.self.view_is (keeps_finals (kept_of c.self.inside) history c.args.entry follows new pool_is);
-      added = (λ i. let x : MachineState = record { pool = pool_is i; log = c.push.ensures i; ready = none i; held = [] } in x)
+      added = (λ i. let x : MachineState = record { pool = pool_is i; log = c.push_reserved.ensures.items i; ready = none i; held = [] } in x)
           ∙ ap (λ (k : MachineState). let x : MachineState = record k { pool = after k.pool c.args.entry; log = k.log ++ c.args.entry ∷ []; ready = None } in x) c.self.view_is;
     }

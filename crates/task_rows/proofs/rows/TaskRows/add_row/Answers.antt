@@ -1,7 +1,8 @@
 -- The new row comes behind the others, with the next number.
-use Rattle.std.proofs.Common.{◌≡◌, Some, ap, sym, ◌∙◌}
+use Rattle.std.proofs.Common.{ap, sym, ◌∙◌}
+use Rattle.swarm_model.specs.Effects.{no_of_task}
 use Rattle.task_rows.specs.Plain.{TaskRowsState}
-use Rattle.task_rows.proofs.Numbered.{pushed_numbered}
+use Rattle.row_changes.proofs.Numbered.{pushed_numbered}
 use Rattle.task_rows.proofs.Adding.{adds}
 use Rattle.task_rows.proofs.rows.TaskRows.add_row.Goals as goal
 
@@ -9,14 +10,11 @@ pub invariant_of-self : goal.invariant_of-self
 invariant_of-self c =
     let next = rw (← c.self.view_is) at c.requires.next in
     record {
-      numbered = rw c.push_reserved.ensures.items (pushed_numbered c.self.inside.rows.items c.row_from-row.result c.self.invariant.numbered (c.row_from-row.ensures.no ∙ next));
+      numbered = rw c.push_reserved.ensures.items (pushed_numbered no_of_task c.self.inside.rows.items c.row_from-row.result c.self.invariant.numbered (c.row_from-row.ensures.no ∙ next));
       prepared = rw c.take.ensures.after tt;
     }
 
 pub returns-clause-rows : goal.returns-clause-rows
 returns-clause-rows c = λ s of.
-    let ready : c.self.inside.ready ≡ Some c.args.entry.now = ap (λ (kept : TaskRowsState). kept.ready) c.self.view_is ∙ c.requires.ready in
-    let copy : c.in-Some.copy ≡ c.args.entry.now = cc (ready, c.in-Some.is, c.take.ensures.value) in
-    let added = rw copy at c.row_from-row.ensures.row in
     let rows = of ∙ sym (ap (λ (kept : TaskRowsState). kept.rows) c.self.view_is) in
-    rw c.push_reserved.ensures.items (adds c.self.inside.rows.items c.args.no c.args.entry.now c.row_from-row.result c.requires.adds added s rows)
+    rw c.push_reserved.ensures.items (adds c.self.inside.rows.items c.args.no c.args.entry.now c.row_from-row.result c.requires.adds c.row_from-row.ensures.row s rows)

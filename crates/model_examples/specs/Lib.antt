@@ -1,0 +1,4 @@
+pub mod Examples
+pub mod BotExamples
+pub mod EndExamples
+pub mod ReuseExamples

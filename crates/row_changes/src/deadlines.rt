@@ -1,0 +1,114 @@
+//! The deadlines of rows, and their order: by moment, then cause, then number.
+ghost use Rattle.std.specs.Prelude.{◌≡◌};
+ghost use Rattle.std.specs.List.{fold};
+ghost use Rattle.std.specs.Option.{option_copied, option_map, option_to_list};
+ghost use Rattle.swarm_model.specs.Deadlines.{rank, is_earlier, earlier, sooner, slice_limit, slice_end, silence_limit};
+ghost use Rattle.row_changes.specs.Rows.{IsEarly, IsHeard};
+ghost use Rattle.row_changes.specs.Bots.{death_of};
+
+use swarm_model::{BotRow, Cause, Deadline, TaskRow, TaskState};
+use task_props::Slice;
+
+fn rank(cause: Cause) -> u8
+    ensures { result ≡ rank cause }
+{
+    match cause {
+        Cause::Slice => 1,
+        Cause::Silence => 2,
+        Cause::Bot => 3,
+    }
+}
+
+fn is_earlier(one: Deadline, other: Deadline) -> bool
+    ensures { result ≡ is_earlier one other }
+{
+    one.moment < other.moment
+        || (one.moment == other.moment
+            && (rank(one.cause) < rank(other.cause)
+                || (rank(one.cause) == rank(other.cause) && one.number < other.number)))
+}
+
+fn earlier(best: Option<Deadline>, deadline: Deadline) -> Deadline
+    ensures { result ≡ earlier best deadline }
+{
+    match best {
+        None => deadline,
+        Some(best) => {
+            if is_earlier(deadline, best) {
+                deadline
+            } else {
+                best
+            }
+        }
+    }
+}
+
+/// The sooner of two deadlines, where there is one: of equal ones the first.
+pub fn sooner_of(best: Option<Deadline>, deadline: Option<Deadline>) -> Option<Deadline>
+    ensures { result ≡ fold sooner best (option_to_list deadline) }
+{
+    match deadline {
+        None => best,
+        Some(deadline) => Some(earlier(best, deadline)),
+    }
+}
+
+fn slice_limit(task: &TaskRow, slice: &Slice) -> Deadline
+    requires { IsEarly task.now }
+    ensures { result ≡ slice_limit task.now slice.now }
+{
+    Deadline {
+        moment: task.since + u64::from(slice.expiration_secs),
+        cause: Cause::Slice,
+        number: task.no,
+    }
+}
+
+fn limit_of(task: &TaskRow, slice: Option<&Slice>) -> Option<Deadline>
+    requires { IsEarly task.now }
+    ensures { result ≡ option_map (slice_limit task.now) (option_copied slice.entry) }
+{
+    match slice {
+        None => None,
+        Some(slice) => Some(slice_limit(task, slice)),
+    }
+}
+
+/// When the slice of a task that waits expires.
+pub fn slice_end(task: &TaskRow) -> Option<Deadline>
+    requires { IsEarly task.now }
+    ensures { result ≡ slice_end task.now }
+{
+    if task.has_state(TaskState::Pending) {
+        limit_of(task, task.current_slice())
+    } else {
+        None
+    }
+}
+
+/// When the bot that runs a task has been silent for longer than the task tolerates.
+pub fn silence_limit(task: &TaskRow, bot: &BotRow) -> Deadline
+    requires { IsHeard bot.now }
+    ensures { result ≡ silence_limit task.now bot.now }
+{
+    Deadline {
+        moment: bot.contact + u64::from(task.request.bot_ping_tolerance_secs),
+        cause: Cause::Silence,
+        number: task.no,
+    }
+}
+
+/// When a bot that isn't dead counts as dead, if it stays silent for so many seconds.
+pub fn death_of(timeout: u32, bot: &BotRow) -> Option<Deadline>
+    requires { IsHeard bot.now }
+    ensures { result ≡ death_of timeout bot.now }
+{
+    if bot.dead {
+        return None;
+    }
+    Some(Deadline {
+        moment: bot.contact + u64::from(timeout),
+        cause: Cause::Bot,
+        number: bot.no,
+    })
+}
