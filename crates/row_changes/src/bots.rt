@@ -49,7 +49,7 @@ fn report(bots: &mut Vec<BotRow>, moment: u64, number: u32, last: &Option<Last>)
 }
 
 /// A bot comes with this row: it is there, or it is new.
-fn greet(bots: &mut Vec<BotRow>, row: BotRow)
+fn put_row(bots: &mut Vec<BotRow>, row: BotRow)
     requires numbered { AreNumbered no_of_bot 1 bots.old.items }
     requires room { MatchOption (row_of no_of_bot row.no bots.old.items) (vec_len bots.old < vec_capacity bots.old) (λ bot. ⊤) }
     ensures { bots.new.items ≡ with_bot row bots.old.items }
@@ -72,7 +72,7 @@ fn begin_session(bots: &mut Vec<BotRow>, moment: u64, number: u32, parts: BotPar
             session,
             dims,
             quarantined,
-        } => greet(
+        } => put_row(
             bots,
             session_row(moment, number, name, session, dims, quarantined),
         ),

@@ -4,7 +4,7 @@ use Rattle.swarm_model.specs.Effects.{no_of_bot}
 use Rattle.row_changes.specs.Rows.{row_of}
 use Rattle.row_changes.proofs.Lent.{lent_none}
 use Rattle.row_changes.proofs.RowEffects.{with_bot-new}
-use Rattle.row_changes.proofs.bots.greet.Goals as goal
+use Rattle.row_changes.proofs.bots.put_row.Goals as goal
 
 pub returns-else-is_some : goal.returns-else-is_some
 returns-else-is_some c =
