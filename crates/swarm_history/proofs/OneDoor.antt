@@ -1,5 +1,5 @@
 -- A call of the one pool of a door.
-use Rattle.std.proofs.Common.{◌≡◌, ℕ, zero, suc, ◌<◌, List, [], ◌∷◌, refl, arith, ap, sym, ◌∙◌, Result}
+use Rattle.std.proofs.Common.{ℕ, zero, suc, ◌<◌, List, [], ◌∷◌, refl, arith, ap, sym, ◌∙◌, Result}
 use Rattle.std.proofs.Math.Dec.{eqb-suc-zero}
 use Rattle.std.specs.Prelude.{◌==◌, Bool, if◌then◌else◌, IsSomeAnd, slice_get}
 use Rattle.swarm_model.specs.declared.pool_settings.PoolSettings.{PoolSettings}
