@@ -41,6 +41,7 @@ pub(crate) fn add<M: Machine>(machine: &mut M, entry: Entry) -> Result<(), CallF
         Err(ReserveFault::LogFull) => return Err(CallFault::LogFull),
     }
     machine.commit(entry, None);
+    // For the proof: the log that the machine keeps is legal.
     let _length = machine.length();
     Ok(())
 }

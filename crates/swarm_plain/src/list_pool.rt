@@ -63,6 +63,7 @@ impl PoolQueries for ListPool {
     ghost state = { λ p. p.pool };
 
     fn sound(&self) {
+        // For the proof: the invariant of the rows.
         let _rows = &self.rows;
     }
 
@@ -212,6 +213,7 @@ impl Machine for ListPool {
                     weight,
                 } = ready;
                 self.rows.apply(self.alloc, &entry, copy);
+                // For the proof: the limits of the settings.
                 let _most = self.rows.settings.most_weight;
                 self.weight += weight;
                 self.log.push_reserved(entry);
@@ -231,6 +233,7 @@ impl Machine for ListPool {
 
     fn bytes(&self, _digest: &Digest) -> Option<&[u8]> {
         // No blob has a row yet, so nothing is held.
+        // For the proof: the invariant of the rows.
         let _rows = &self.rows;
         None
     }
@@ -252,11 +255,13 @@ impl Machine for ListPool {
     }
 
     fn blob(&self, _no: u32) -> Option<&BlobRow> {
+        // For the proof: the invariant of the rows.
         let _rows = &self.rows;
         None
     }
 
     fn blob_at(&self, _at: u32) -> Option<&BlobRow> {
+        // For the proof: the invariant of the rows.
         let _rows = &self.rows;
         None
     }

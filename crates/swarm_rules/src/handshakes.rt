@@ -84,6 +84,7 @@ fn new_bot<P: PoolQueries>(
     requires { length (P.state pool.now).bots < (P.state pool.now).settings.most_bots }
     ensures { IfOk result (λ decision. decision ≡ reply_with_entry (reply.Shaken name.now) (kind.Handshake (length (P.state pool.now).bots + 1) name.now session.now dims.now quarantined.now)) }
 {
+    // For the proof: the settings bound the number of a bot.
     let _most = pool.settings().most_bots;
     let number = pool.bot_count() as u32 + 1;
     new_session(alloc, number, name, session, dims, quarantined)

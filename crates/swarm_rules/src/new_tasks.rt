@@ -51,6 +51,7 @@ fn new_task_decision<P: PoolQueries>(
     requires { length (P.state pool.now).tasks < (P.state pool.now).settings.most_tasks }
     ensures { IfOk result (λ decision. decision ≡ new_task_decision (P.state pool.now) who.now request.now state slice from) }
 {
+    // For the proof: the settings bound the number of a task.
     let _most = pool.settings().most_tasks;
     let task = pool.task_count() as u32 + 1;
     let who = who.try_copy(alloc)?;

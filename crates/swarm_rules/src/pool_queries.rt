@@ -21,7 +21,7 @@ pub trait PoolQueries {
     /// The state that the rows stand for.
     ghost state: { Self → PoolState };
 
-    /// The rows are those that a log leads to. It only tells.
+    /// For the proof: the rows are those that a log leads to. It does nothing at run time.
     fn sound(&self)
         ensures { IsSound (state self.now) };
 
