@@ -263,7 +263,8 @@ def size_of(file):
 
 def specs_of(crate):
     folder = os.path.join(HERE, "crates", crate, "specs")
-    return [os.path.join("crates", crate, "specs", file) for file in os.listdir(folder)]
+    names = os.listdir(folder) if os.path.isdir(folder) else []
+    return [os.path.join("crates", crate, "specs", file) for file in names]
 
 
 def named_in_kit():
