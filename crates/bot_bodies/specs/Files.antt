@@ -30,13 +30,13 @@ files_in d = items_at (object_item file_in) (codes "files") d
 
 -- ---- rules
 
-abbrev pub unless_broken : List ℕ → Option PropRule → Result (List ℕ) PropRule
-unless_broken path None = Ok path
-unless_broken path (Some rule) = Err rule
+abbrev pub unless_path_broken : List ℕ → Option PropRule → Result (List ℕ) PropRule
+unless_path_broken path None = Ok path
+unless_path_broken path (Some rule) = Err rule
 
 -- a path below a folder
 abbrev pub path_of : List ℕ → Result (List ℕ) PropRule
-path_of path = unless_broken path (path_rule path)
+path_of path = unless_path_broken path (path_rule path)
 
 abbrev pub or_no_digest : Result (List ℕ) FromHexError → Result (List ℕ) PropRule
 or_no_digest (Ok digest) = Ok digest

@@ -87,8 +87,8 @@ last_with end code = record {
 }
 
 -- the run has ended where there is an exit code
-abbrev pub last_of : End → Option Last
-last_of end = option_map (last_with end) end.exit_code
+abbrev pub ending_of : End → Option Last
+ending_of end = option_map (last_with end) end.exit_code
 
 abbrev pub update_by : Report → Request
-update_by report = ask.Update report.bot (task_of_id report.run) (try_of_id report.run) None (last_of report.end)
+update_by report = ask.Update report.bot (task_of_id report.run) (try_of_id report.run) None (ending_of report.end)

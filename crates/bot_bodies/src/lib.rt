@@ -24,4 +24,4 @@ mod reports;
 
 pub use bot_calls::{read_bot_event, read_claim, read_handshake, read_poll, read_terminate};
 pub use pool_request::PoolRequest;
-pub use reports::{End, Report, is_bare, last_of, read_report};
+pub use reports::{End, Report, ending_of, is_bare, read_report};

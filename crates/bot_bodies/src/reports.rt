@@ -6,7 +6,7 @@ ghost use Rattle.json_fields.specs.Readings.{Reads, at};
 ghost use Rattle.json_fields.specs.Fields.{required_text_at};
 ghost use Rattle.swarm_model.specs.Fits.{is_name, fits_last};
 ghost use Rattle.bot_bodies.specs.Ranges.{code_of as spec_code_of};
-ghost use Rattle.bot_bodies.specs.Reports.{raw_exit_in, raw_end_in, raw_report_in, end_of, report_of, report_in, is_bare as spec_is_bare, last_of as spec_last_of};
+ghost use Rattle.bot_bodies.specs.Reports.{raw_exit_in, raw_end_in, raw_report_in, end_of, report_of, report_in, is_bare as spec_is_bare, ending_of as spec_last_of};
 
 use crate::files::{RawFile, read_files, read_raw_files};
 use crate::names::read_name;
@@ -193,7 +193,7 @@ pub fn is_bare(report: &Report) -> bool
 }
 
 /// How the run ended, where it has.
-pub fn last_of(end: End) -> Option<Last>
+pub fn ending_of(end: End) -> Option<Last>
     requires duration { end.duration_ms ≤ 2 ^ 40 }
     requires dropped { end.dropped ≤ 2 ^ 53 }
     requires no_files { length end.files ≡ 0 }

@@ -27,7 +27,7 @@ fn order_at(rows: &[BotRow], number: u32, name: &Text) -> Ordering
 }
 
 /// The place of the number of a name, or the place to which it belongs.
-fn place_of(rows: &[BotRow], numbers: &[u32], name: &Text) -> Result<usize, usize>
+fn name_place(rows: &[BotRow], numbers: &[u32], name: &Text) -> Result<usize, usize>
     ensures bound { IsSearchInRange result (length numbers.now) }
     ensures place { IsBinarySearchResult (λ n. text_cmp (name_at (map name_of rows.now) n) name.now) numbers.now result }
 {
@@ -40,7 +40,7 @@ pub(crate) fn number_of(rows: &[BotRow], numbers: &[u32], name: &Text) -> Option
     requires named { AreByName (map no_of_bot rows.now) (map name_of rows.now) numbers.now }
     ensures { result ≡ option_map no_of_bot (row_named rows.now name.now) }
 {
-    match place_of(rows, numbers, name) {
+    match name_place(rows, numbers, name) {
         Ok(place) => Some(numbers[place]),
         Err(_) => None,
     }
@@ -67,7 +67,7 @@ fn add(rows: &[BotRow], numbers: &mut Vec<u32>, number: u32, name: &Text)
     requires room { vec_len numbers.old < vec_capacity numbers.old }
     ensures { AreByName (map no_of_bot rows.now ++ number ∷ []) (map name_of rows.now ++ name.now ∷ []) numbers.new.items }
 {
-    match place_of(rows, numbers, name) {
+    match name_place(rows, numbers, name) {
         Ok(_) => unreachable!(),
         Err(place) => insert(numbers, place, number),
     }

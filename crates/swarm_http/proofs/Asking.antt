@@ -21,7 +21,7 @@ use Rattle.swarm_http.specs.Requests.{then, routed, with_front, caller_request_o
 use Rattle.swarm_http.specs.Outcomes.{DoorCall, called_place, call_of, rejected, no_body_memory, IsCalled}
 use Rattle.swarm_http.specs.Replies.{refusal}
 use Rattle.swarm_http.specs.Sends.{text_of}
-use Rattle.swarm_http.specs.Steps.{Answers, IsEarly, told, untold}
+use Rattle.swarm_http.specs.Steps.{Answers, IsRejection, told, untold}
 use Rattle.swarm_http.proofs.Serving.{HandsIn-nil}
 
 pub no_route : (settings : Settings) (head : RequestHead) (body : List ℕ) → route_of head.target ≡ None → request_of settings head body ≡ Err rule.NoRoute
@@ -71,7 +71,7 @@ not_held settings writer head body a old shown text = record { outcome = no_body
 
 -- a body that was refused
 pub body_refused : (settings : Settings) (writer : Writer) (head : RequestHead) (body who : List ℕ) (a : ℕ → Option (List ℕ)) (old : Logs) (shown : ReplyBytes) (asked : Result Asked Rule)
-    → request_of settings head body ≡ then asked (caller_request_of who) → IsEarly shown asked → Answers settings writer head body a a old old shown
+    → request_of settings head body ≡ then asked (caller_request_of who) → IsRejection shown asked → Answers settings writer head body a a old old shown
 body_refused settings writer head body who a old shown asked means (told why e text) =
     refused_early settings writer head body a old shown why (means ∙ ap (λ (r : Result Asked Rule). then r (caller_request_of who)) e) text
 body_refused settings writer head body who a old shown asked means (untold text) = not_held settings writer head body a old shown text

@@ -46,20 +46,20 @@ abbrev pub broken_front : Rule
 broken_front = rule.BadField (codes "X-Swarming-After") Grammar
 
 -- a front that is no number is told in place of what the pools say
-abbrev pub unless_broken : After → Result Asked Rule → Result Asked Rule
-unless_broken Absent asked = asked
-unless_broken (Front front) asked = asked
-unless_broken Broken asked = Err broken_front
+abbrev pub unless_front_broken : After → Result Asked Rule → Result Asked Rule
+unless_front_broken Absent asked = asked
+unless_front_broken (Front front) asked = asked
+unless_front_broken Broken asked = Err broken_front
 
 -- a fault of the body comes before a broken front, and that before what the pools say
 abbrev pub with_front : After → Result Asked WireFault → Result Asked Rule
-with_front after (Ok asked) = unless_broken after (Ok asked)
+with_front after (Ok asked) = unless_front_broken after (Ok asked)
 with_front after (Err fault.Memory) = Err rule.WantOfMemory
 with_front after (Err fault.BadJson) = Err rule.BadJson
 with_front after (Err (fault.BadField field broken)) = Err (rule.BadField field broken)
-with_front after (Err fault.NoPool) = unless_broken after (Err rule.NoPool)
-with_front after (Err fault.NoTask) = unless_broken after (Err rule.NoTask)
-with_front after (Err (fault.NotBuilt what)) = unless_broken after (Err (rule.NotBuilt what))
+with_front after (Err fault.NoPool) = unless_front_broken after (Err rule.NoPool)
+with_front after (Err fault.NoTask) = unless_front_broken after (Err rule.NoTask)
+with_front after (Err (fault.NotBuilt what)) = unless_front_broken after (Err (rule.NotBuilt what))
 
 -- the front that the caller has seen
 abbrev pub front_of : After → Option ℕ

@@ -27,9 +27,9 @@ pub record Answers (settings : Settings) (writer : Writer) (head : RequestHead) 
   pub shown : text_of result ≡ shows outcome
 
 -- the refusal is written that was to be told, or that of want of memory
-pub data IsEarly (shown : ReplyBytes) (asked : Result Asked Rule) : Type 0 where
-  told : (why : Rule) → asked ≡ Err why → text_of shown ≡ refusal None why → IsEarly shown asked
-  untold : text_of shown ≡ refusal None rule.WantOfMemory → IsEarly shown asked
+pub data IsRejection (shown : ReplyBytes) (asked : Result Asked Rule) : Type 0 where
+  told : (why : Rule) → asked ≡ Err why → text_of shown ≡ refusal None why → IsRejection shown asked
+  untold : text_of shown ≡ refusal None rule.WantOfMemory → IsRejection shown asked
 
 -- one request was answered, and its reply written and flushed
 pub record GoesOn (settings : Settings) (writer : Writer) (pending rest : List ℕ) (s t : LinkState) (a b : ℕ → Option (List ℕ)) (old new : Logs) : Type 0 where

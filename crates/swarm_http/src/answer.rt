@@ -8,12 +8,12 @@ ghost use Rattle.swarm_model.specs.Settings.{AreOpen};
 ghost use Rattle.swarm_wire.specs.declared.asked.Asked.{Asked};
 ghost use Rattle.swarm_wire.specs.declared.asked.WireFault.{WireFault};
 ghost use Rattle.swarm_wire.specs.Asking.{asked_of};
-ghost use Rattle.swarm_http.specs.Requests.{front_of, unless_broken, with_front, caller_request_of, request_of, is_post};
+ghost use Rattle.swarm_http.specs.Requests.{front_of, unless_front_broken, with_front, caller_request_of, request_of, is_post};
 ghost use Rattle.swarm_http.specs.Outcomes.{stop_rule};
 ghost use Rattle.swarm_http.specs.Sends.{rule_of};
 ghost use Rattle.swarm_http.specs.Takes.{IsHeld};
 ghost use Rattle.swarm_http.specs.Answered.{KeepsDoor};
-ghost use Rattle.swarm_http.specs.Steps.{Answers, IsEarly};
+ghost use Rattle.swarm_http.specs.Steps.{Answers, IsRejection};
 
 use crate::reply::{Refusal, ReplyBytes, field_refusal, whole_reply};
 use crate::request::{Caller, Received, RequestLine};
@@ -92,8 +92,8 @@ fn call_door<D: Door, C: Clock>(
 }
 
 // A front that is no number is told in place of what the pools say.
-fn unless_broken(after: After, why: Refusal) -> Refusal
-    ensures { unless_broken after (Err (rule_of why)) ≡ Err (rule_of result) }
+fn unless_front_broken(after: After, why: Refusal) -> Refusal
+    ensures { unless_front_broken after (Err (rule_of why)) ≡ Err (rule_of result) }
 {
     match after {
         After::Broken => Refusal::FrontBroken,
@@ -111,7 +111,7 @@ fn not_built(what: Unbuilt) -> Refusal
 }
 
 fn shown_fault(alloc: Global, after: After, fault: WireFault) -> ReplyBytes
-    ensures { (asked : Result Asked WireFault) → (fault ≢ WireFault.Memory → asked ≡ Err fault) → IsEarly result (with_front after asked) }
+    ensures { (asked : Result Asked WireFault) → (fault ≢ WireFault.Memory → asked ≡ Err fault) → IsRejection result (with_front after asked) }
 {
     match fault {
         WireFault::Memory => ReplyBytes::Refused(Refusal::WantOfMemory),
@@ -120,9 +120,12 @@ fn shown_fault(alloc: Global, after: After, fault: WireFault) -> ReplyBytes
             Ok(shown) => shown,
             Err(_) => ReplyBytes::Refused(Refusal::WantOfMemory),
         },
-        WireFault::NoPool => ReplyBytes::Refused(unless_broken(after, Refusal::NoPool)),
-        WireFault::NoTask => ReplyBytes::Refused(unless_broken(after, Refusal::NoTask)),
-        WireFault::NotBuilt { what } => ReplyBytes::Refused(unless_broken(after, not_built(what))),
+        WireFault::NoPool => ReplyBytes::Refused(unless_front_broken(after, Refusal::NoPool)),
+        WireFault::NoTask => ReplyBytes::Refused(unless_front_broken(after, Refusal::NoTask)),
+        WireFault::NotBuilt { what } => ReplyBytes::Refused(unless_front_broken(
+            after,
+            not_built(what),
+        )),
     }
 }
 
@@ -136,7 +139,7 @@ fn read_asked(
 ) -> Result<Asked, ReplyBytes>
     requires { AreOpen settings.now }
     ensures asks { IfOk result (λ asked. with_front after (asked_of settings.now route body.now) ≡ Ok asked) }
-    ensures refused { IfErr result (λ shown. IsEarly shown (with_front after (asked_of settings.now route body.now))) }
+    ensures refused { IfErr result (λ shown. IsRejection shown (with_front after (asked_of settings.now route body.now))) }
     ensures fits { IfOk result (λ asked. IsSomeAnd (slice_get settings.now.pools asked.place) (λ pool. IsTrue (fits pool asked.request))) }
     ensures place { IfOk result (λ asked. asked.place < 4) }
 {

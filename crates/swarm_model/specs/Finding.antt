@@ -11,19 +11,19 @@ use Rattle.swarm_model.specs.declared.blob_row.BlobRow.{BlobRow}
 use Rattle.swarm_model.specs.declared.pool_state.PoolState.{PoolState}
 
 -- the place of a state in the order in which tallies show them
-abbrev pub place_of : TaskState → ℕ
-place_of Pending = 0
-place_of Running = 1
-place_of Expired = 2
-place_of TimedOut = 3
-place_of BotDied = 4
-place_of Canceled = 5
-place_of Completed = 6
-place_of Killed = 7
-place_of NoResource = 8
+abbrev pub state_place : TaskState → ℕ
+state_place Pending = 0
+state_place Running = 1
+state_place Expired = 2
+state_place TimedOut = 3
+state_place BotDied = 4
+state_place Canceled = 5
+state_place Completed = 6
+state_place Killed = 7
+state_place NoResource = 8
 
 abbrev pub is_state : TaskState → TaskState → Bool
-is_state a b = place_of a == place_of b
+is_state a b = state_place a == state_place b
 
 abbrev pub has_state : TaskState → TaskRow → Bool
 has_state state task = is_state task.state state

@@ -19,7 +19,7 @@ use Rattle.swarm_wire.specs.declared.route.Route.{Route}
 use Rattle.swarm_wire.specs.declared.route.Route.TheVariants as route
 use Rattle.json_fields.specs.Readings.{reading, ◌>>=◌}
 use Rattle.json_fields.specs.Fields.{is_object}
-use Rattle.swarm_wire.specs.Pools.{place_of}
+use Rattle.swarm_wire.specs.Pools.{pool_place}
 use Rattle.json_fields.specs.Ids.{place_of_id, task_of_id, try_of_id}
 use Rattle.task_bodies.specs.Tasks.{task_in, is_built}
 use Rattle.task_bodies.specs.Results.{id_in}
@@ -36,9 +36,9 @@ abbrev pub wire_fault : PropFault → WireFault
 wire_fault prop_fault.Memory = fault.Memory
 wire_fault (prop_fault.Broken field rule) = fault.BadField field rule
 
-abbrev pub unless_broken : {A : Type 0} → Result A PropFault → Result A WireFault
-unless_broken (Ok x) = Ok x
-unless_broken (Err e) = Err (wire_fault e)
+abbrev pub or_bad_field : {A : Type 0} → Result A PropFault → Result A WireFault
+or_bad_field (Ok x) = Ok x
+or_bad_field (Err e) = Err (wire_fault e)
 
 abbrev pub or_no_pool : Option ℕ → Result ℕ WireFault
 or_no_pool None = Err fault.NoPool
@@ -46,12 +46,12 @@ or_no_pool (Some place) = Ok place
 
 -- the place of the pool of a name
 abbrev pub pool_named : List PoolSettings → List ℕ → Result ℕ WireFault
-pool_named pools name = or_no_pool (place_of pools name)
+pool_named pools name = or_no_pool (pool_place pools name)
 
 -- a task for the pool of its dimensions; what isn't served is told last
 unfoldable pub new_of : List PoolSettings → Data → Result Asked WireFault
 new_of pools d = do
-  task ← unless_broken (task_in d)
+  task ← or_bad_field (task_in d)
   place ← pool_named pools (pool_of_task task)
   if is_built d then Ok (asked place (ask.New task)) else Err (fault.NotBuilt unbuilt.Task)
 
@@ -61,33 +61,33 @@ pool_at pools id = if nat_lt (place_of_id id) (length pools) then Ok (place_of_i
 
 unfoldable pub result_of : List PoolSettings → Data → Result Asked WireFault
 result_of pools d = do
-  id ← unless_broken (id_in d)
+  id ← or_bad_field (id_in d)
   place ← pool_at pools id
   Ok (asked place (ask.Result (task_of_id id) (try_of_id id)))
 
 unfoldable pub cancel_of : List PoolSettings → Data → Result Asked WireFault
 cancel_of pools d = do
-  fields ← unless_broken (cancel_in d)
+  fields ← or_bad_field (cancel_in d)
   place ← pool_at pools fields.0
   Ok (asked place (ask.Cancel (task_of_id fields.0) (try_of_id fields.0) fields.1))
 
 -- a report; what isn't served is told last
 unfoldable pub update_of : List PoolSettings → Data → Result Asked WireFault
 update_of pools d = do
-  report ← unless_broken (report_in d)
+  report ← or_bad_field (report_in d)
   place ← pool_at pools report.run
   if is_bare report then Ok (asked place (update_by report)) else Err (fault.NotBuilt unbuilt.Update)
 
 unfoldable pub count_of : List PoolSettings → Data → Result Asked WireFault
 count_of pools d = do
-  fields ← unless_broken (count_in d)
+  fields ← or_bad_field (count_in d)
   place ← pool_named pools fields.0
   Ok (asked place (ask.Count fields.1))
 
 -- a request to the pool of its name
 unfoldable pub named_of : List PoolSettings → Result PoolRequest PropFault → Result Asked WireFault
 named_of pools reading = do
-  named ← unless_broken reading
+  named ← or_bad_field reading
   place ← pool_named pools named.pool
   Ok (asked place named.request)
 

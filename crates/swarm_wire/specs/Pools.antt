@@ -8,5 +8,5 @@ abbrev pub place_from : ℕ → List ℕ → List PoolSettings → Option ℕ
 place_from place name [] = None
 place_from place name (pool ∷ pools) = if same pool.name name then Some place else place_from (place + 1) name pools
 
-unfoldable pub place_of : List PoolSettings → List ℕ → Option ℕ
-place_of pools name = place_from 0 name pools
+unfoldable pub pool_place : List PoolSettings → List ℕ → Option ℕ
+pool_place pools name = place_from 0 name pools

@@ -7,9 +7,9 @@ ghost use Rattle.bot_bodies.specs.declared.pool_request.PoolRequest.{PoolRequest
 ghost use Rattle.bot_bodies.specs.BotCalls.{FitsNamed};
 ghost use Rattle.swarm_wire.specs.Asking.{Asks, FitsPool, new_of, cancel_of, result_of, count_of, named_of, update_of};
 
-use crate::pools::{place_of, pool_at};
+use crate::pools::{pool_at, pool_place};
 use crate::{Asked, WireFault};
-use bot_bodies::{PoolRequest, is_bare, last_of, read_report};
+use bot_bodies::{PoolRequest, ending_of, is_bare, read_report};
 use dimensions::Seq;
 use json_fields::{task_of_id, try_of_id};
 use serde_json::Value;
@@ -30,7 +30,7 @@ pub(crate) fn ask_new(
     ensures fits { IfOk result (λ asked. FitsPool pools.now asked) }
 {
     let task = read_task(alloc, body)?;
-    let Some(place) = place_of(pools, task.pool()) else {
+    let Some(place) = pool_place(pools, task.pool()) else {
         return Err(WireFault::NoPool);
     };
     if is_built(body) {
@@ -103,7 +103,7 @@ pub(crate) fn ask_count(
     ensures fits { IfOk result (λ asked. FitsPool pools.now asked) }
 {
     let (pool, state) = read_count(alloc, body)?;
-    let Some(place) = place_of(pools, pool) else {
+    let Some(place) = pool_place(pools, pool) else {
         return Err(WireFault::NoPool);
     };
     Ok(Asked {
@@ -126,7 +126,7 @@ pub(crate) fn ask_named(
     ensures fits { IfOk result (λ asked. FitsPool pools.now asked) }
 {
     let named = read?;
-    let Some(place) = place_of(pools, named.pool.as_str()) else {
+    let Some(place) = pool_place(pools, named.pool.as_str()) else {
         return Err(WireFault::NoPool);
     };
     Ok(Asked {
@@ -160,7 +160,7 @@ pub(crate) fn ask_update(
             task: task_of_id(report.run),
             try_no: try_of_id(report.run),
             chunk: None,
-            last: last_of(report.end),
+            last: ending_of(report.end),
         },
         bytes: Seq::new(alloc),
     })

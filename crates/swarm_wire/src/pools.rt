@@ -1,7 +1,7 @@
 //! The pools of the settings, by their names and by the ids of their tasks.
 ghost use Rattle.std.specs.Prelude.{◌≡◌, ◌≤◌, ◌<◌, IfOk, IfSome, IsTrue, IsSomeAnd, length, slice_get};
 ghost use Rattle.dimensions.specs.Alike.{same};
-ghost use Rattle.swarm_wire.specs.Pools.{place_of as spec_place_of};
+ghost use Rattle.swarm_wire.specs.Pools.{pool_place as spec_place_of};
 ghost use Rattle.swarm_wire.specs.Asking.{pool_at as spec_pool_at};
 
 use crate::WireFault;
@@ -9,8 +9,8 @@ use json_fields::place_of_id;
 use swarm_model::PoolSettings;
 
 /// The place of the pool of a name.
-#[tactic(auto, unfolding(crate::specs::Pools::place_of))]
-pub(crate) fn place_of(pools: &[PoolSettings], name: &str) -> Option<u32>
+#[tactic(auto, unfolding(crate::specs::Pools::pool_place))]
+pub(crate) fn pool_place(pools: &[PoolSettings], name: &str) -> Option<u32>
     requires few { length pools.now ≤ 4 }
     ensures is { result ≡ spec_place_of pools.now name.now }
     ensures named { IfSome result (λ place. IsSomeAnd (slice_get pools.now place) (λ pool. IsTrue (same pool.name name.now))) }

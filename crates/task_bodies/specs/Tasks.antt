@@ -37,13 +37,13 @@ fields_of d = do
   slices ← each_at (object_item slice_in) (codes "task_slices") d
   Ok (record { name = name; priority = priority; bot_ping_tolerance_secs = tolerance; request_uuid = uuid; task_slices = slices })
 
-abbrev pub unless_broken : NewTask → Option (List ℕ × PropRule) → Result NewTask PropFault
-unless_broken task None = Ok task
-unless_broken task (Some broken) = Err (Broken broken.0 broken.1)
+abbrev pub unless_task_broken : NewTask → Option (List ℕ × PropRule) → Result NewTask PropFault
+unless_task_broken task None = Ok task
+unless_task_broken task (Some broken) = Err (Broken broken.0 broken.1)
 
 -- the task that the fields mean, where they break no rule
 unfoldable pub checked : RawTask → Result NewTask PropFault
-checked raw = unless_broken (task_of raw) (first_broken_task raw)
+checked raw = unless_task_broken (task_of raw) (first_broken_task raw)
 
 -- all fields are read before the other rules are tried
 unfoldable pub task_in : Data → Result NewTask PropFault

@@ -4,7 +4,7 @@ use Rattle.swarm_model.specs.declared.rule.Rule.TheVariants as rule
 use Rattle.swarm_http.specs.declared.reply.ReplyBytes.TheVariants.{Refused}
 use Rattle.swarm_http.specs.declared.reply.Refusal.TheVariants.{NoRoute, BadMethod, NoCaller}
 use Rattle.swarm_http.specs.Requests.{is_post, with_front}
-use Rattle.swarm_http.specs.Steps.{IsEarly}
+use Rattle.swarm_http.specs.Steps.{IsRejection}
 use Rattle.swarm_wire.specs.Asking.{asked_of}
 use Rattle.swarm_http.proofs.Asking.{no_route, bad_method, no_caller, body_left, body_asks, refused_early, body_refused}
 use Rattle.swarm_http.proofs.answer.answer_request.Goals as goal
@@ -40,4 +40,4 @@ returns-clause-answers g c = λ body head held.
     body_refused c.args.settings.now (g.D.Door.state c.args.door.now).writer head body c.in-Named.who (g.C.Clock.ahead c.args.clock.now) (g.D.Door.state c.args.door.now).seen c.in-Err.shown
     (with_front (after_of head) (asked_of c.args.settings.now c.in-Some.route body))
     (body_left c.args.settings.now head body c.in-Some.route c.in-Named.who (sym held.line.route ∙ c.in-Some.is) posted who)
-    (subst (λ (b : List ℕ). IsEarly c.in-Err.shown (with_front (after_of head) (asked_of c.args.settings.now c.in-Some.route b))) (c.deref.ensures.value ∙ is) (rw held.line.after at c.in-Err.ensures.refused))
+    (subst (λ (b : List ℕ). IsRejection c.in-Err.shown (with_front (after_of head) (asked_of c.args.settings.now c.in-Some.route b))) (c.deref.ensures.value ∙ is) (rw held.line.after at c.in-Err.ensures.refused))

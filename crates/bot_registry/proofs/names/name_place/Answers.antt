@@ -3,7 +3,7 @@ use Rattle.std.proofs.Common.{rules, map}
 use Rattle.std.proofs.lemmas.Fn.{always_returns_same}
 use Rattle.dimensions.specs.Order.{text_cmp}
 use Rattle.bot_registry.specs.Names.{name_of, name_at}
-use Rattle.bot_registry.proofs.names.place_of.Goals as goal
+use Rattle.bot_registry.proofs.names.name_place.Goals as goal
 
 pub returns-clause-place : goal.returns-clause-place
 returns-clause-place c =
