@@ -1,5 +1,6 @@
 -- What the program does.
 use Rattle.std.specs.Prelude.{◌≡◌, ◌⊎◌, ℕ, List, [], ◌∷◌, codes, Option, IsTrue}
+use Rattle.std.specs.List.{flat_map}
 use Rattle.sw_base.specs.Faults.{Rose}
 use Rattle.sw_base.specs.Link.{LinkState, IsClean, NoFault}
 use Rattle.swarm_policy.specs.Open.{open_settings}
@@ -7,6 +8,7 @@ use Rattle.swarm_history.specs.Doors.{Logs, Writer}
 use Rattle.swarm_http.specs.declared.ended.Ended.{Ended}
 use Rattle.swarm_http.specs.declared.ended.Ended.TheVariants.{Closed, LastAsked, CutShort, BadHead, Retired, ReadFault, WriteFault, Memory}
 use Rattle.swarm_http.specs.Sends.{Written}
+use Rattle.swarm_http.specs.Exchange.{entries_of}
 use Rattle.swarm_http.specs.Answered.{IsAnswered}
 
 -- the status of an ending
@@ -24,7 +26,8 @@ status_of BadHead = 7
 abbrev pub AreSession : List (List ℕ) → Type 0
 AreSession words = words ≡ codes "session" ∷ []
 
--- one connection over a door with the open settings, which writes alone, under the number 0, to an empty log of each pool
+-- One connection over a door with the open settings, which writes alone, under the number 0, to an
+-- empty log of each pool. In the end each log is the entries of the exchanges, in order.
 pub record RunsSession (s t : LinkState) (a b : ℕ → Option (List ℕ)) (status : ℕ) : Type 0 where
   pub ended : Ended
   pub writer : Writer
@@ -34,6 +37,7 @@ pub record RunsSession (s t : LinkState) (a b : ℕ → Option (List ℕ)) (stat
   pub alone : IsTrue writer.alone
   pub empty : (p : ℕ) → old p ≡ []
   pub answered : IsAnswered open_settings writer s t a b old new ended
+  pub logs_are : (p : ℕ) → new p ≡ flat_map (entries_of p) answered.xs
   pub status_is : status ≡ status_of ended
 
 -- the usage was written whole and flushed, or a write or the flush failed

@@ -1,4 +1,4 @@
-use Rattle.swarm_cli.proofs.Sessions.{nothing_began}
+use Rattle.swarm_cli.proofs.Sessions.{session_ran, nothing_began}
 use Rattle.swarm_cli.proofs.program.run_session.Goals as goal
 
 pub returns-in_default : goal.returns-in_default
@@ -7,3 +7,6 @@ returns-in_default g c = nothing_began (g.L.Link.state c.args.console.now) (g.C.
 pub returns-in_default-new : goal.returns-in_default-new
 returns-in_default-new g c =
     nothing_began (g.L.Link.state c.args.console.now) (g.C.Clock.ahead c.args.clock.now) c.status_of-in_default-new.result c.requires c.status_of-in_default-new.ensures
+
+pub returns : goal.returns
+returns g c = session_ran c.in-Ok.ensures.exact c.in-Ok-new.ensures c.session-ended.ensures.answered c.status_of-2.ensures
