@@ -12,7 +12,7 @@ use Rattle.swarm_http.specs.declared.ended.Ended.TheVariants.{Memory}
 use Rattle.swarm_http.specs.Exchange.{entries_of}
 use Rattle.swarm_http.specs.Answered.{IsAnswered}
 use Rattle.swarm_http.proofs.Serving.{no_memory}
-use Rattle.swarm_cli.specs.Run.{RunsSession, status_of}
+use Rattle.swarm_cli.specs.Run.{RunsSession, exit_status}
 
 -- each log is the entries of the exchanges
 whole_log : {writer : Writer} {s t : LinkState} {a b : ℕ → Option (List ℕ)} {old new : Logs} {ended : Ended} → IsTrue writer.alone → ((p : ℕ) → old p ≡ [])
@@ -21,7 +21,7 @@ whole_log alone empty x p = let o = x.once p in o.grown ∙ ap (λ (l : List Ent
 
 -- a session was served
 pub session_ran : {settings : Settings} {s t : LinkState} {a b : ℕ → Option (List ℕ)} {door : DoorState} {new : Logs} {ended : Ended} {status : ℕ} → settings ≡ open_settings
-    → IsNewDoor settings door → IsAnswered settings door.writer s t a b door.seen new ended → status ≡ status_of ended → RunsSession s t a b status
+    → IsNewDoor settings door → IsAnswered settings door.writer s t a b door.seen new ended → status ≡ exit_status ended → RunsSession s t a b status
 session_ran {s = s} {t = t} {a = a} {b = b} {door = door} {new = new} {ended = ended} same n y is =
     let x : IsAnswered open_settings door.writer s t a b door.seen new ended = subst (λ (k : Settings). IsAnswered k door.writer s t a b door.seen new ended) same y in
     record {
@@ -40,7 +40,7 @@ session_ran {s = s} {t = t} {a = a} {b = b} {door = door} {new = new} {ended = e
 abbrev new_door : DoorState
 new_door = record { settings = open_settings; seen = λ p. []; writer = record { numbers = λ p. 0; alone = true }; faults = 0; calls = 0 }
 
-pub nothing_began : (s : LinkState) (a : ℕ → Option (List ℕ)) (status : ℕ) → IsClean s → status ≡ status_of Memory → RunsSession s s a a status
+pub nothing_began : (s : LinkState) (a : ℕ → Option (List ℕ)) (status : ℕ) → IsClean s → status ≡ exit_status Memory → RunsSession s s a a status
 nothing_began s a status clean is =
     session_ran {settings = open_settings} {door = new_door} {new = λ p. []} refl
     (record { settings_are = refl; seen = λ p. refl; numbers = λ p. refl; alone = refl; faults = refl; calls = refl }) (no_memory clean) is

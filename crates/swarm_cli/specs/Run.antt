@@ -12,15 +12,15 @@ use Rattle.swarm_http.specs.Exchange.{entries_of}
 use Rattle.swarm_http.specs.Answered.{IsAnswered}
 
 -- the status of an ending
-abbrev pub status_of : Ended → ℕ
-status_of Closed = 0
-status_of LastAsked = 0
-status_of Retired = 0
-status_of ReadFault = 4
-status_of WriteFault = 4
-status_of Memory = 5
-status_of CutShort = 7
-status_of BadHead = 7
+abbrev pub exit_status : Ended → ℕ
+exit_status Closed = 0
+exit_status LastAsked = 0
+exit_status Retired = 0
+exit_status ReadFault = 4
+exit_status WriteFault = 4
+exit_status Memory = 5
+exit_status CutShort = 7
+exit_status BadHead = 7
 
 -- the words are the one word `session`
 abbrev pub AreSession : List (List ℕ) → Type 0
@@ -38,7 +38,7 @@ pub record RunsSession (s t : LinkState) (a b : ℕ → Option (List ℕ)) (stat
   pub empty : (p : ℕ) → old p ≡ []
   pub answered : IsAnswered open_settings writer s t a b old new ended
   pub logs_are : (p : ℕ) → new p ≡ flat_map (entries_of p) answered.xs
-  pub status_is : status ≡ status_of ended
+  pub status_is : status ≡ exit_status ended
 
 -- the usage was written whole and flushed, or a write or the flush failed
 pub record PrintsUsage (s t : LinkState) (status : ℕ) : Type 0 where

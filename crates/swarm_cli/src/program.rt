@@ -1,14 +1,14 @@
 ghost use Rattle.std.specs.Prelude.{◌≡◌, ◌↔◌, IsTrue, map, string_bytes};
 ghost use Rattle.sw_base.specs.Link.{IsClean};
-ghost use Rattle.swarm_cli.specs.Run.{AreSession, RunsSession, PrintsUsage, status_of};
+ghost use Rattle.swarm_cli.specs.Run.{AreSession, RunsSession, PrintsUsage, exit_status};
 
 use std::alloc::Global;
 use swarm_http::{Clock, Ended, Link, PlainDoor, send_flushed, session};
 use swarm_plain::ListPool;
 use swarm_policy::open_settings;
 
-fn status_of(ended: Ended) -> u8
-    ensures { result ≡ status_of ended }
+fn exit_status(ended: Ended) -> u8
+    ensures { result ≡ exit_status ended }
 {
     match ended {
         Ended::Closed | Ended::LastAsked | Ended::Retired => 0,
@@ -23,13 +23,13 @@ fn run_session<L: Link, C: Clock>(alloc: Global, console: &mut L, clock: &mut C)
     ensures { RunsSession (L.state console.old) (L.state console.new) (C.ahead clock.old) (C.ahead clock.new) result }
 {
     let Ok(settings) = open_settings(alloc) else {
-        return status_of(Ended::Memory);
+        return exit_status(Ended::Memory);
     };
     let Ok(mut door) = PlainDoor::<ListPool>::new(alloc, &settings) else {
-        return status_of(Ended::Memory);
+        return exit_status(Ended::Memory);
     };
     let ended = session(alloc, &settings, &mut door, clock, console);
-    status_of(ended)
+    exit_status(ended)
 }
 
 fn are_session(words: &[String]) -> bool
