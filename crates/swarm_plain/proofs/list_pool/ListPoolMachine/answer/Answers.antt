@@ -1,9 +1,8 @@
 -- A result shows the state that the log tells, and what is added is what the laws say.
-use Rattle.std.proofs.Common.{◌≡◌, Option, None, IfSome, IsTrue, sym, ap, subst, ◌∙◌}
+use Rattle.std.proofs.Common.{Option, IfSome, sym, ap, subst, ◌∙◌}
 use Rattle.std.specs.Option.{option_map}
 use Rattle.swarm_model.specs.declared.entry.Entry.{Entry}
-use Rattle.swarm_model.specs.Answers.{answer, entry_at}
-use Rattle.swarm_model.specs.Deadlines.{due_entry}
+use Rattle.swarm_model.specs.Answers.{entry_at}
 use Rattle.swarm_model.specs.declared.reply.Reply.{Reply}
 use Rattle.swarm_model.specs.declared.answer.Decision.{Decision}
 use Rattle.swarm_model.specs.MachineState.{IsHistory, ShowsVerdict, ActsOnce, TakesOutcome}
