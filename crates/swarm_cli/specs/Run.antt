@@ -1,10 +1,10 @@
 -- What the program does.
-use Rattle.std.specs.Prelude.{◌≡◌, ◌⊎◌, ℕ, List, [], ◌∷◌, codes, Option, IsTrue}
+use Rattle.std.specs.Prelude.{◌≡◌, ◌⊎◌, ℕ, List, [], ◌∷◌, codes, Option}
 use Rattle.std.specs.List.{flat_map}
 use Rattle.sw_base.specs.Faults.{Rose}
 use Rattle.sw_base.specs.Link.{LinkState, IsClean, NoFault}
 use Rattle.swarm_policy.specs.Open.{open_settings}
-use Rattle.swarm_history.specs.Doors.{Logs, Writer}
+use Rattle.swarm_history.specs.Doors.{DoorState, IsNewDoor}
 use Rattle.swarm_http.specs.declared.ended.Ended.{Ended}
 use Rattle.swarm_http.specs.declared.ended.Ended.TheVariants.{Closed, LastAsked, CutShort, BadHead, Retired, ReadFault, WriteFault, Memory}
 use Rattle.swarm_http.specs.Sends.{Written}
@@ -26,18 +26,15 @@ exit_status BadHead = 7
 abbrev pub AreSession : List (List ℕ) → Type 0
 AreSession words = words ≡ codes "session" ∷ []
 
--- One connection over a door with the open settings, which writes alone, under the number 0, to an
--- empty log of each pool. In the end each log is the entries of the exchanges, in order.
+-- One connection over a new door with the open settings, which writes alone, under the number 0, to
+-- an empty log of each pool. In the end each log is the entries of the exchanges, in order.
 pub record RunsSession (s t : LinkState) (a b : ℕ → Option (List ℕ)) (status : ℕ) : Type 0 where
   pub ended : Ended
-  pub writer : Writer
-  pub old : Logs
-  pub new : Logs
-  pub numbered : (p : ℕ) → writer.numbers p ≡ 0
-  pub alone : IsTrue writer.alone
-  pub empty : (p : ℕ) → old p ≡ []
-  pub answered : IsAnswered open_settings writer s t a b old new ended
-  pub logs_are : (p : ℕ) → new p ≡ flat_map (entries_of p) answered.xs
+  pub before : DoorState
+  pub after : DoorState
+  pub new_door : IsNewDoor open_settings before
+  pub answered : IsAnswered (record { link = s; clock = a; door = before }) (record { link = t; clock = b; door = after }) ended
+  pub logs_are : (p : ℕ) → after.seen p ≡ flat_map (entries_of p) answered.xs
   pub status_is : status ≡ exit_status ended
 
 -- the usage was written whole and flushed, or a write or the flush failed

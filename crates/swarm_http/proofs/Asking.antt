@@ -13,7 +13,7 @@ use Rattle.swarm_wire.specs.Routes.{route_of}
 use Rattle.swarm_wire.specs.Asking.{asked_of}
 use Rattle.swarm_history.specs.declared.door.Answered.{Answered}
 use Rattle.swarm_history.specs.declared.door.CallFault.{CallFault}
-use Rattle.swarm_history.specs.Doors.{Logs, Elsewhere, IsPoolCall, Writer}
+use Rattle.swarm_history.specs.Doors.{Logs, DoorState, Elsewhere, IsPoolCall, Writer}
 use Rattle.request_head.specs.declared.after.After.{After}
 use Rattle.std.specs.Prelude.{IsSomeAnd, slice_get}
 use Rattle.swarm_http.specs.declared.reply.ReplyBytes.{ReplyBytes}
@@ -21,7 +21,7 @@ use Rattle.swarm_http.specs.Requests.{then, routed, with_front, caller_request_o
 use Rattle.swarm_http.specs.Outcomes.{DoorCall, called_place, call_of, rejected, no_body_memory, IsCalled}
 use Rattle.swarm_http.specs.Replies.{refusal}
 use Rattle.swarm_http.specs.Sends.{text_of}
-use Rattle.swarm_http.specs.Steps.{Answers, IsRejection, told, untold}
+use Rattle.swarm_http.specs.Steps.{Answers, IsRejection, by_rule, by_memory}
 use Rattle.swarm_http.proofs.Serving.{HandsIn-nil}
 
 pub no_route : (settings : Settings) (head : RequestHead) (body : List ℕ) → route_of head.target ≡ None → request_of settings head body ≡ Err rule.NoRoute
@@ -59,22 +59,22 @@ body_asks settings head body items route who after asked e m c same is asks =
     body_left settings head body route who e m c ∙ ap (λ (r : Result Asked Rule). then r (caller_request_of who)) (rw (same, is) at asks)
 
 -- a request that was refused before any call
-pub refused_early : (settings : Settings) (writer : Writer) (head : RequestHead) (body : List ℕ) (a : ℕ → Option (List ℕ)) (old : Logs) (shown : ReplyBytes) (why : Rule)
-    → request_of settings head body ≡ Err why → text_of shown ≡ refusal None why → Answers settings writer head body a a old old shown
-refused_early settings writer head body a old shown why means text =
-    record { outcome = rejected why; acts = (means, refl); moments = HandsIn-nil a; shown = text }
+pub refused_early : (settings : Settings) (head : RequestHead) (body : List ℕ) (a : ℕ → Option (List ℕ)) (door : DoorState) (shown : ReplyBytes) (why : Rule)
+    → door.settings ≡ settings → request_of settings head body ≡ Err why → text_of shown ≡ refusal None why → Answers head body a a door door shown
+refused_early settings head body a door shown why same means text =
+    record { outcome = rejected why; acts = (rw same means, refl); moments = HandsIn-nil a; shown = text }
 
 -- a request for which there was no memory
-pub not_held : (settings : Settings) (writer : Writer) (head : RequestHead) (body : List ℕ) (a : ℕ → Option (List ℕ)) (old : Logs) (shown : ReplyBytes)
-    → text_of shown ≡ refusal None rule.WantOfMemory → Answers settings writer head body a a old old shown
-not_held settings writer head body a old shown text = record { outcome = no_body_memory; acts = refl; moments = HandsIn-nil a; shown = text }
+pub not_held : (head : RequestHead) (body : List ℕ) (a : ℕ → Option (List ℕ)) (door : DoorState) (shown : ReplyBytes)
+    → text_of shown ≡ refusal None rule.WantOfMemory → Answers head body a a door door shown
+not_held head body a door shown text = record { outcome = no_body_memory; acts = refl; moments = HandsIn-nil a; shown = text }
 
 -- a body that was refused
-pub body_refused : (settings : Settings) (writer : Writer) (head : RequestHead) (body who : List ℕ) (a : ℕ → Option (List ℕ)) (old : Logs) (shown : ReplyBytes) (asked : Result Asked Rule)
-    → request_of settings head body ≡ then asked (caller_request_of who) → IsRejection shown asked → Answers settings writer head body a a old old shown
-body_refused settings writer head body who a old shown asked means (told why e text) =
-    refused_early settings writer head body a old shown why (means ∙ ap (λ (r : Result Asked Rule). then r (caller_request_of who)) e) text
-body_refused settings writer head body who a old shown asked means (untold text) = not_held settings writer head body a old shown text
+pub body_refused : (settings : Settings) (head : RequestHead) (body who : List ℕ) (a : ℕ → Option (List ℕ)) (door : DoorState) (shown : ReplyBytes) (asked : Result Asked Rule)
+    → door.settings ≡ settings → request_of settings head body ≡ then asked (caller_request_of who) → IsRejection shown asked → Answers head body a a door door shown
+body_refused settings head body who a door shown asked same means (by_rule why e text) =
+    refused_early settings head body a door shown why same (means ∙ ap (λ (r : Result Asked Rule). then r (caller_request_of who)) e) text
+body_refused settings head body who a door shown asked same means (by_memory text) = not_held head body a door shown text
 
 -- the pool of a request was called for it
 pub is_called : (settings : Settings) (writer : Writer) (head : RequestHead) (body : List ℕ) (call : DoorCall) (after : After) (front : Option ℕ) (result : Result Answered CallFault) (old new : Logs)

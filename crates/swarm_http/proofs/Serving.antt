@@ -22,7 +22,7 @@ use Rattle.swarm_http.specs.declared.request.Incoming.TheVariants as taken
 use Rattle.swarm_http.specs.Replies.{refusal}
 use Rattle.swarm_http.specs.Outcomes.{Outcome, Acts, shows, uses}
 use Rattle.swarm_http.specs.Exchange.{Exchange, HeadSays, request_bytes, reply_of, moments_of, Chain}
-use Rattle.swarm_http.specs.Answered.{replies, Serves, NoneCloses, IsOpenStill, IsCutReply, last_reply, refused_head, EndsAs, EndsAtFault, IsAnswered, KeepsDoor}
+use Rattle.swarm_http.specs.Answered.{World, replies, Serves, NoneCloses, IsOpenStill, IsCutReply, last_reply, refused_head, EndsAs, EndsAtFault, IsAnswered, KeepsDoor}
 use Rattle.swarm_http.specs.Sends.{Sends, rule_of, text_of}
 use Rattle.swarm_http.specs.Takes.{IsHeld, StopsAs, Takes, ReadsWell}
 use Rattle.swarm_http.specs.Steps.{Answers, GoesOn, Stops}
@@ -42,21 +42,22 @@ Chain-append : (settings : Settings) (writer : Writer) (old mid new : Logs) (xs 
 Chain-append settings writer old mid new [] ys same rest = subst (λ l. Chain settings writer l ys new) same rest
 Chain-append settings writer old mid new (x ∷ xs) ys first rest = (first.0, first.1, Chain-append settings writer first.0 mid new xs ys first.2 rest)
 
-nothing_served : (settings : Settings) (writer : Writer) (s : LinkState) (a : ℕ → Option (List ℕ)) (old : Logs) → Serves settings writer [] [] [] [] s s a a old old
-nothing_served settings writer s a old = record { taken = []; moves = Moves-refl s; input_is = refl; moments = HandsIn-nil a; chain = refl }
+nothing_served : (v : World) → Serves [] [] [] [] v v
+nothing_served v = record { taken = []; moves = Moves-refl v.link; input_is = refl; moments = HandsIn-nil v.clock; chain = refl }
 
-Serves-trans : {settings : Settings} {writer : Writer} {xs ys : List Exchange} {pending mid rest p q : List ℕ} {s t u : LinkState} {a b c : ℕ → Option (List ℕ)} {d e f : Logs}
-    → Serves settings writer xs pending mid p s t a b d e → Serves settings writer ys mid rest q t u b c e f
-    → Serves settings writer (xs ++ ys) pending rest (p ++ q) s u a c d f
-Serves-trans {settings = settings} {writer = writer} {xs = xs} {ys = ys} {pending = pending} {mid = mid} {rest = rest} {a = a} {b = b} {c = c} {d = d} {e = e} {f = f} x y = record {
+Serves-trans : {xs ys : List Exchange} {pending mid rest p q : List ℕ} {u v w : World} {most : ℕ}
+    → KeepsDoor most u.door v.door → Serves xs pending mid p u v → Serves ys mid rest q v w → Serves (xs ++ ys) pending rest (p ++ q) u w
+Serves-trans {xs = xs} {ys = ys} {pending = pending} {mid = mid} {rest = rest} {u = u} {v = v} {w = w} k x y = record {
   taken = x.taken ++ y.taken;
   moves = Moves-trans x.moves y.moves;
   input_is =
       sym (append_assoc pending x.taken y.taken) ∙ ap (λ l. l ++ y.taken) x.input_is ∙ append_assoc (flat_map request_bytes xs) mid y.taken
       ∙ ap (λ l. flat_map request_bytes xs ++ l) y.input_is ∙ sym (append_assoc (flat_map request_bytes xs) (flat_map request_bytes ys) rest)
       ∙ ap (λ l. l ++ rest) (sym (flat_map-append request_bytes xs ys));
-  moments = subst (HandsIn a c) (sym (flat_map-append moments_of xs ys)) (HandsIn-trans a b c (flat_map moments_of xs) (flat_map moments_of ys) x.moments y.moments);
-  chain = Chain-append settings writer d e f xs ys x.chain y.chain;
+  moments = subst (HandsIn u.clock w.clock) (sym (flat_map-append moments_of xs ys)) (HandsIn-trans u.clock v.clock w.clock (flat_map moments_of xs) (flat_map moments_of ys) x.moments y.moments);
+  chain = Chain-append u.door.settings u.door.writer u.door.seen v.door.seen w.door.seen xs ys x.chain
+      (subst (λ (s : Settings). Chain s u.door.writer v.door.seen ys w.door.seen) k.settings
+      (subst (λ (n : Writer). Chain v.door.settings n v.door.seen ys w.door.seen) k.writer y.chain));
 }
 
 -- what was sent before goes in front
@@ -110,20 +111,21 @@ ends_after WriteFault xs ys rest sent s m t few o well nr nm e = (subst (λ n. R
 ends_after Memory xs ys rest sent s m t few o well nr nm e = absurd (nm refl)
 
 -- no request was answered
-none_served : {settings : Settings} {writer : Writer} {pending rest taken sent : List ℕ} {s t : LinkState} {a : ℕ → Option (List ℕ)} {d : Logs}
-    → Moves s t taken sent → pending ++ taken ≡ rest → Serves settings writer [] pending rest sent s t a a d d
+none_served : {pending rest taken sent : List ℕ} {s t : LinkState} {a : ℕ → Option (List ℕ)} {d : DoorState}
+    → Moves s t taken sent → pending ++ taken ≡ rest → Serves [] pending rest sent (record { link = s; clock = a; door = d }) (record { link = t; clock = a; door = d })
 none_served {taken = taken} {a = a} m is = record { taken = taken; moves = m; input_is = is; moments = HandsIn-nil a; chain = refl }
 
 -- one request was answered
-one_served : {settings : Settings} {writer : Writer} {pending rest taken sent text body : List ℕ} {head : RequestHead} {outcome : Outcome} {s t : LinkState} {a b : ℕ → Option (List ℕ)} {d e : Logs}
-    → Moves s t taken sent → pending ++ taken ≡ (text ++ body) ++ rest → HeadSays text head → size_of head ≡ length body → Acts settings writer head body outcome d e → HandsIn a b (uses outcome)
-    → Serves settings writer (record { text = text; body = body; head = head; outcome = outcome } ∷ []) pending rest sent s t a b d e
-one_served {rest = rest} {taken = taken} {text = text} {body = body} {outcome = outcome} {a = a} {b = b} {e = e} m is says size acts moments = record {
+one_served : {pending rest taken sent text body : List ℕ} {head : RequestHead} {outcome : Outcome} {v w : World}
+    → Moves v.link w.link taken sent → pending ++ taken ≡ (text ++ body) ++ rest → HeadSays text head → size_of head ≡ length body
+    → Acts v.door.settings v.door.writer head body outcome v.door.seen w.door.seen → HandsIn v.clock w.clock (uses outcome)
+    → Serves (record { text = text; body = body; head = head; outcome = outcome } ∷ []) pending rest sent v w
+one_served {rest = rest} {taken = taken} {text = text} {body = body} {outcome = outcome} {v = v} {w = w} m is says size acts moments = record {
   taken = taken;
   moves = m;
   input_is = is ∙ ap (λ l. l ++ rest) (sym (append-nil (text ++ body)));
-  moments = subst (HandsIn a b) (sym (append-nil (uses outcome))) moments;
-  chain = (e, record { says = says; size = size; acts = acts }, refl);
+  moments = subst (HandsIn v.clock w.clock) (sym (append-nil (uses outcome))) moments;
+  chain = (w.door.seen, record { says = says; size = size; acts = acts }, refl);
 }
 
 -- it ended at a write or a flush that failed
@@ -135,71 +137,71 @@ no_faults : {ended : Ended} {s t : LinkState} → t.read_faults ≡ s.read_fault
 no_faults reads writes clean = record { reads = λ n. reads; writes = λ n. writes; clean = λ n. clean }
 
 -- a request was taken, answered and its reply written
-pub goes_on : {settings : Settings} {writer : Writer} {pending rest : List ℕ} {received : Received} {shown : ReplyBytes} {T E : Type 0} {r : Result T E} {s t u : LinkState} {a b : ℕ → Option (List ℕ)} {d e : Logs}
-    → Takes s t pending rest (taken.Asks received)
-    → ((body : List ℕ) (head : RequestHead) → IsHeld received body head → Answers settings writer head body a b d e shown)
-    → (w : Sends t u (text_of shown) r) → w.back ≡ [] → u.write_faults ≡ t.write_faults → IsClean u → received.line.closes ≡ false → GoesOn settings writer pending rest s u a b d e
-goes_on {s = s} {u = u} x answers w all well flushed still =
+pub goes_on : {pending rest : List ℕ} {received : Received} {shown : ReplyBytes} {T E : Type 0} {r : Result T E} {t : LinkState} {v w : World}
+    → Takes v.link t pending rest (taken.Asks received)
+    → ((body : List ℕ) (head : RequestHead) → IsHeld received body head → Answers head body v.clock w.clock v.door w.door shown)
+    → (y : Sends t w.link (text_of shown) r) → y.back ≡ [] → w.link.write_faults ≡ t.write_faults → IsClean w.link → received.line.closes ≡ false → GoesOn pending rest v w
+goes_on {v = v} {w = w} x answers y all well flushed still =
     let q = x.outcome.0 in
-    let y = answers q.body q.head q.held in
-    let sent : w.written.sent ≡ shows y.outcome = sym (append-nil w.written.sent) ∙ ap (λ l. w.written.sent ++ l) (sym all) ∙ sym w.written.whole ∙ y.shown in
-    let moves = Moves-trans x.moves w.written.moves in
+    let z = answers q.body q.head q.held in
+    let sent : y.written.sent ≡ shows z.outcome = sym (append-nil y.written.sent) ∙ ap (λ l. y.written.sent ++ l) (sym all) ∙ sym y.written.whole ∙ z.shown in
+    let moves = Moves-trans x.moves y.written.moves in
     record {
-      x = record { text = q.text; body = q.body; head = q.head; outcome = y.outcome };
-      no_fault = record { reads = w.written.input.read_faults ∙ x.outcome.1; writes = well ∙ x.output.write_faults };
+      x = record { text = q.text; body = q.body; head = q.head; outcome = z.outcome };
+      no_fault = record { reads = y.written.input.read_faults ∙ x.outcome.1; writes = well ∙ x.output.write_faults };
       clean = flushed;
       open_still = sym q.held.line.closes ∙ still;
-      serves = one_served (subst (Moves s u x.taken) sent (subst (λ l. Moves s u l w.written.sent) (append-nil x.taken) moves)) q.input_is q.says q.size y.acts y.moments;
+      serves = one_served (subst (Moves v.link w.link x.taken) sent (subst (λ l. Moves v.link w.link l y.written.sent) (append-nil x.taken) moves)) q.input_is q.says q.size z.acts z.moments;
     }
 
 -- its reply was not written whole
-pub reply_cut : {settings : Settings} {writer : Writer} {pending rest : List ℕ} {received : Received} {shown : ReplyBytes} {T E : Type 0} {r : Result T E} {s t u : LinkState} {a b : ℕ → Option (List ℕ)} {d e : Logs}
-    → Takes s t pending rest (taken.Asks received)
-    → ((body : List ℕ) (head : RequestHead) → IsHeld received body head → Answers settings writer head body a b d e shown)
-    → Sends t u (text_of shown) r → Rose t.write_faults u.write_faults → Stops settings writer pending s u a b d e WriteFault
-reply_cut {rest = rest} {s = s} {u = u} x answers w rose =
+pub reply_cut : {pending rest : List ℕ} {received : Received} {shown : ReplyBytes} {T E : Type 0} {r : Result T E} {t : LinkState} {v w : World}
+    → Takes v.link t pending rest (taken.Asks received)
+    → ((body : List ℕ) (head : RequestHead) → IsHeld received body head → Answers head body v.clock w.clock v.door w.door shown)
+    → Sends t w.link (text_of shown) r → Rose t.write_faults w.link.write_faults → Stops pending v w WriteFault
+reply_cut {rest = rest} {v = v} {w = w} x answers y rose =
     let q = x.outcome.0 in
-    let y = answers q.body q.head q.held in
-    let one : Exchange = record { text = q.text; body = q.body; head = q.head; outcome = y.outcome } in
-    let moves = Moves-trans x.moves w.written.moves in
+    let z = answers q.body q.head q.held in
+    let one : Exchange = record { text = q.text; body = q.body; head = q.head; outcome = z.outcome } in
+    let moves = Moves-trans x.moves y.written.moves in
     record {
       xs = one ∷ [];
       rest = rest;
-      sent = w.written.sent;
-      serves = one_served (subst (λ l. Moves s u l w.written.sent) (append-nil x.taken) moves) q.input_is q.says q.size y.acts y.moments;
-      ends = (subst (λ n. Rose n u.write_faults) x.output.write_faults rose, last_reply [] one w.written.sent w.back refl tt refl (sym y.shown ∙ w.written.whole));
+      sent = y.written.sent;
+      serves = one_served (subst (λ l. Moves v.link w.link l y.written.sent) (append-nil x.taken) moves) q.input_is q.says q.size z.acts z.moments;
+      ends = (subst (λ n. Rose n w.link.write_faults) x.output.write_faults rose, last_reply [] one y.written.sent y.back refl tt refl (sym z.shown ∙ y.written.whole));
       few = omega arith;
-      faults = write_fault (w.written.input.read_faults ∙ x.outcome.1);
+      faults = write_fault (y.written.input.read_faults ∙ x.outcome.1);
       not_retired = λ h. cc;
       not_memory = λ h. cc;
     }
 
 -- its reply was the last
-pub asked_last : {settings : Settings} {writer : Writer} {pending rest : List ℕ} {received : Received} {shown : ReplyBytes} {T E : Type 0} {r : Result T E} {s t u : LinkState} {a b : ℕ → Option (List ℕ)} {d e : Logs}
-    → Takes s t pending rest (taken.Asks received)
-    → ((body : List ℕ) (head : RequestHead) → IsHeld received body head → Answers settings writer head body a b d e shown)
-    → (w : Sends t u (text_of shown) r) → w.back ≡ [] → u.write_faults ≡ t.write_faults → IsClean u → received.line.closes ≡ true → Stops settings writer pending s u a b d e LastAsked
-asked_last {rest = rest} {s = s} {u = u} x answers w all well flushed closing =
+pub asked_last : {pending rest : List ℕ} {received : Received} {shown : ReplyBytes} {T E : Type 0} {r : Result T E} {t : LinkState} {v w : World}
+    → Takes v.link t pending rest (taken.Asks received)
+    → ((body : List ℕ) (head : RequestHead) → IsHeld received body head → Answers head body v.clock w.clock v.door w.door shown)
+    → (y : Sends t w.link (text_of shown) r) → y.back ≡ [] → w.link.write_faults ≡ t.write_faults → IsClean w.link → received.line.closes ≡ true → Stops pending v w LastAsked
+asked_last {rest = rest} {v = v} {w = w} x answers y all well flushed closing =
     let q = x.outcome.0 in
-    let y = answers q.body q.head q.held in
-    let one : Exchange = record { text = q.text; body = q.body; head = q.head; outcome = y.outcome } in
-    let sent : w.written.sent ≡ shows y.outcome = sym (append-nil w.written.sent) ∙ ap (λ l. w.written.sent ++ l) (sym all) ∙ sym w.written.whole ∙ y.shown in
-    let moves = Moves-trans x.moves w.written.moves in
+    let z = answers q.body q.head q.held in
+    let one : Exchange = record { text = q.text; body = q.body; head = q.head; outcome = z.outcome } in
+    let sent : y.written.sent ≡ shows z.outcome = sym (append-nil y.written.sent) ∙ ap (λ l. y.written.sent ++ l) (sym all) ∙ sym y.written.whole ∙ z.shown in
+    let moves = Moves-trans x.moves y.written.moves in
     record {
       xs = one ∷ [];
       rest = rest;
-      sent = w.written.sent;
-      serves = one_served (subst (λ l. Moves s u l w.written.sent) (append-nil x.taken) moves) q.input_is q.says q.size y.acts y.moments;
-      ends = (record { earlier = []; last = one; are = refl; open_before = tt; closing = sym q.held.line.closes ∙ closing }, sent ∙ sym (append-nil (shows y.outcome)));
+      sent = y.written.sent;
+      serves = one_served (subst (λ l. Moves v.link w.link l y.written.sent) (append-nil x.taken) moves) q.input_is q.says q.size z.acts z.moments;
+      ends = (record { earlier = []; last = one; are = refl; open_before = tt; closing = sym q.held.line.closes ∙ closing }, sent ∙ sym (append-nil (shows z.outcome)));
       few = omega arith;
-      faults = no_faults (w.written.input.read_faults ∙ x.outcome.1) (well ∙ x.output.write_faults) flushed;
+      faults = no_faults (y.written.input.read_faults ∙ x.outcome.1) (well ∙ x.output.write_faults) flushed;
       not_retired = λ h. cc;
       not_memory = λ h. cc;
     }
 
 -- the head was refused
-pub head_refused : {settings : Settings} {writer : Writer} {pending rest : List ℕ} {why : Refusal} {T E : Type 0} {r : Result T E} {s t u : LinkState} {a : ℕ → Option (List ℕ)} {d : Logs}
-    → Takes s t pending rest (taken.Refuses why) → (w : Sends t u (refusal None (rule_of why)) r) → w.back ≡ [] → u.write_faults ≡ t.write_faults → IsClean u → Stops settings writer pending s u a a d d BadHead
+pub head_refused : {pending rest : List ℕ} {why : Refusal} {T E : Type 0} {r : Result T E} {s t u : LinkState} {a : ℕ → Option (List ℕ)} {d : DoorState}
+    → Takes s t pending rest (taken.Refuses why) → (w : Sends t u (refusal None (rule_of why)) r) → w.back ≡ [] → u.write_faults ≡ t.write_faults → IsClean u → Stops pending (record { link = s; clock = a; door = d }) (record { link = u; clock = a; door = d }) BadHead
 head_refused {rest = rest} {why = why} {s = s} {u = u} x w all well flushed =
     let moves = Moves-trans x.moves w.written.moves in
     record {
@@ -215,8 +217,8 @@ head_refused {rest = rest} {why = why} {s = s} {u = u} x w all well flushed =
     }
 
 -- the refusal of a head was not written whole
-pub refusal_cut : {settings : Settings} {writer : Writer} {pending rest : List ℕ} {why : Refusal} {T E : Type 0} {r : Result T E} {s t u : LinkState} {a : ℕ → Option (List ℕ)} {d : Logs}
-    → Takes s t pending rest (taken.Refuses why) → Sends t u (refusal None (rule_of why)) r → Rose t.write_faults u.write_faults → Stops settings writer pending s u a a d d WriteFault
+pub refusal_cut : {pending rest : List ℕ} {why : Refusal} {T E : Type 0} {r : Result T E} {s t u : LinkState} {a : ℕ → Option (List ℕ)} {d : DoorState}
+    → Takes s t pending rest (taken.Refuses why) → Sends t u (refusal None (rule_of why)) r → Rose t.write_faults u.write_faults → Stops pending (record { link = s; clock = a; door = d }) (record { link = u; clock = a; door = d }) WriteFault
 refusal_cut {rest = rest} {why = why} {s = s} {u = u} x w rose =
     let moves = Moves-trans x.moves w.written.moves in
     record {
@@ -242,8 +244,8 @@ ends_of WriteFault rest s t x = absurd x
 ends_of Memory rest s t x = absurd x
 
 -- no request came
-pub taking_ended : {settings : Settings} {writer : Writer} {pending rest : List ℕ} {s t : LinkState} {a : ℕ → Option (List ℕ)} {d : Logs} (ended : Ended)
-    → Takes s t pending rest (taken.Ends ended) → IsClean s → Stops settings writer pending s t a a d d ended
+pub taking_ended : {pending rest : List ℕ} {s t : LinkState} {a : ℕ → Option (List ℕ)} {d : DoorState} (ended : Ended)
+    → Takes s t pending rest (taken.Ends ended) → IsClean s → Stops pending (record { link = s; clock = a; door = d }) (record { link = t; clock = a; door = d }) ended
 taking_ended {pending = pending} {s = s} {t = t} ended x clean =
     let e = ends_of ended (pending ++ x.taken) s t x.outcome in
     record {
@@ -267,76 +269,71 @@ keeps_on x k = record {
 }
 
 -- the connection so far
-pub record SoFar (settings : Settings) (writer : Writer) (count : ℕ) (pending : List ℕ) (s t : LinkState) (a b : ℕ → Option (List ℕ)) (d e : DoorState) : Type 0 where
+pub record SoFar (count : ℕ) (pending : List ℕ) (old new : World) : Type 0 where
   pub xs : List Exchange
-  pub serves : Serves settings writer xs [] pending (replies xs) s t a b d.seen e.seen
+  pub serves : Serves xs [] pending (replies xs) old new
   pub counted : length xs ≡ count
   pub open_still : NoneCloses xs
-  pub no_fault : NoFault s t
-  pub clean : IsClean t
-  pub settings_is : e.settings ≡ settings
-  pub writer_is : e.writer ≡ writer
-  pub keeps : KeepsDoor count d e
+  pub no_fault : NoFault old.link new.link
+  pub clean : IsClean new.link
+  pub keeps : KeepsDoor count old.door new.door
 
-pub begun : (settings : Settings) (s : LinkState) (a : ℕ → Option (List ℕ)) (d : DoorState) → IsClean s → d.settings ≡ settings → SoFar settings d.writer 0 [] s s a a d d
-begun settings s a d clean same = record {
+pub begun : (v : World) → IsClean v.link → SoFar 0 [] v v
+begun v clean = record {
   xs = [];
-  serves = nothing_served settings d.writer s a d.seen;
+  serves = nothing_served v;
   counted = refl;
   open_still = tt;
-  no_fault = NoFault-refl s;
+  no_fault = NoFault-refl v.link;
   clean = clean;
-  settings_is = same;
-  writer_is = refl;
   keeps = record { settings = refl; writer = refl; faults = omega arith; calls = omega arith };
 }
 
-pub one_on : {settings : Settings} {writer : Writer} {count : ℕ} {pending more : List ℕ} {s t u : LinkState} {a b c : ℕ → Option (List ℕ)} {d e f : DoorState}
-    → SoFar settings writer count pending s t a b d e → GoesOn settings e.writer pending more t u b c e.seen f.seen → KeepsDoor 1 e f
-    → SoFar settings writer (count + 1) more s u a c d f
-one_on {settings = settings} {writer = writer} {pending = pending} {more = more} {s = s} {t = t} {u = u} {a = a} {b = b} {c = c} {d = d} {e = e} {f = f} x y k =
-    let step = subst (λ n. Serves settings n (y.x ∷ []) pending more (reply_of y.x) t u b c e.seen f.seen) x.writer_is y.serves in
-    record {
-      xs = x.xs ++ y.x ∷ [];
-      serves = subst (λ l. Serves settings writer (x.xs ++ y.x ∷ []) [] more l s u a c d.seen f.seen)
-          (replies_after x.xs (y.x ∷ []) (reply_of y.x) (sym (append-nil (reply_of y.x)))) (Serves-trans x.serves step);
-      no_fault = NoFault-trans x.no_fault y.no_fault;
-      clean = y.clean;
-      counted = omega (arith, length-append x.xs (y.x ∷ []), x.counted);
-      open_still = none_close x.xs (y.x ∷ []) x.open_still (y.open_still, tt);
-      settings_is = k.settings ∙ x.settings_is;
-      writer_is = k.writer ∙ x.writer_is;
-      keeps = keeps_on x.keeps k;
-    }
+pub one_on : {count : ℕ} {pending more : List ℕ} {u v w : World} → SoFar count pending u v → GoesOn pending more v w → KeepsDoor 1 v.door w.door → SoFar (count + 1) more u w
+one_on {more = more} {u = u} {w = w} x y k = record {
+  xs = x.xs ++ y.x ∷ [];
+  serves = subst (λ l. Serves (x.xs ++ y.x ∷ []) [] more l u w) (replies_after x.xs (y.x ∷ []) (reply_of y.x) (sym (append-nil (reply_of y.x)))) (Serves-trans x.keeps x.serves y.serves);
+  no_fault = NoFault-trans x.no_fault y.no_fault;
+  clean = y.clean;
+  counted = omega (arith, length-append x.xs (y.x ∷ []), x.counted);
+  open_still = none_close x.xs (y.x ∷ []) x.open_still (y.open_still, tt);
+  keeps = keeps_on x.keeps k;
+}
 
-pub ended_so : {settings : Settings} {writer : Writer} {count : ℕ} {pending : List ℕ} {s t u : LinkState} {a b c : ℕ → Option (List ℕ)} {d e : DoorState} {new : Logs} {ended : Ended}
-    → SoFar settings writer count pending s t a b d e → count < 65536 → Stops settings e.writer pending t u b c e.seen new ended → IsAnswered settings writer s u a c d.seen new ended
-ended_so {settings = settings} {writer = writer} {pending = pending} {s = s} {t = t} {u = u} {b = b} {c = c} {d = d} {e = e} {new = new} {ended = ended} x early y =
-    let step = subst (λ n. Serves settings n y.xs pending y.rest y.sent t u b c e.seen new) x.writer_is y.serves in
-    let all = Serves-trans x.serves step in
+pub ended_so : {count : ℕ} {pending : List ℕ} {u v w : World} {ended : Ended} → SoFar count pending u v → count < 65536 → Stops pending v w ended → IsAnswered u w ended
+ended_so {u = u} {v = v} {w = w} {ended = ended} x early y =
+    let all = Serves-trans x.keeps x.serves y.serves in
     record {
       xs = x.xs ++ y.xs;
       rest = y.rest;
       sent = replies x.xs ++ y.sent;
       serves = all;
-      ends = ends_after ended x.xs y.xs y.rest y.sent s t u (omega (arith, x.counted)) x.open_still x.no_fault y.not_retired y.not_memory y.ends;
+      ends = ends_after ended x.xs y.xs y.rest y.sent u.link v.link w.link (omega (arith, x.counted)) x.open_still x.no_fault y.not_retired y.not_memory y.ends;
       few = omega (arith, length-append x.xs y.xs, x.counted, y.few);
-      once = chain_once settings writer d.seen (x.xs ++ y.xs) new all.chain;
+      once = chain_once u.door.settings u.door.writer u.door.seen (x.xs ++ y.xs) w.door.seen all.chain;
       faults = record { reads = λ n. y.faults.reads n ∙ x.no_fault.reads; writes = λ n. y.faults.writes n ∙ x.no_fault.writes; clean = y.faults.clean };
     }
 
-pub retired : {settings : Settings} {writer : Writer} {count : ℕ} {pending : List ℕ} {s t : LinkState} {a b : ℕ → Option (List ℕ)} {d e : DoorState}
-    → SoFar settings writer count pending s t a b d e → count ≡ 65536 → IsAnswered settings writer s t a b d.seen e.seen Retired
-retired {settings = settings} {writer = writer} {pending = pending} {d = d} {e = e} x full = record {
+pub retired : {count : ℕ} {pending : List ℕ} {v w : World} → SoFar count pending v w → count ≡ 65536 → IsAnswered v w Retired
+retired {pending = pending} {v = v} {w = w} x full = record {
   xs = x.xs;
   rest = pending;
   sent = replies x.xs;
   serves = x.serves;
   ends = (x.counted ∙ full, refl, x.open_still);
   few = omega (arith, x.counted, full);
-  once = chain_once settings writer d.seen x.xs e.seen x.serves.chain;
+  once = chain_once v.door.settings v.door.writer v.door.seen x.xs w.door.seen x.serves.chain;
   faults = no_faults x.no_fault.reads x.no_fault.writes x.clean;
 }
 
-pub no_memory : {settings : Settings} {writer : Writer} {s : LinkState} {a : ℕ → Option (List ℕ)} {old : Logs} → IsClean s → IsAnswered settings writer s s a a old old Memory
-no_memory {settings = settings} {writer = writer} {s = s} {a = a} {old = old} clean = record { xs = []; rest = []; sent = []; serves = nothing_served settings writer s a old; ends = (refl, refl, refl); few = omega arith; once = chain_once settings writer old [] old refl; faults = no_faults refl refl clean }
+pub no_memory : {v : World} → IsClean v.link → IsAnswered v v Memory
+no_memory {v = v} clean = record {
+  xs = [];
+  rest = [];
+  sent = [];
+  serves = nothing_served v;
+  ends = (refl, refl, refl);
+  few = omega arith;
+  once = chain_once v.door.settings v.door.writer v.door.seen [] v.door.seen refl;
+  faults = no_faults refl refl clean;
+}

@@ -9,10 +9,9 @@ use Rattle.sw_base.specs.Link.{LinkState, IsClean, Moves}
 use Rattle.link_reader.specs.Heads.{IsHeadEnd, IsOpen, IsTooLong}
 use Rattle.request_head.specs.Heads.{IsHead, IsNoHead}
 use Rattle.request_head.specs.HeadFields.{HeadRefusal, bad, length_required, too_large, head_refusal, size_of}
-use Rattle.swarm_model.specs.declared.pool_settings.Settings.{Settings}
 use Rattle.swarm_model.specs.declared.rule.Rule.{Rule}
 use Rattle.swarm_model.specs.declared.rule.Rule.TheVariants as rule
-use Rattle.swarm_history.specs.Doors.{Logs, DoorState, Writer}
+use Rattle.swarm_history.specs.Doors.{DoorState}
 use Rattle.swarm_http.specs.declared.ended.Ended.{Ended}
 use Rattle.swarm_http.specs.declared.ended.Ended.TheVariants.{Closed, LastAsked, CutShort, BadHead, Retired, ReadFault, WriteFault, Memory}
 use Rattle.swarm_http.specs.Replies.{refusal}
@@ -22,16 +21,22 @@ use Rattle.swarm_http.specs.Exchange.{Exchange, request_bytes, reply_of, moments
 abbrev pub replies : List Exchange → List ℕ
 replies xs = flat_map reply_of xs
 
+-- what a connection works on: its link, the moments that its clock is about to hand in, and its door
+pub record World : Type 0 where
+  pub link : LinkState
+  pub clock : ℕ → Option (List ℕ)
+  pub door : DoorState
+
 -- from the bytes that were pending on, these requests were read and answered, this rest is pending,
 -- and these bytes were written
-pub record Serves (settings : Settings) (writer : Writer) (xs : List Exchange) (pending rest sent : List ℕ) (s t : LinkState) (a b : ℕ → Option (List ℕ)) (old new : Logs) : Type 0 where
+pub record Serves (xs : List Exchange) (pending rest sent : List ℕ) (old new : World) : Type 0 where
   pub taken : List ℕ
-  pub moves : Moves s t taken sent
+  pub moves : Moves old.link new.link taken sent
   pub input_is : pending ++ taken ≡ flat_map request_bytes xs ++ rest
-  pub moments : HandsIn a b (flat_map moments_of xs)
-  pub chain : Chain settings writer old xs new
+  pub moments : HandsIn old.clock new.clock (flat_map moments_of xs)
+  pub chain : Chain old.door.settings old.door.writer old.door.seen xs new.door.seen
 
--- an input that ends here is cut short: inside a head, or inside the body of one that isn't refused
+-- an input that ends here is cut short: it ends inside a head, or inside the body of a head that isn't refused
 pub data IsPart (rest : List ℕ) : Type 0 where
   in_head : 0 < length rest → IsOpen rest → IsPart rest
   in_body : (text front : List ℕ) (head : RequestHead) → HeadSays text head → rest ≡ text ++ front → length front < size_of head → IsPart rest
@@ -42,7 +47,7 @@ head_rule bad = rule.BadHead
 head_rule length_required = rule.LengthRequired
 head_rule (too_large limit) = rule.TooLarge limit
 
--- why the head at the front is refused: it is too long, it is none, or it says so
+-- the rule for which the head at the front is refused: it is too long, it is no head, or what it says is refused
 pub data IsRefused (rest : List ℕ) (why : Rule) : Type 0 where
   too_long : why ≡ rule.BadHead → IsTooLong rest → IsRefused rest why
   no_head : (n : ℕ) → why ≡ rule.BadHead → IsHeadEnd rest n → IsNoHead (take n rest) → IsRefused rest why
@@ -93,15 +98,15 @@ pub record EndsAtFault (ended : Ended) (s t : LinkState) : Type 0 where
 -- The whole connection, with nothing pending at its begin: there are requests and a rest such that
 -- all that was read, asked of the clock and the door, and written is theirs, in order, and their
 -- entries stand in the logs once.
-pub record IsAnswered (settings : Settings) (writer : Writer) (s t : LinkState) (a b : ℕ → Option (List ℕ)) (old new : Logs) (ended : Ended) : Type 0 where
+pub record IsAnswered (old new : World) (ended : Ended) : Type 0 where
   pub xs : List Exchange
   pub rest : List ℕ
   pub sent : List ℕ
-  pub serves : Serves settings writer xs [] rest sent s t a b old new
-  pub ends : EndsAs 65536 ended xs rest sent s t
+  pub serves : Serves xs [] rest sent old new
+  pub ends : EndsAs 65536 ended xs rest sent old.link new.link
   pub few : length xs ≤ 65536
-  pub once : AreOnce writer old xs new
-  pub faults : EndsAtFault ended s t
+  pub once : AreOnce old.door.writer old.door.seen xs new.door.seen
+  pub faults : EndsAtFault ended old.link new.link
 
 -- what a connection keeps of its door, on which it made so many calls at most
 pub record KeepsDoor (most : ℕ) (old new : DoorState) : Type 0 where

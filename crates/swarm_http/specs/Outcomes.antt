@@ -28,8 +28,8 @@ called_place call = call.asks.asked.place
 abbrev pub entries_at : ℕ → DoorCall → List Entry
 entries_at place call = if called_place call == place then added call.growth else []
 
--- the request was refused before any call; a call answered; it stopped; there was no memory before
--- any call; there was none for the reply of a call that answered
+-- the request was refused before any call; a call answered; a call stopped; there was no memory
+-- before any call; a call answered, and there was no memory for its reply
 pub data Outcome : Type 0 where
   rejected : Rule → Outcome
   answered : DoorCall → Answered → Outcome
@@ -42,7 +42,7 @@ abbrev pub stop_rule : CallFault → Rule
 stop_rule stop.Memory = rule.WantOfMemory
 stop_rule stop.LogFull = rule.LogFull
 
--- the bytes of the reply; a front stands there exactly where a call answered
+-- the bytes of the reply; X-Swarming-Front stands there exactly where a call answered
 abbrev pub shows : Outcome → List ℕ
 shows (rejected why) = refusal None why
 shows (answered call result) = shown (called_place call) (Some result.front) result.reply result.pieces
@@ -67,14 +67,14 @@ abbrev pub call_of : Writer → RequestHead → DoorCall → Call
 call_of writer head call =
     record { pass = writer.numbers (called_place call); caller = call.asks.who; moment = call.moment; after = front_of (after_of head); request = call.asks.asked.request }
 
--- the request means this, its pool was called for it, and every other pool's log stays
+-- the head and the body mean this request, its pool was called for it, and every other pool's log is as before
 pub record IsCalled (settings : Settings) (writer : Writer) (head : RequestHead) (body : List ℕ) (call : DoorCall) (result : Result Answered CallFault) (old new : Logs) : Type 0 where
   pub means : request_of settings head body ≡ Ok call.asks
   pub done : IsSomeAnd (slice_get settings.pools (called_place call))
       (λ pool. IsPoolCall pool writer.alone (call_of writer head call) (old (called_place call)) (new (called_place call)) call.growth result)
   pub elsewhere : Elsewhere (called_place call) old new
 
--- what a request with this head and body did to the logs
+-- what a request with this head and body does to the logs
 abbrev pub Acts : Settings → Writer → RequestHead → List ℕ → Outcome → Logs → Logs → Type 0
 Acts settings writer head body (rejected why) old new = (request_of settings head body ≡ Err why) × (new ≡ old)
 Acts settings writer head body (answered call result) old new = IsCalled settings writer head body call (Ok result) old new

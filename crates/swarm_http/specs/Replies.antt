@@ -10,7 +10,7 @@ use Rattle.reply_bodies.specs.Bodies.{body_of, status_of}
 abbrev pub phrase_of : ℕ → List ℕ
 phrase_of status = unwrap_or (reason_phrase status) []
 
--- the field that tells the length of the log, where one is told, and what follows
+-- X-Swarming-Front, where the length of the log is shown, and what follows
 abbrev pub front_line : Option ℕ → List ℕ → List ℕ
 front_line None rest = rest
 front_line (Some front) rest = codes "X-Swarming-Front: " ++ (decimal front ++ (codes "\r\n" ++ rest))

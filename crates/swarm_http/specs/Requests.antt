@@ -41,17 +41,17 @@ abbrev pub called_by : Option (List ℕ) → Result (List ℕ) Rule
 called_by None = Err rule.NoCaller
 called_by (Some who) = Ok who
 
--- the refusal of a front that is no number
+-- the refusal of a malformed X-Swarming-After
 abbrev pub broken_front : Rule
 broken_front = rule.BadField (codes "X-Swarming-After") Grammar
 
--- a front that is no number is told in place of what the pools say
+-- a malformed X-Swarming-After is reported before no_pool, no_task and not_built
 abbrev pub unless_front_broken : After → Result Asked Rule → Result Asked Rule
 unless_front_broken Absent asked = asked
 unless_front_broken (Front front) asked = asked
 unless_front_broken Broken asked = Err broken_front
 
--- a fault of the body comes before a broken front, and that before what the pools say
+-- a fault of the body is reported before a malformed X-Swarming-After
 abbrev pub with_front : After → Result Asked WireFault → Result Asked Rule
 with_front after (Ok asked) = unless_front_broken after (Ok asked)
 with_front after (Err fault.Memory) = Err rule.WantOfMemory
@@ -61,7 +61,7 @@ with_front after (Err fault.NoPool) = unless_front_broken after (Err rule.NoPool
 with_front after (Err fault.NoTask) = unless_front_broken after (Err rule.NoTask)
 with_front after (Err (fault.NotBuilt what)) = unless_front_broken after (Err (rule.NotBuilt what))
 
--- the front that the caller has seen
+-- the length of the log that the caller has seen
 abbrev pub front_of : After → Option ℕ
 front_of Absent = None
 front_of (Front front) = Some front
@@ -75,7 +75,7 @@ pub record CallerRequest : Type 0 where
 abbrev pub caller_request_of : List ℕ → Asked → Result CallerRequest Rule
 caller_request_of who asked = Ok (record { who = who; asked = asked })
 
--- what a request means: its route, its method, its caller, its body and its front are looked at in this order
+-- the request that a head and a body mean, or the first refusal of route, method, caller, body and X-Swarming-After, in this order
 abbrev pub request_of : Settings → RequestHead → List ℕ → Result CallerRequest Rule
 request_of settings head body =
     then (routed (route_of head.target) (method_of head)) (λ route.

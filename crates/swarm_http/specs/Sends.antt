@@ -12,7 +12,7 @@ use Rattle.swarm_http.specs.declared.reply.ReplyBytes.TheVariants as shown
 use Rattle.swarm_http.specs.Requests.{broken_front}
 use Rattle.swarm_http.specs.Replies.{refusal}
 
--- so much of the text was written, and this is left
+-- a front of the text was written, and `back` is left of it
 pub record Written (s t : LinkState) (text back : List ℕ) : Type 0 where
   pub sent : List ℕ
   pub moves : Moves s t [] sent

@@ -1,4 +1,4 @@
--- What taking the next request does.
+-- What is read for the next request.
 use Rattle.std.specs.Prelude.{◌≡◌, ◌⊎◌, ℕ, List, [], ◌++◌, length, Option, Some, None, IfSome, ⊤}
 use Rattle.std.specs.Io.KnownBytes.{IsAtEnd}
 use Rattle.sw_base.specs.Faults.{Rose}
@@ -33,7 +33,7 @@ StopsAs Retired rest s t = ⊥
 StopsAs WriteFault rest s t = ⊥
 StopsAs Memory rest s t = ⊥
 
--- the caller that is held, as far as there was memory for it
+-- the caller's name that is held, where there was memory for it
 abbrev pub IsCaller : Caller → Option (List ℕ) → Type 0
 IsCaller Unnamed who = who ≡ None
 IsCaller (Named text) who = who ≡ Some text
@@ -51,12 +51,12 @@ pub record IsRequestLine (line : RequestLine) (head : RequestHead) : Type 0 wher
 abbrev pub IsLimit : ℕ → Type 0
 IsLimit limit = (limit ≡ 65536) ⊎ (limit ≡ 16777216)
 
--- what is held of a request is what its head says, and its body
+-- what is held of a request is what its head says, and its body where there was memory for it
 pub record IsHeld (received : Received) (body : List ℕ) (head : RequestHead) : Type 0 where
   pub line : IsRequestLine received.line head
   pub body_is : IfSome received.body (λ v. v.items ≡ body)
 
--- the input is one request and a rest
+-- the input is one request, and what follows it
 pub record IsReceived (received : Received) (input rest : List ℕ) : Type 0 where
   pub text : List ℕ
   pub body : List ℕ
@@ -66,13 +66,13 @@ pub record IsReceived (received : Received) (input rest : List ℕ) : Type 0 whe
   pub input_is : input ≡ (text ++ body) ++ rest
   pub held : IsHeld received body head
 
--- what came of it, with `new` pending after it
+-- a request, a refused head, or an end, with `new` pending after it
 abbrev pub IsIncoming : LinkState → LinkState → List ℕ → List ℕ → Incoming → Type 0
 IsIncoming s t input new (taken.Asks received) = IsReceived received input new × ReadsWell s t
 IsIncoming s t input new (taken.Refuses why) = IsRefused new (rule_of why) × (input ≡ new) × ReadsWell s t
 IsIncoming s t input new (taken.Ends ended) = StopsAs ended input s t
 
--- what was pending and what was taken from the link is the input
+-- the input is what was pending, and then what was taken from the link; nothing was written
 pub record Takes (s t : LinkState) (old new : List ℕ) (result : Incoming) : Type 0 where
   pub taken : List ℕ
   pub moves : Moves s t taken []

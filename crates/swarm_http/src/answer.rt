@@ -65,7 +65,7 @@ fn call_door<D: Door, C: Clock>(
     requires fits { IsSomeAnd (slice_get (D.state door.old).settings.pools asked.now.place) (λ pool. IsTrue (fits pool asked.now.request)) }
     requires calls { (D.state door.old).calls < 2 ^ 40 }
     ensures answers { (head : RequestHead) (body : List ℕ) → after ≡ after_of head → request_of (D.state door.old).settings head body ≡ caller_request_of who.now asked.now →
-        Answers (D.state door.old).settings (D.state door.old).writer head body (C.ahead clock.old) (C.ahead clock.new) (D.state door.old).seen (D.state door.new).seen result }
+        Answers head body (C.ahead clock.old) (C.ahead clock.new) (D.state door.old) (D.state door.new) result }
     ensures door { KeepsDoor 1 (D.state door.old) (D.state door.new) }
 {
     let moment = clock.now();
@@ -91,7 +91,7 @@ fn call_door<D: Door, C: Clock>(
     }
 }
 
-// A front that is no number is told in place of what the pools say.
+// A malformed X-Swarming-After is reported before no_pool, no_task and not_built.
 fn unless_front_broken(after: After, why: Refusal) -> Refusal
     ensures { unless_front_broken after (Err (rule_of why)) ≡ Err (rule_of result) }
 {
@@ -164,7 +164,7 @@ pub fn answer_request<D: Door, C: Clock>(
     requires open { AreOpen settings.now }
     requires calls { (D.state door.old).calls < 2 ^ 40 }
     ensures answers { (body : List ℕ) (head : RequestHead) → IsHeld received body head →
-        Answers settings.now (D.state door.old).writer head body (C.ahead clock.old) (C.ahead clock.new) (D.state door.old).seen (D.state door.new).seen result }
+        Answers head body (C.ahead clock.old) (C.ahead clock.new) (D.state door.old) (D.state door.new) result }
     ensures door { KeepsDoor 1 (D.state door.old) (D.state door.new) }
 {
     let Received { line, body } = received;

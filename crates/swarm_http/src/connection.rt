@@ -38,7 +38,9 @@ fn serve_one<D: Door, L: Link, C: Clock>(
     requires open { AreOpen settings.now }
     requires calls { (D.state door.old).calls < 2 ^ 40 }
     requires clean { IsClean (L.state link.old) }
-    ensures step { IsStep settings.now (D.state door.old).writer pending.old pending.new (L.state link.old) (L.state link.new) (C.ahead clock.old) (C.ahead clock.new) (D.state door.old).seen (D.state door.new).seen result }
+    ensures step { IsStep pending.old pending.new
+        (record { link = L.state link.old; clock = C.ahead clock.old; door = D.state door.old })
+        (record { link = L.state link.new; clock = C.ahead clock.new; door = D.state door.new }) result }
     ensures door { KeepsDoor 1 (D.state door.old) (D.state door.new) }
 {
     match take_request(alloc, pending, link) {
@@ -71,7 +73,9 @@ pub fn session<D: Door, L: Link, C: Clock>(
     requires open { AreOpen settings.now }
     requires calls { (D.state door.old).calls + 65536 ≤ 2 ^ 40 }
     requires clean { IsClean (L.state link.old) }
-    ensures answered { IsAnswered settings.now (D.state door.old).writer (L.state link.old) (L.state link.new) (C.ahead clock.old) (C.ahead clock.new) (D.state door.old).seen (D.state door.new).seen result }
+    ensures answered { IsAnswered
+        (record { link = L.state link.old; clock = C.ahead clock.old; door = D.state door.old })
+        (record { link = L.state link.new; clock = C.ahead clock.new; door = D.state door.new }) result }
     ensures door { KeepsDoor 65536 (D.state door.old) (D.state door.new) }
 {
     let Ok(mut pending) = Pending::new(alloc) else {

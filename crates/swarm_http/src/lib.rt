@@ -2,12 +2,12 @@
 //! door, and their replies written, one after the other.
 //!
 //! [`session`] is the whole of it. Its contract, `IsAnswered` of `specs/Answered.antt`, is a relation
-//! between what it finds and what it leaves: there is a list of exchanges, each a request as it
-//! stood on the link with its outcome, such that the bytes taken from the link are those requests
-//! one after the other and a rest, the bytes written are their replies, the moments that the clock
-//! handed in are theirs, and the logs of the pools grew by what each of them did. How the
-//! connection ended then says what the rest is. The bytes of a reply are `shown` of
-//! `specs/Shown.antt`.
+//! between what it finds and what it leaves of its link, its clock and its door (`World`): there is
+//! a list of exchanges, each a request as it stood on the link with its outcome, such that the bytes
+//! taken from the link are those requests one after the other and a rest, the bytes written are
+//! their replies, the moments that the clock handed in are theirs, and the logs of the pools grew
+//! by what each of them did. How the connection ended then says what the rest is. The bytes of a
+//! reply are `shown` of `specs/Replies.antt`.
 //!
 //! The crate passes on the link and the clock of `sw_base` and the door of `swarm_history`, which
 //! a caller of [`session`] needs.

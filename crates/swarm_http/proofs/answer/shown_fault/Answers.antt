@@ -2,30 +2,30 @@ use Rattle.std.proofs.Common.{refl, ap, sym, ◌∙◌, Err}
 use Rattle.swarm_model.specs.declared.rule.Rule.TheVariants as rule
 use Rattle.swarm_http.specs.Requests.{unless_front_broken, with_front}
 use Rattle.swarm_http.specs.Sends.{rule_of}
-use Rattle.swarm_http.specs.Steps.{told}
+use Rattle.swarm_http.specs.Steps.{by_rule}
 use Rattle.swarm_http.proofs.answer.shown_fault.Goals as goal
 
 pub returns-in-BadJson : goal.returns-in-BadJson
 returns-in-BadJson c = λ asked is.
-    told rule.BadJson (ap (with_front c.args.after) (is (λ e. cc)) ∙ ap (λ f. with_front c.args.after (Err f)) c.in-BadJson.is) refl
+    by_rule rule.BadJson (ap (with_front c.args.after) (is (λ e. cc)) ∙ ap (λ f. with_front c.args.after (Err f)) c.in-BadJson.is) refl
 
 pub returns-in-Ok : goal.returns-in-Ok
 returns-in-Ok c = λ asked is.
-    told (rule.BadField c.in-BadField.field c.in-BadField.rule)
+    by_rule (rule.BadField c.in-BadField.field c.in-BadField.rule)
     (ap (with_front c.args.after) (is (λ e. cc)) ∙ ap (λ f. with_front c.args.after (Err f)) c.in-BadField.is) c.in-Ok.ensures
 
 pub returns-in-NoPool : goal.returns-in-NoPool
 returns-in-NoPool c = λ asked is.
-    told (rule_of c.unless_front_broken.result)
+    by_rule (rule_of c.unless_front_broken.result)
     (ap (with_front c.args.after) (is (λ e. cc)) ∙ ap (λ f. with_front c.args.after (Err f)) c.in-NoPool.is ∙ c.unless_front_broken.ensures) refl
 
 pub returns-in-NoTask : goal.returns-in-NoTask
 returns-in-NoTask c = λ asked is.
-    told (rule_of c.unless_front_broken-in-NoTask.result)
+    by_rule (rule_of c.unless_front_broken-in-NoTask.result)
     (ap (with_front c.args.after) (is (λ e. cc)) ∙ ap (λ f. with_front c.args.after (Err f)) c.in-NoTask.is ∙ c.unless_front_broken-in-NoTask.ensures) refl
 
 pub returns-in-NotBuilt : goal.returns-in-NotBuilt
 returns-in-NotBuilt c = λ asked is.
-    told (rule_of c.unless_front_broken-in-NotBuilt.result)
+    by_rule (rule_of c.unless_front_broken-in-NotBuilt.result)
     (ap (with_front c.args.after) (is (λ e. cc)) ∙ ap (λ f. with_front c.args.after (Err f)) c.in-NotBuilt.is
     ∙ ap (λ r. unless_front_broken c.args.after (Err r)) (sym c.not_built.ensures) ∙ c.unless_front_broken-in-NotBuilt.ensures) refl

@@ -1,13 +1,12 @@
-use Rattle.std.proofs.Common.{arith, subst, sym}
+use Rattle.std.proofs.Common.{ℕ, List, arith, subst, sym}
+use Rattle.swarm_http.specs.Answered.{World}
 use Rattle.swarm_http.proofs.Serving.{SoFar, begun, one_on, ended_so, retired}
 use Rattle.swarm_http.proofs.connection.session.Goals as goal
 
 pub requests-init : goal.requests-init
 requests-init g c =
-    let s = g.L.Link.state c.args.link.now in
-    let a = g.C.Clock.ahead c.args.clock.now in
-    let d = g.D.Door.state c.args.door.now in
-    subst (λ p. SoFar c.args.settings.now d.writer 0 p s s a a d d) (sym c.in-Ok.ensures) (begun c.args.settings.now s a d c.requires.clean c.requires.settings)
+    let v : World = record { link = g.L.Link.state c.args.link.now; clock = g.C.Clock.ahead c.args.clock.now; door = g.D.Door.state c.args.door.now } in
+    subst (λ (p : List ℕ). SoFar 0 p v v) (sym c.in-Ok.ensures) (begun v c.requires.clean)
 
 pub requests-preserved : goal.requests-preserved
 requests-preserved g c = one_on c.requests.invariant c.in-Next.ensures.step c.serve_one.ensures.door
