@@ -298,11 +298,14 @@ class Builder:
             crate.process = self.spawn(self.kit.build(crate, jobs), crate, is_first)
 
     def share(self, is_first, others):
-        """How many processes a crate gets beside so many others that run or wait."""
-        found = self.processors // (others + 1)
-        if is_first and others > 1:
-            found += 1
-        return max(1, min(MOST_JOBS, found))
+        """How many processes a crate gets beside so many others that run or wait: the first all of
+        them where it is alone, half beside one other and all but one beside more; any other the rest."""
+        most = min(MOST_JOBS, self.processors)
+        if not others:
+            return most
+        if others == 1:
+            return max(1, most // 2)
+        return max(1, most - 1) if is_first else 1
 
     def finish(self, crate):
         status = crate.status
