@@ -13,9 +13,9 @@ was built stays in crates/swarm/out/rlib, which rt leaves alone, with a sum of a
 from; a library is taken from there as long as that sum is the same. A log for each crate is in
 crates/swarm/out/logs.
 
-The processors are shared out among the crates that are ready: one that is ready alone gets them all,
-and of more each gets its share, that with the longest chain above it first and at a higher priority.
-A crate is proved with less work in all by one process than by several, so no more run than needed.
+The processors are shared out among the crates that are ready: one alone gets them all, of two each
+gets half, and of more the one with the longest chain above it gets all but one and each other one
+process, at a lower priority. One process proves a crate with less work in all than several do.
 """
 import fcntl
 import hashlib
