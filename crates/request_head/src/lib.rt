@@ -1,10 +1,10 @@
 //! What the head of a request says.
 //!
-//! [`judge`] takes the bytes through the first CR LF CR LF and gives one of four answers, each
+//! [`check_head`] takes the bytes through the first CR LF CR LF and gives one of four answers, each
 //! exactly where it is due: `Bad`, `LengthRequired`, `TooLarge`, or `Good` with all that a served
 //! request's head may say. A head is what `httparse` reads by the grammar of RFC 9112, with at most
 //! 64 fields; it also takes a bare LF as the end of a line, and empty lines before the first.
-//! `specs/Says` has each part of an answer as a function of that head: its refusal, method, body's
+//! `specs/HeadFields` has each part of an answer as a function of that head: its refusal, method, body's
 //! size, caller and the others. Names of fields are the same in any case of letters; `Expect` and
 //! fields of other names are ignored.
 #![tactic(auto)]

@@ -4,7 +4,8 @@ ghost use Rattle.std.specs.Option.{option_map};
 ghost use Rattle.swarm_model.specs.Effects.{end_at, new_row, expired_slice, end_state, lost_run, started_run, reported, closed, ended_run};
 
 use crate::{Change, Row};
-use dimensions::{ReservedVec, Text};
+use dimensions::Text;
+use reserved_vec::ReservedVec;
 use std::mem;
 use swarm_model::{Attempt, Chunk, Last, Outcome, TaskRow, TaskState};
 use task_props::NewTask;

@@ -2,6 +2,7 @@
 use Rattle.std.specs.Prelude.{ℕ, ℤ, true, false, [], ◌∷◌, codes}
 use Rattle.task_props.specs.declared.properties.Properties.{Properties}
 use Rattle.task_props.specs.declared.new_task.NewTask.{NewTask}
+use Rattle.task_props.specs.Examples.{small}
 use Rattle.swarm_model.specs.declared.pool_settings.PoolSettings.{PoolSettings}
 use Rattle.swarm_model.specs.declared.attempt.Last.{Last}
 
@@ -22,19 +23,7 @@ settings =
     }
 
 abbrev pub properties : Properties
-properties =
-    record {
-      command = codes "true" ∷ [];
-      env = [];
-      dimensions = (codes "pool", codes "default") ∷ [];
-      caches = [];
-      inputs = [];
-      outputs = [];
-      execution_timeout_secs = 0;
-      io_timeout_secs = 0;
-      grace_period_secs = 30;
-      idempotent = false;
-    }
+properties = small
 
 -- the command `true` on any bot of the pool, within so many seconds
 abbrev pub small_task : ℕ → NewTask

@@ -1,4 +1,5 @@
-use dimensions::{ReservedVec, Seq, Text, TryCopy};
+use dimensions::{Seq, Text, TryCopy};
+use reserved_vec::ReservedVec;
 use std::alloc::{AllocError, Global};
 use task_props::{Digest, File};
 

@@ -7,7 +7,7 @@ ghost use Rattle.row_changes.specs.Parts.{task_parts};
 ghost use Rattle.swarm_plain.specs.Inside.{state_of, IsInOrder, HasRoom, Becomes, with_claim, with_new, with_report};
 
 use crate::rows::Rows;
-use dimensions::ReservedVec;
+use reserved_vec::ReservedVec;
 use row_changes::{
     Cancel, ExpireSlice, Finish, LoseRun, MarkKill, StartRun, TaskParts, change_bots, change_row,
     new_row, row_of, split,

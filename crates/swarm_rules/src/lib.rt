@@ -1,9 +1,10 @@
 //! The table of replies, decided once.
 //!
-//! [`tell`] gives the reply to a request and the entry that it adds, as `tell` of `swarm_model`'s
-//! `Answers` defines them, over any rows that meet the contract of [`LookUps`]. A machine
-//! implements the look-ups, each of which is a scan of the rows by its contract, and repeats
-//! neither the table nor its proof. The crate stands on `swarm_model` and `swarm_policy`.
+//! [`decide`] gives the reply to a request and the entry that it adds, as `decide` of
+//! `swarm_model`'s `Answers` defines them, over any rows that meet the contract of
+//! [`PoolQueries`]. A machine implements the queries, each of which is a scan of the rows by its
+//! contract, and repeats neither the table nor its proof. The crate stands on `swarm_model`,
+//! `swarm_policy` and `row_changes`.
 #![tactic(auto)]
 
 mod admitting;

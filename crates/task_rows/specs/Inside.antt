@@ -1,6 +1,6 @@
 -- What the rows keep, and what holds of it.
 use Rattle.std.specs.Prelude.{◌≡◌, ℕ, ◌<◌, List, length, Option, IfSome, ⊤, vec_capacity}
-use Rattle.dimensions.specs.Room.{Takes}
+use Rattle.reserved_vec.specs.Room.{Takes}
 use Rattle.swarm_model.specs.declared.task_row.TaskRow.{TaskRow}
 use Rattle.swarm_model.specs.declared.attempt.Attempt.{Attempt}
 use Rattle.swarm_model.specs.declared.attempt.Chunk.{Chunk}

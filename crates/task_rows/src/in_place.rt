@@ -8,7 +8,7 @@ ghost use Rattle.task_rows.specs.Acting.{run_of, chunk_in, FitsBehind, StaysShor
 ghost use Rattle.task_rows.specs.Inside.{KeepsNumber, TakesChunk, TakesFresh, HasRoom};
 
 use crate::output;
-use dimensions::{ReservedVec, SpareBuffer};
+use reserved_vec::{ReservedVec, SpareBuffer};
 use row_changes::{Change, Finish, LoseRun, StartRun, TaskParts, change_row, place_of, row_of};
 use std::alloc::Global;
 use swarm_model::{Chunk, Entry, EntryKind, Last, TaskRow};

@@ -8,7 +8,7 @@ ghost use Rattle.task_rows.specs.Inside.{HasRoom, TakesChunk, TakesFresh};
 
 use crate::in_place::fresh;
 use crate::output::make_chunk_room;
-use dimensions::SpareBuffer;
+use reserved_vec::SpareBuffer;
 use row_changes::{TaskParts, new_row, row_of};
 use std::alloc::AllocError;
 use swarm_model::{Chunk, Entry, EntryKind, TaskRow};

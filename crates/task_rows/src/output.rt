@@ -1,11 +1,11 @@
 //! The chunks that a run has reported.
 ghost use Rattle.std.specs.Prelude.{◌≡◌, length, IfSome, OnOk};
-ghost use Rattle.dimensions.specs.Room.{Takes};
+ghost use Rattle.reserved_vec.specs.Room.{Takes};
 ghost use Rattle.swarm_model.specs.Effects.{fresh_chunk, longer, lengthened};
 ghost use Rattle.task_rows.specs.Acting.{FitsBehind};
 ghost use Rattle.task_rows.specs.Inside.{TakesChunk};
 
-use dimensions::SpareBuffer;
+use reserved_vec::SpareBuffer;
 use std::alloc::AllocError;
 use swarm_model::{Attempt, Chunk, TaskRow};
 

@@ -5,7 +5,7 @@ ghost use Rattle.task_rows.specs.Acting.{row_of, run_of, chunk_in, IsAfter, IsAf
 
 use crate::in_place::{change, end_run, keep_chunk, start};
 use crate::making::{chunk_of, make_room, row_from};
-use dimensions::SpareBuffer;
+use reserved_vec::SpareBuffer;
 use row_changes::{Cancel, ExpireSlice, MarkKill, TaskParts, row_of};
 use std::alloc::{AllocError, Global};
 use std::marker::Model;

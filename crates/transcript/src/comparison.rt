@@ -1,4 +1,4 @@
-ghost use Rattle.std.specs.Prelude.{◌≡◌, ◌↔◌, IsOk};
+ghost use Rattle.std.specs.Prelude.{◌≡◌, ◌↔◌, IsOk, vec_len};
 
 use crate::{Transcript, TranscriptError};
 use std::alloc::{AllocError, Global};
@@ -87,16 +87,48 @@ fn difference(
     })
 }
 
-/// Compares what was written in a run with the replies of its transcript.
+/// Compares what was written in a run and its status with its transcript.
 ///
 /// # Errors
 ///
-/// The first reply that differs, or what came behind the last, each with its line.
-pub fn compare(alloc: Global, transcript: &Transcript, output: &[u8]) -> Result<(), TranscriptError>
-    ensures alike { IsOk result ↔ (output.now ≡ transcript.now.output.items) }
+/// The first reply that differs, or what came behind the last, each with its line; where the bytes
+/// are alike, the other status.
+pub fn compare(
+    alloc: Global,
+    transcript: &Transcript,
+    output: &[u8],
+    status: u8,
+) -> Result<(), TranscriptError>
+    ensures alike { IsOk result ↔ ((output.now ≡ transcript.now.output.items) × (status ≡ transcript.now.status)) }
 {
-    if output == transcript.output.as_slice() {
+    if output != transcript.output.as_slice() {
+        return Err(difference(alloc, transcript, output)?);
+    }
+    if status != transcript.status {
+        return Err(TranscriptError::Status {
+            line: transcript.line,
+            wanted: transcript.status,
+            came: status,
+        });
+    }
+    Ok(())
+}
+
+/// Compares how often the clock of a run was asked with the moments of its transcript.
+///
+/// # Errors
+///
+/// The clock was asked for more moments, or for fewer.
+pub fn compare_moments(transcript: &Transcript, asked: usize) -> Result<(), TranscriptError>
+    ensures alike { IsOk result ↔ (asked ≡ vec_len transcript.now.moments) }
+{
+    let wanted = transcript.moments.len();
+    if asked == wanted {
         return Ok(());
     }
-    Err(difference(alloc, transcript, output)?)
+    Err(TranscriptError::Moments {
+        line: transcript.line,
+        wanted,
+        came: asked,
+    })
 }

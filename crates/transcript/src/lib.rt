@@ -1,7 +1,9 @@
+#![tactic(auto)]
+
 //! Transcripts: what is sent over a connection and what comes back, as rows of a readable text.
 //!
-//! [`read`] takes the transcripts out of a text, and [`compare`] holds what was written in a run
-//! against the replies of its transcript. A text has one entry a line. Lines that are blank or begin
+//! [`read`] takes the transcripts out of a text. [`compare`] holds what was written in a run and its
+//! status against a transcript, and [`compare_moments`] how often its clock was asked. A text has one entry a line. Lines that are blank or begin
 //! with `#` are left out.
 //!
 //! | Line | Meaning |
@@ -48,7 +50,6 @@
 //! ```
 //!
 //! without the last field where its front is `-`. Each line of a head ends in CR LF.
-#![tactic(auto)]
 
 mod comparison;
 mod draft;
@@ -59,7 +60,7 @@ mod parts;
 mod reader;
 mod transcript;
 
-pub use comparison::compare;
+pub use comparison::{compare, compare_moments};
 pub use error::{TextFault, TranscriptError};
 pub use reader::read;
 pub use transcript::{Pieces, Reply, Transcript};

@@ -1,7 +1,7 @@
 use std::alloc::Global;
 use sw_base::{Clock, ListClock, MemoryLink, StepClock};
 use swarm_cli::run;
-use transcript::{Transcript, TranscriptError, compare};
+use transcript::{Transcript, TranscriptError, compare, compare_moments};
 
 /// Runs a transcript over a clock, its bytes in pieces of this size, and compares what was written
 /// and the status.
@@ -15,15 +15,7 @@ fn check_over<C: Clock>(
     let fails = Vec::from_slice(alloc, transcript.fails.as_slice())?;
     let mut link = MemoryLink::new(alloc, input, piece, fails);
     let status = run(alloc, transcript.words.as_slice(), &mut link, clock);
-    compare(alloc, transcript, link.output())?;
-    if status == transcript.status {
-        return Ok(());
-    }
-    Err(TranscriptError::Status {
-        line: transcript.line,
-        wanted: transcript.status,
-        came: status,
-    })
+    compare(alloc, transcript, link.output(), status)
 }
 
 /// Runs a transcript over its moments, each of which has to be asked for.
@@ -34,16 +26,7 @@ fn check_moments(
 ) -> Result<(), TranscriptError> {
     let mut clock = ListClock::new(transcript.moments.as_slice());
     check_over(alloc, transcript, piece, &mut clock)?;
-    let wanted = transcript.moments.len();
-    let came = clock.asked();
-    if wanted == came {
-        return Ok(());
-    }
-    Err(TranscriptError::Moments {
-        line: transcript.line,
-        wanted,
-        came,
-    })
+    compare_moments(transcript, clock.asked())
 }
 
 /// Runs a transcript over a clock that begins at its first moment and goes on by a step.
