@@ -1,3 +1,4 @@
 pub mod Faults
 pub mod Clock
 pub mod Link
+pub mod Files

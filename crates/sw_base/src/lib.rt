@@ -1,4 +1,4 @@
-//! The outside of a session: links that carry bytes both ways, and clocks.
+//! The outside of the program: links that carry bytes both ways, clocks, and files.
 //!
 //! A [`Link`] is read and written in pieces, and each call of it may fail. Its contract speaks of
 //! one record, its state: the bytes that it has left to give, those written to it, those flushed,
@@ -7,24 +7,36 @@
 //! holds word for word over memory, where all is told, and over the console. A [`Failed`] comes
 //! only from a call in which the count of its side rose, and such a call moves no byte.
 //! A [`Clock`] answers moments, and where it tells them, the next ones are known before.
-//! [`MemoryLink`], [`StepClock`] and [`ListClock`] tell all; [`ConsoleLink`] tells what its reader and writer do;
-//! [`SystemClock`] tells nothing.
+//! [`Files`] are loaded whole, by their paths. Their state is what they hold at each path, which may
+//! be untold as the bytes of a link, and how often a call failed. An answer of a load is what is
+//! held, and [`FileFault::Failed`] comes only from a call in which that count rose.
+//! [`MemoryLink`], [`StepClock`], [`ListClock`] and [`MemoryFiles`] tell all; [`ConsoleLink`] tells
+//! what its reader and writer do; [`SystemClock`] and [`DiskFiles`] tell nothing.
 #![tactic(auto)]
 
 mod clock;
 mod console_link;
+mod disk_files;
 mod failed;
+mod failing;
+mod file_fault;
+mod files;
 mod link;
 mod list_clock;
+mod memory_files;
 mod memory_link;
 mod step_clock;
 mod system_clock;
 
 pub use clock::Clock;
 pub use console_link::ConsoleLink;
+pub use disk_files::DiskFiles;
 pub use failed::Failed;
+pub use file_fault::FileFault;
+pub use files::Files;
 pub use link::Link;
 pub use list_clock::ListClock;
+pub use memory_files::MemoryFiles;
 pub use memory_link::MemoryLink;
 pub use step_clock::StepClock;
 pub use system_clock::SystemClock;

@@ -1,5 +1,6 @@
 ghost use Rattle.std.specs.Prelude.{◌≡◌, ◌≤◌, ◌<◌, ℕ, List, [], Option, Some, length, take, drop};
 
+use crate::failing::is_failing;
 use crate::{Failed, Link};
 use std::alloc::{AllocError, Global};
 
@@ -55,13 +56,6 @@ impl MemoryLink {
     {
         &self.output[..self.flushed]
     }
-}
-
-// Counts the next call, and says whether it is to fail.
-fn is_failing(calls: &mut u64, fails: &[u64]) -> bool {
-    let call = *calls;
-    *calls = calls.saturating_add(1);
-    fails.contains(&call)
 }
 
 impl Link for MemoryLink {
