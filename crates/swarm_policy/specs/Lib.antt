@@ -1,1 +1,10 @@
+pub mod Rules
+pub mod Faults
+pub mod Readings
+pub mod Fields
+pub mod Defaults
+pub mod Limits
+pub mod Grants
+pub mod Pools
+pub mod Documents
 pub mod Open

@@ -4,6 +4,7 @@ use Rattle.swarm_model.specs.declared.pool_settings.Grant.{Grant}
 use Rattle.swarm_model.specs.declared.pool_settings.PoolSettings.{PoolSettings}
 use Rattle.swarm_model.specs.declared.pool_settings.Settings.{Settings}
 use Rattle.swarm_model.specs.Settings.{permissions}
+use Rattle.swarm_policy.specs.Defaults.{default_reuse_age_secs, default_death_timeout_secs, default_blob_life_secs, default_store_units, default_most_tasks, default_most_bots, default_most_entries, default_most_weight}
 
 -- everyone may do everything
 abbrev pub everyone : Grant
@@ -15,14 +16,14 @@ open_pool =
     record {
       place = 0;
       name = codes "default";
-      reuse_age_secs = 604800;
-      death_timeout_secs = 600;
-      blob_life_secs = 604800;
-      store_units = 1048576;
-      most_tasks = 262144;
-      most_bots = 4096;
-      most_entries = 4194304;
-      most_weight = 134217728;
+      reuse_age_secs = default_reuse_age_secs;
+      death_timeout_secs = default_death_timeout_secs;
+      blob_life_secs = default_blob_life_secs;
+      store_units = default_store_units;
+      most_tasks = default_most_tasks;
+      most_bots = default_most_bots;
+      most_entries = default_most_entries;
+      most_weight = default_most_weight;
       grants = everyone ∷ [];
     }
 

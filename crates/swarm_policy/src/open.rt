@@ -2,6 +2,7 @@ ghost use Rattle.std.specs.Prelude.{◌≡◌, IfOk, IsTrue};
 ghost use Rattle.swarm_model.specs.Settings.{AreOpen, are_settings, permissions};
 ghost use Rattle.swarm_policy.specs.Open.{everyone, open_pool, open_settings as spec_open_settings};
 
+use crate::defaults;
 use dimensions::{Seq, Text};
 use std::alloc::{AllocError, Global};
 use swarm_model::{Grant, Permission, PoolSettings, Settings};
@@ -36,14 +37,14 @@ fn open_pool(alloc: Global) -> Result<PoolSettings, AllocError>
     Ok(PoolSettings {
         place: 0,
         name: Text::from_str(alloc, "default")?,
-        reuse_age_secs: 604_800,
-        death_timeout_secs: 600,
-        blob_life_secs: 604_800,
-        store_units: 1_048_576,
-        most_tasks: 262_144,
-        most_bots: 4096,
-        most_entries: 4_194_304,
-        most_weight: 134_217_728,
+        reuse_age_secs: defaults::REUSE_AGE_SECS,
+        death_timeout_secs: defaults::DEATH_TIMEOUT_SECS,
+        blob_life_secs: defaults::BLOB_LIFE_SECS,
+        store_units: defaults::STORE_UNITS,
+        most_tasks: defaults::MOST_TASKS,
+        most_bots: defaults::MOST_BOTS,
+        most_entries: defaults::MOST_ENTRIES,
+        most_weight: defaults::MOST_WEIGHT,
         grants: Seq::from_vec(vec![in alloc; everyone(alloc)?]?),
     })
 }

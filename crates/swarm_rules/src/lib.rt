@@ -4,7 +4,7 @@
 //! `swarm_model`'s `Answers` defines them, over any rows that meet the contract of
 //! [`PoolQueries`]. A machine implements the queries, each of which is a scan of the rows by its
 //! contract, and repeats neither the table nor its proof. The crate stands on `swarm_model`,
-//! `swarm_policy` and `row_changes`.
+//! `permissions` and `row_changes`.
 #![tactic(auto)]
 
 mod admitting;

@@ -1,10 +1,11 @@
-//! Tests of `swarm_policy`.
+//! Tests of `permissions` and `swarm_policy`.
 
 use dimensions::{Seq, Text};
+use permissions::allowed;
 use std::alloc::{AllocError, Global};
 use std::test::Fail;
 use swarm_model::{Grant, Permission, PoolSettings};
-use swarm_policy::{allowed, open_settings};
+use swarm_policy::open_settings;
 
 #[test]
 fn one_pool_for_everyone(rt: HostRuntime) -> Result<(), Fail> {
