@@ -1,4 +1,4 @@
 mod Adding
 pub mod OwnPoints
-pub mod OneDoor
+pub mod Machines
 mod Refusals

@@ -1,2 +1,3 @@
 pub mod Doors
+pub mod Machines
 pub mod Settling

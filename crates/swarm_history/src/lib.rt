@@ -3,7 +3,8 @@
 //! A [`Door`] answers one request at one point of the log of its pool, after what is due by the
 //! call's moment was settled, and tells the list of the entries that it has seen of each pool.
 //! `IsCall` of `specs/Doors.antt` says what a call may do; its points are those of `swarm_model`'s
-//! `Points`. [`PlainDoor`] is a door over machines of its own. The crate is generic over
+//! `Points`. [`PlainDoor`] is a door over machines of its own, one for each pool of its settings; its
+//! state is that of `specs/Machines.antt`. The crate is generic over
 //! [`Machine`](swarm_model::Machine) and stands on `swarm_model`.
 #![tactic(auto)]
 

@@ -1,50 +1,86 @@
-ghost use Rattle.std.specs.Prelude.{◌≡◌, ◌==◌, ◌∷◌, [], length, true, IsTrue, IfOk, if◌then◌else◌};
-ghost use Rattle.swarm_model.specs.Settings.{are_settings};
+ghost use Rattle.std.specs.Prelude.{◌≡◌, map, true, IsTrue, IfOk};
+ghost use Rattle.std.specs.List.{list_all};
+ghost use Rattle.swarm_model.specs.Fits.{fits};
+ghost use Rattle.swarm_model.specs.Points.{Growth};
+ghost use Rattle.swarm_model.specs.Settings.{keeps_rules, are_settings};
+ghost use Rattle.swarm_history.specs.Doors.{IsPoolCall, IsNewDoor};
+ghost use Rattle.swarm_history.specs.Machines.{new_machine, own_door};
 
 use crate::serving::serve;
 use crate::{Answered, CallFault, Door};
 use dimensions::{Seq, Text, TryCopy};
 use std::alloc::{AllocError, Global};
-use swarm_model::{Machine, Request, Settings};
+use swarm_model::{Machine, PoolSettings, Request, Settings};
 
-/// A door over a machine of its own, which no other door shares. Its pass has number 0.
+/// A door over machines of its own, one for each pool, which no other door shares. Its pass has
+/// number 0.
 #[derive(Drop)]
 pub struct PlainDoor<M: Machine + Drop> {
     alloc: Global,
     store: Option<Text>,
-    machine: M,
+    /// In the order of the pools.
+    machines: Vec<M>,
     calls: u64,
 }
 
-impl<M: Machine + Drop> PlainDoor<M> {
-    ghost use Rattle.swarm_history.specs.Doors.{IsNewDoor};
+/// A new machine for each pool, in their order.
+fn new_machines<M: Machine + Drop>(
+    alloc: Global,
+    pools: &[PoolSettings],
+) -> Result<Vec<M>, AllocError>
+    requires { IsTrue (list_all keeps_rules pools.now) }
+    ensures { IfOk result (λ machines. map M.kept machines.items ≡ map new_machine pools.now) }
+{
+    let mut machines = Vec::new(alloc);
+    for pool in pools {
+        let machine = M::new(alloc, pool.try_copy(alloc)?)?;
+        machines.push(machine)?;
+    }
+    Ok(machines)
+}
 
+/// Answers a request at the machine of its pool.
+fn call_machine<M: Machine>(
+    alloc: Global,
+    machine: &mut M,
+    moment: u64,
+    after: Option<u64>,
+    who: &Text,
+    request: &Request,
+) -> Result<Answered, CallFault>
+    requires { IsTrue (fits (M.kept machine.old).pool.settings request.now) }
+    ensures settings { (M.kept machine.new).pool.settings ≡ (M.kept machine.old).pool.settings }
+    ensures done { (growth : Growth) × IsPoolCall (M.kept machine.old).pool.settings true
+        (record { pass = 0; caller = who.now; moment = moment; after = after; request = request.now })
+        (M.kept machine.old).log (M.kept machine.new).log growth result }
+{
+    let reply = serve(machine, 0, moment, after, who, request)?;
+    Ok(Answered {
+        front: machine.length(),
+        reply,
+        pieces: Seq::new(alloc),
+    })
+}
+
+impl<M: Machine + Drop> PlainDoor<M> {
     /// A door that has seen nothing, over new machines of these settings.
     pub fn new(alloc: Global, settings: &Settings) -> Result<PlainDoor<M>, AllocError>
         requires rules { IsTrue (are_settings settings.now) }
-        requires one { length settings.now.pools ≡ 1 }
         ensures { IfOk result (λ door. IsNewDoor settings.now (⟦<PlainDoor<M> as Door>⟧.state door)) }
     {
         let store = settings.store.try_copy(alloc)?;
-        let pool = settings.pools.as_slice()[0].try_copy(alloc)?;
-        let machine = M::new(alloc, pool)?;
+        let machines = new_machines(alloc, settings.pools.as_slice())?;
         Ok(PlainDoor {
             alloc,
             store,
-            machine,
+            machines,
             calls: 0,
         })
     }
 }
 
 impl<M: Machine + Drop> Door for PlainDoor<M> {
-    ghost state = { λ d. record {
-      settings = record { store = d.store; pools = (M.kept d.machine).pool.settings ∷ [] };
-      seen = λ p. if p == 0 then (M.kept d.machine).log else [];
-      writer = record { numbers = λ p. 0; alone = true };
-      faults = 0;
-      calls = d.calls;
-    } };
+    ghost state = { λ d. own_door d.store (map M.kept d.machines.items) d.calls };
 
     fn call(
         &mut self,
@@ -56,14 +92,7 @@ impl<M: Machine + Drop> Door for PlainDoor<M> {
         _bytes: &[u8],
     ) -> Result<Answered, CallFault> {
         self.calls += 1;
-        let reply = match serve(&mut self.machine, 0, moment, after, who, request) {
-            Ok(reply) => reply,
-            Err(fault) => return Err(fault),
-        };
-        Ok(Answered {
-            front: self.machine.length(),
-            reply,
-            pieces: Seq::new(self.alloc),
-        })
+        let machine = &mut self.machines[place as usize];
+        call_machine(self.alloc, machine, moment, after, who, request)
     }
 }
