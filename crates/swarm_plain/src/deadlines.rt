@@ -3,26 +3,26 @@ ghost use Rattle.std.specs.Prelude.{◌≡◌, None, IfSome};
 ghost use Rattle.std.specs.List.{fold, filter_map, All};
 ghost use Rattle.std.specs.Option.{option_copied};
 ghost use Rattle.swarm_model.specs.Finding.{bot_of};
+ghost use Rattle.swarm_model.specs.Soundness.{IsSound};
 ghost use Rattle.swarm_model.specs.Deadlines.{slice_end, runner_of, silence_end, bot_end, sooner, next_deadline};
 ghost use Rattle.row_changes.specs.Rows.{IsEarly, IsHeard};
 ghost use Rattle.swarm_plain.specs.Inside.{state_of};
 
 use crate::rows::Rows;
-use crate::scans;
-use row_changes::{death_of, silence_limit, slice_end, sooner_of};
+use row_changes::{death_of, row_of, silence_limit, slice_end, sooner_of};
 use swarm_model::{BotRow, Deadline, TaskRow, TaskState};
 
 fn bot_of(rows: &Rows, number: u32) -> Option<&BotRow>
-    requires { All IsHeard rows.now.bots.items }
+    requires { IsSound (state_of rows.now) }
     ensures value { option_copied result ≡ bot_of (state_of rows.now) number }
     ensures heard { IfSome (option_copied result) IsHeard }
 {
-    scans::bot_of(rows.bots.as_slice(), number)
+    row_of(rows.bots.as_slice(), number)
 }
 
 /// The bot of a run.
 fn runner_of<'a>(rows: &'a Rows, task: &TaskRow) -> Option<&'a BotRow>
-    requires { All IsHeard rows.now.bots.items }
+    requires { IsSound (state_of rows.now) }
     ensures value { option_copied result ≡ runner_of (state_of rows.now) task.now }
     ensures heard { IfSome (option_copied result) IsHeard }
 {
@@ -33,7 +33,7 @@ fn runner_of<'a>(rows: &'a Rows, task: &TaskRow) -> Option<&'a BotRow>
 }
 
 fn silence_end(rows: &Rows, task: &TaskRow) -> Option<Deadline>
-    requires { All IsHeard rows.now.bots.items }
+    requires { IsSound (state_of rows.now) }
     ensures { result ≡ silence_end (state_of rows.now) task.now }
 {
     if !task.has_state(TaskState::Running) {
@@ -64,7 +64,7 @@ fn slices_ends(rows: &Rows) -> Option<Deadline>
 }
 
 fn silences_ends(rows: &Rows, best: Option<Deadline>) -> Option<Deadline>
-    requires { All IsHeard rows.now.bots.items }
+    requires { IsSound (state_of rows.now) }
     ensures { result ≡ fold sooner best (filter_map (silence_end (state_of rows.now)) rows.now.tasks.items) }
 {
     let mut soonest = best;
@@ -87,8 +87,7 @@ fn bots_ends(rows: &Rows, best: Option<Deadline>) -> Option<Deadline>
 
 /// The earliest of all deadlines.
 pub(crate) fn next_deadline(rows: &Rows) -> Option<Deadline>
-    requires tasks { All IsEarly rows.now.tasks.items }
-    requires bots { All IsHeard rows.now.bots.items }
+    requires { IsSound (state_of rows.now) }
     ensures { result ≡ next_deadline (state_of rows.now) }
 {
     let slices = slices_ends(rows);

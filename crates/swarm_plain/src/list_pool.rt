@@ -7,7 +7,7 @@ use crate::rows::Rows;
 use crate::{scans, sources};
 use content_store::Filled;
 use dimensions::{BotDims, DimSet, Text, TryCopy};
-use row_changes::is_capable;
+use row_changes::{is_capable, row_of};
 use sha2::{Digest as Hash, Sha256};
 use std::alloc::{AllocError, Global};
 use std::marker::Model;
@@ -81,7 +81,7 @@ impl PoolQueries for ListPool {
 
     fn task_of<L: Ledger>(&self, number: u32, steps: &mut Steps<L>) -> Option<&TaskRow> {
         steps.tick();
-        scans::task_of(self.rows.tasks.as_slice(), number)
+        row_of(self.rows.tasks.as_slice(), number)
     }
 
     fn bot_count(&self) -> usize {
@@ -89,7 +89,7 @@ impl PoolQueries for ListPool {
     }
 
     fn bot_of(&self, number: u32) -> Option<&BotRow> {
-        scans::bot_of(self.rows.bots.as_slice(), number)
+        row_of(self.rows.bots.as_slice(), number)
     }
 
     fn bot_named<'a>(&'a self, name: &Text) -> Option<&'a BotRow> {
@@ -271,6 +271,6 @@ impl Machine for ListPool {
     }
 
     fn bot(&self, no: u32) -> Option<&BotRow> {
-        scans::bot_of(self.rows.bots.as_slice(), no)
+        row_of(self.rows.bots.as_slice(), no)
     }
 }

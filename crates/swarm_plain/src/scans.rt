@@ -12,19 +12,6 @@ use dimensions::{BotDims, Text};
 use row_changes::{is_claimed, is_sent, waits_for};
 use swarm_model::{BotRow, TaskRow, TaskState};
 
-fn is_task(number: u32, task: &TaskRow) -> bool
-    ensures { result ≡ is_task number task.now }
-{
-    task.no == number
-}
-
-/// The row of the task of this number.
-pub(crate) fn task_of(tasks: &[TaskRow], number: u32) -> Option<&TaskRow>
-    ensures { option_copied result ≡ find (is_task number) tasks.now }
-{
-    tasks.iter().find(|task| is_task(number, task))
-}
-
 fn is_wanted(wanted: Option<TaskState>, task: &TaskRow) -> bool
     ensures { result ≡ is_wanted wanted task.now }
 {
@@ -136,17 +123,4 @@ pub(crate) fn first<'a>(tasks: &'a [TaskRow], dims: &BotDims) -> Option<&'a Task
         }
     }
     best
-}
-
-fn is_bot(number: u32, bot: &BotRow) -> bool
-    ensures { result ≡ is_bot number bot.now }
-{
-    bot.no == number
-}
-
-/// The row of the bot of this number.
-pub(crate) fn bot_of(bots: &[BotRow], number: u32) -> Option<&BotRow>
-    ensures { option_copied result ≡ find (is_bot number) bots.now }
-{
-    bots.iter().find(|bot| is_bot(number, bot))
 }

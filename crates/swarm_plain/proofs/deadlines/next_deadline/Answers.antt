@@ -1,0 +1,10 @@
+-- Each slice began, and each bot was heard, at a moment of the log.
+use Rattle.swarm_plain.specs.Inside.{state_of}
+use Rattle.swarm_plain.proofs.Holding.{all_early, all_heard}
+use Rattle.swarm_plain.proofs.deadlines.next_deadline.Goals as goal
+
+pub slices_ends-slices-requires : goal.slices_ends-slices-requires
+slices_ends-slices-requires c = all_early (state_of c.args.rows.now) c.requires
+
+pub bots_ends-requires : goal.bots_ends-requires
+bots_ends-requires c = all_heard (state_of c.args.rows.now) c.requires
