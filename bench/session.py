@@ -13,6 +13,10 @@ With --before OTHER, the program OTHER and PROGRAM serve a few of these connecti
 times each, and each line has the best of OTHER, the best of PROGRAM, and how many times as fast
 PROGRAM is.
 
+The lines on grants are about settings of four pools with so many grants each: reading them, with no
+request behind, and a caller who counts tasks and whom the last grant permits that. Each has the best
+of five runs. Beside them stands how many times as long 256 grants take as 8.
+
 The lines on settling are about one CountTasks, on a connection that was held open until the slices
 of so many tasks had run out: the deadlines that it settles, the seconds from writing it to its
 reply, deadlines per second, microseconds a deadline, and the memory.
@@ -36,6 +40,15 @@ PAIR = b'{"key":"KEY_%02d","value":"%s"}'
 MOST_BODY = 65536
 COUNT = b'{"pool":"default"}'
 COUNT_EXPIRED = b'{"pool":"default","state":"EXPIRED"}'
+PERMISSIONS = (
+    "swarming.pools.createTask",
+    "swarming.pools.cancelTask",
+    "swarming.pools.listTasks",
+    "swarming.pools.listBots",
+    "swarming.pools.terminateBot",
+    "profile.pools.runBot",
+    "profile.pools.useBlobs",
+)
 # Longer than the requests of a run take, so that no NewTask settles anything.
 SLICE_SECS = 5
 
@@ -68,7 +81,7 @@ def count_good(told):
     return good
 
 
-def run(program, parts):
+def run(program, parts, words=("session",)):
     """Seconds, the greatest memory in MiB, and the replies of status 200."""
     with tempfile.TemporaryFile() as asked, tempfile.TemporaryFile() as told:
         for text, times in parts:
@@ -76,7 +89,7 @@ def run(program, parts):
                 asked.write(text)
         asked.seek(0)
         begun = time.monotonic()
-        child = subprocess.Popen([program, "session"], stdin=asked, stdout=told)
+        child = subprocess.Popen([program, *words], stdin=asked, stdout=told)
         _, status, usage = os.wait4(child.pid, 0)
         seconds = time.monotonic() - begun
         child.returncode = os.waitstatus_to_exitcode(status)
@@ -151,22 +164,64 @@ def show(name, count, seconds, memory):
     )
 
 
+def settings_with(grants):
+    """Four pools, each with so many grants of all permissions; the last of the first pool is that of ana."""
+    listed = ", ".join('"%s"' % it for it in PERMISSIONS)
+    grant = '[[pools.grants]]\ncaller = "%s"\npermissions = [' + listed + "]\n"
+    callers = ["caller-%03d" % place for place in range(grants - 1)] + ["ana"]
+    pools = ("default", "second", "third", "fourth")
+    return "".join('[[pools]]\nname = "%s"\n' % pool + "".join(grant % it for it in callers) for pool in pools)
+
+
+def measure_grants(program):
+    """Settings of more and more grants: reading them, and a call that the last one permits."""
+    best = {}
+    for grants in (1, 8, 256):
+        with tempfile.NamedTemporaryFile("w", suffix=".toml") as file:
+            file.write(settings_with(grants))
+            file.flush()
+            words = ("session", "--settings", file.name)
+            for name, parts, count, times in (
+                ("reading settings, %d grants a pool" % grants, [], 0, 20),
+                ("CountTasks, the last of %d grants" % grants, [(request(b"CountTasks", COUNT), 65000)], 65000, 1),
+            ):
+                fastest = None
+                for _ in range(5):
+                    seconds, memory = 0, 0
+                    for _ in range(times):
+                        took, memory, good = run(program, parts, words)
+                        seconds += took / times
+                        if good != count:
+                            sys.exit("%s: %d of %d requests were answered well" % (name, good, count))
+                    fastest = min(fastest or seconds, seconds)
+                best[grants, count] = fastest
+                show(name, count or 1, fastest, memory)
+    for name, count in (("reading settings", 0), ("CountTasks", 65000)):
+        one, few, many = (best[it, count] for it in (1, 8, 256))
+        print("%-42s 256 grants take %.1f times as long as 8" % (name, many / few), flush=True)
+        print("%-42s beyond 1 grant: %.6f s for 7 more, %.6f s for 255 more" % (name, few - one, many - one), flush=True)
+
+
 def compare(before, program):
     """Both programs in turn over each connection, five times: the best of each."""
     count, new = request(b"CountTasks", COUNT), request(b"NewTask", NEW_TASK)
     long = request(b"NewTask", long_task(64, MOST_BODY - 1, False))
-    for name, rows, asked, times in (
-        ("CountTasks over 1 task", 1, count, 65000),
-        ("NewTask among at most 1000", 0, new, 1000),
-        ("NewTask, 64 pairs, 65535 bytes", 0, long, 500),
-        ("GetResult of the first of 500", 500, request(b"GetResult", b'{"task_id":"10"}'), 65000),
+    # Few tasks are made in an instant, so that connection is served so many times, each on a new pool.
+    for name, rows, asked, times, connections in (
+        ("CountTasks over 1 task", 1, count, 65000, 1),
+        ("NewTask among at most 1000", 0, new, 1000, 50),
+        ("NewTask, 64 pairs, 65535 bytes", 0, long, 500, 1),
+        ("GetResult of the first of 500", 500, request(b"GetResult", b'{"task_id":"10"}'), 65000, 1),
     ):
         best = {before: None, program: None}
         for _ in range(5):
             for it in best:
-                seconds, _, good = run(it, [(new, rows), (asked, times)])
-                if good != rows + times:
-                    sys.exit("%s: %s answered %d of %d requests well" % (name, it, good, rows + times))
+                seconds = 0
+                for _ in range(connections):
+                    took, _, good = run(it, [(new, rows), (asked, times)])
+                    seconds += took
+                    if good != rows + times:
+                        sys.exit("%s: %s answered %d of %d requests well" % (name, it, good, rows + times))
                 best[it] = min(best[it] or seconds, seconds)
         old, now = best[before], best[program]
         print("%-42s %8d %8.3f s %8.3f s %6.2f times" % (name, times, old, now, old / now), flush=True)
@@ -197,6 +252,7 @@ def main():
             measure(program, name, 0, request(b"NewTask", task), 500)
     measure(program, "GetResult of the first of 500", 500, request(b"GetResult", b'{"task_id":"10"}'), 65000)
     measure(program, "GetResult of the last of 500", 500, request(b"GetResult", b'{"task_id":"1f40"}'), 65000)
+    measure_grants(program)
     for rows in (1000, 5000, 10000):
         measure_settling(program, rows)
 

@@ -23,14 +23,17 @@ NAME = r"[A-Za-z_][A-Za-z0-9_']*"
 
 HEADLINE = [
     ("Rattle.swarm_cli.specs.Run", "AreSession RunsSession PrintsUsage"),
+    ("Rattle.swarm_cli.specs.SettingsFile", "RunsFile"),
+    ("Rattle.swarm_policy.specs.Open", "open_settings"),
     ("Rattle.swarm_http.specs.Answered", "IsAnswered KeepsDoor"),
-    ("Rattle.swarm_model.specs.Settings", "AreOpen"),
+    ("Rattle.swarm_model.specs.Settings", "are_settings"),
     ("Rattle.swarm_history.specs.Doors", "DoorState IsCall"),
     ("Rattle.sw_base.specs.Link", "LinkState IsClean Reads Writes Flushes"),
     ("Rattle.sw_base.specs.Clock", "HandsIn"),
+    ("Rattle.sw_base.specs.Files", "FilesState Loads"),
 ]
 # The traits whose contracts cite these.
-TRAITS = [("sw_base", "link", "Link"), ("sw_base", "clock", "Clock"), ("swarm_history", "door", "Door")]
+TRAITS = [("sw_base", "link", "Link"), ("sw_base", "clock", "Clock"), ("sw_base", "files", "Files"), ("swarm_history", "door", "Door")]
 LAWS = [
     ("Rattle.swarm_model.specs.Claims", "ClaimsAreRight"),
     ("Rattle.swarm_model.specs.Verdicts", "VerdictsAreStates FinalsStay TallyCountsVerdicts TallyAddsUp"),
@@ -45,6 +48,7 @@ LAWS = [
 EDGE = [
     "crates/swarm/src/main.rt",
     "crates/sw_base/src/console_link.rt",
+    "crates/sw_base/src/disk_files.rt",
     "crates/sw_base/src/system_clock.rt",
     "swarm",
     "scripts/build.py",

@@ -4,7 +4,7 @@
 
 use std::env;
 use std::process::ExitCode;
-use sw_base::{ConsoleLink, SystemClock};
+use sw_base::{ConsoleLink, DiskFiles, SystemClock};
 use swarm_cli::run;
 
 fn main(rt: HostRuntime) -> ExitCode {
@@ -20,5 +20,6 @@ fn main(rt: HostRuntime) -> ExitCode {
     }
     let mut console = ConsoleLink::new(rt.stdin(), rt.stdout());
     let mut clock = SystemClock::new(&rt);
-    ExitCode::from(run(alloc, &words, &mut console, &mut clock))
+    let mut files = DiskFiles::new(&rt);
+    ExitCode::from(run(alloc, &words, &mut console, &mut clock, &mut files))
 }

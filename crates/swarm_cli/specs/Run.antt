@@ -1,9 +1,10 @@
 -- What the program does.
-use Rattle.std.specs.Prelude.{◌≡◌, ◌⊎◌, ℕ, List, [], ◌∷◌, codes, Option}
+use Rattle.std.specs.Prelude.{◌≡◌, ◌⊎◌, ℕ, ◌&&◌, List, [], ◌∷◌, codes, Option, Some, None, if◌then◌else◌}
 use Rattle.std.specs.List.{flat_map}
+use Rattle.dimensions.specs.Alike.{same}
 use Rattle.sw_base.specs.Faults.{Rose}
 use Rattle.sw_base.specs.Link.{LinkState, IsClean, NoFault}
-use Rattle.swarm_policy.specs.Open.{open_settings}
+use Rattle.swarm_model.specs.declared.pool_settings.Settings.{Settings}
 use Rattle.swarm_history.specs.Doors.{DoorState, IsNewDoor}
 use Rattle.swarm_http.specs.declared.ended.Ended.{Ended}
 use Rattle.swarm_http.specs.declared.ended.Ended.TheVariants.{Closed, LastAsked, CutShort, BadHead, Retired, ReadFault, WriteFault, Memory}
@@ -26,19 +27,31 @@ exit_status BadHead = 7
 abbrev pub AreSession : List (List ℕ) → Type 0
 AreSession words = words ≡ codes "session" ∷ []
 
--- One connection over a new door with the open settings, which writes alone, under the number 0, to
--- an empty log of each pool. In the end each log is the entries of the exchanges, in order.
-pub record RunsSession (s t : LinkState) (a b : ℕ → Option (List ℕ)) (status : ℕ) : Type 0 where
+-- the path of the settings' file, where the words are `session --settings FILE`
+abbrev pub settings_path : List (List ℕ) → Option (List ℕ)
+settings_path [] = None
+settings_path (word ∷ []) = None
+settings_path (word ∷ option ∷ []) = None
+settings_path (word ∷ option ∷ path ∷ []) = if same word (codes "session") && same option (codes "--settings") then Some path else None
+settings_path (word ∷ option ∷ path ∷ more ∷ words) = None
+
+-- One connection over a new door of these settings, which writes alone, under the number 0, to an
+-- empty log of each pool. In the end each log is the entries of the exchanges, in order.
+pub record RunsSession (settings : Settings) (s t : LinkState) (a b : ℕ → Option (List ℕ)) (status : ℕ) : Type 0 where
   pub ended : Ended
   pub before : DoorState
   pub after : DoorState
-  pub new_door : IsNewDoor open_settings before
+  pub new_door : IsNewDoor settings before
   pub answered : IsAnswered (record { link = s; clock = a; door = before }) (record { link = t; clock = b; door = after }) ended
   pub logs_are : (p : ℕ) → after.seen p ≡ flat_map (entries_of p) answered.xs
   pub status_is : status ≡ exit_status ended
 
--- the usage was written whole and flushed, or a write or the flush failed
-pub record PrintsUsage (s t : LinkState) (status : ℕ) : Type 0 where
+-- the text was written whole and flushed, and the status is this; or a write or the flush failed
+pub record Prints (text : List ℕ) (good : ℕ) (s t : LinkState) (status : ℕ) : Type 0 where
   pub back : List ℕ
-  pub written : Written s t (codes "usage\n") back
-  pub cause : ((status ≡ 2) × (back ≡ []) × IsClean t × NoFault s t) ⊎ ((status ≡ 4) × Rose s.write_faults t.write_faults)
+  pub written : Written s t text back
+  pub cause : ((status ≡ good) × (back ≡ []) × IsClean t × NoFault s t) ⊎ ((status ≡ 4) × Rose s.write_faults t.write_faults)
+
+-- what is printed for words that are no command
+abbrev pub PrintsUsage : LinkState → LinkState → ℕ → Type 0
+PrintsUsage s t status = Prints (codes "usage\n") 2 s t status

@@ -1,10 +1,8 @@
 //! Tests over whole connections that are code.
 //!
 //! Most connections stand as transcripts in the data files of `swarm_transcripts`. A transcript is
-//! one input over a pool with the open settings, so these can't be one:
+//! one input, which is there from the beginning on, so these can't be one:
 //!
-//! - pools with other limits: no command sets them yet, so the tests go through `session` of
-//!   `swarm_http`;
 //! - a client that sends a request only once it has the reply to the one before, which takes a link
 //!   of its own;
 //! - an input that is cut behind each of its bytes, which would take 252 transcripts.

@@ -17,7 +17,8 @@ use Rattle.swarm_history.specs.Doors.{Logs, DoorState, Elsewhere, IsPoolCall, Wr
 use Rattle.request_head.specs.declared.after.After.{After}
 use Rattle.std.specs.Prelude.{IsSomeAnd, slice_get}
 use Rattle.swarm_http.specs.declared.reply.ReplyBytes.{ReplyBytes}
-use Rattle.swarm_http.specs.Requests.{then, routed, with_front, caller_request_of, request_of, is_post, front_of}
+use Rattle.swarm_http.specs.Permissions.{permitted}
+use Rattle.swarm_http.specs.Requests.{CallerRequest, then, routed, with_front, caller_request_of, permitted_request, request_of, is_post, front_of}
 use Rattle.swarm_http.specs.Outcomes.{DoorCall, called_place, call_of, rejected, no_body_memory, IsCalled}
 use Rattle.swarm_http.specs.Replies.{refusal}
 use Rattle.swarm_http.specs.Sends.{text_of}
@@ -49,14 +50,18 @@ no_caller settings head body route e m c = rw (e, posted route (method_of head) 
 
 -- the body is what is left to look at
 pub body_left : (settings : Settings) (head : RequestHead) (body : List ℕ) (route : Route) (who : List ℕ) → route_of head.target ≡ Some route → is_post (method_of head) ≡ true
-    → caller_of head ≡ Some who → request_of settings head body ≡ then (with_front (after_of head) (asked_of settings route body)) (caller_request_of who)
+    → caller_of head ≡ Some who → request_of settings head body ≡ then (with_front (after_of head) (asked_of settings route body)) (permitted_request settings who)
 body_left settings head body route who e m c = rw (e, posted route (method_of head) m, c) refl
 
 -- a body that asks something
 pub body_asks : (settings : Settings) (head : RequestHead) (body items : List ℕ) (route : Route) (who : List ℕ) (after : After) (asked : Asked) → route_of head.target ≡ Some route → is_post (method_of head) ≡ true
-    → caller_of head ≡ Some who → after ≡ after_of head → items ≡ body → with_front after (asked_of settings route items) ≡ Ok asked → request_of settings head body ≡ caller_request_of who asked
+    → caller_of head ≡ Some who → after ≡ after_of head → items ≡ body → with_front after (asked_of settings route items) ≡ Ok asked → request_of settings head body ≡ permitted_request settings who asked
 body_asks settings head body items route who after asked e m c same is asks =
-    body_left settings head body route who e m c ∙ ap (λ (r : Result Asked Rule). then r (caller_request_of who)) (rw (same, is) at asks)
+    body_left settings head body route who e m c ∙ ap (λ (r : Result Asked Rule). then r (permitted_request settings who)) (rw (same, is) at asks)
+
+-- a request that its pool permits
+pub asks_permitted : (settings : Settings) (who : List ℕ) (asked : Asked) → permitted settings who asked ≡ Ok asked → permitted_request settings who asked ≡ caller_request_of who asked
+asks_permitted settings who asked e = ap (λ (r : Result Asked Rule). then r (caller_request_of who)) e
 
 -- a request that was refused before any call
 pub refused_early : (settings : Settings) (head : RequestHead) (body : List ℕ) (a : ℕ → Option (List ℕ)) (door : DoorState) (shown : ReplyBytes) (why : Rule)
@@ -69,12 +74,12 @@ pub not_held : (head : RequestHead) (body : List ℕ) (a : ℕ → Option (List 
     → text_of shown ≡ refusal None rule.WantOfMemory → Answers head body a a door door shown
 not_held head body a door shown text = record { outcome = no_body_memory; acts = refl; moments = HandsIn-nil a; shown = text }
 
--- a body that was refused
-pub body_refused : (settings : Settings) (head : RequestHead) (body who : List ℕ) (a : ℕ → Option (List ℕ)) (door : DoorState) (shown : ReplyBytes) (asked : Result Asked Rule)
-    → door.settings ≡ settings → request_of settings head body ≡ then asked (caller_request_of who) → IsRejection shown asked → Answers head body a a door door shown
-body_refused settings head body who a door shown asked same means (by_rule why e text) =
-    refused_early settings head body a door shown why same (means ∙ ap (λ (r : Result Asked Rule). then r (caller_request_of who)) e) text
-body_refused settings head body who a door shown asked same means (by_memory text) = not_held head body a door shown text
+-- a request that was refused for what was left to look at
+pub left_refused : (settings : Settings) (head : RequestHead) (body : List ℕ) (a : ℕ → Option (List ℕ)) (door : DoorState) (shown : ReplyBytes) (left : Result Asked Rule)
+    (next : Asked → Result CallerRequest Rule) → door.settings ≡ settings → request_of settings head body ≡ then left next → IsRejection shown left → Answers head body a a door door shown
+left_refused settings head body a door shown left next same means (by_rule why e text) =
+    refused_early settings head body a door shown why same (means ∙ ap (λ (r : Result Asked Rule). then r next) e) text
+left_refused settings head body a door shown left next same means (by_memory text) = not_held head body a door shown text
 
 -- the pool of a request was called for it
 pub is_called : (settings : Settings) (writer : Writer) (head : RequestHead) (body : List ℕ) (call : DoorCall) (after : After) (front : Option ℕ) (result : Result Answered CallFault) (old new : Logs)

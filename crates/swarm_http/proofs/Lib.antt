@@ -2,5 +2,6 @@ pub mod Sending
 pub mod Texts
 pub mod Requests
 pub mod Serving
+pub mod Pools
 pub mod Asking
 mod Once

@@ -1,4 +1,5 @@
 pub mod Replies
+pub mod Permissions
 pub mod Requests
 pub mod Outcomes
 pub mod Exchange

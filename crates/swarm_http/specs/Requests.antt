@@ -16,6 +16,7 @@ use Rattle.swarm_wire.specs.declared.asked.WireFault.{WireFault}
 use Rattle.swarm_wire.specs.declared.asked.WireFault.TheVariants as fault
 use Rattle.swarm_wire.specs.Routes.{route_of}
 use Rattle.swarm_wire.specs.Asking.{asked_of}
+use Rattle.swarm_http.specs.Permissions.{permitted}
 
 -- the value, and what follows from it
 abbrev pub then : {A B : Type 0} → Result A Rule → (A → Result B Rule) → Result B Rule
@@ -75,9 +76,13 @@ pub record CallerRequest : Type 0 where
 abbrev pub caller_request_of : List ℕ → Asked → Result CallerRequest Rule
 caller_request_of who asked = Ok (record { who = who; asked = asked })
 
--- the request that a head and a body mean, or the first refusal of route, method, caller, body and X-Swarming-After, in this order
+-- what a caller asks of a pool, unless the pool's settings don't permit it
+abbrev pub permitted_request : Settings → List ℕ → Asked → Result CallerRequest Rule
+permitted_request settings who asked = then (permitted settings who asked) (caller_request_of who)
+
+-- the request that a head and a body mean, or the first refusal of route, method, caller, body, X-Swarming-After and permission, in this order
 abbrev pub request_of : Settings → RequestHead → List ℕ → Result CallerRequest Rule
 request_of settings head body =
     then (routed (route_of head.target) (method_of head)) (λ route.
     then (called_by (caller_of head)) (λ who.
-    then (with_front (after_of head) (asked_of settings route body)) (caller_request_of who)))
+    then (with_front (after_of head) (asked_of settings route body)) (permitted_request settings who)))

@@ -4,17 +4,18 @@ ghost use Rattle.httparse.specs.Grammar.{RequestHead};
 ghost use Rattle.request_head.specs.HeadFields.{after_of};
 ghost use Rattle.swarm_model.specs.declared.rule.Rule.TheVariants as Rule;
 ghost use Rattle.swarm_model.specs.Fits.{fits};
-ghost use Rattle.swarm_model.specs.Settings.{AreOpen};
+ghost use Rattle.swarm_model.specs.Settings.{are_settings};
 ghost use Rattle.swarm_wire.specs.declared.asked.Asked.{Asked};
 ghost use Rattle.swarm_wire.specs.declared.asked.WireFault.{WireFault};
 ghost use Rattle.swarm_wire.specs.Asking.{asked_of};
-ghost use Rattle.swarm_http.specs.Requests.{front_of, unless_front_broken, with_front, caller_request_of, request_of, is_post};
+ghost use Rattle.swarm_http.specs.Requests.{front_of, unless_front_broken, with_front, caller_request_of, permitted_request, request_of, is_post};
 ghost use Rattle.swarm_http.specs.Outcomes.{stop_rule};
 ghost use Rattle.swarm_http.specs.Sends.{rule_of};
 ghost use Rattle.swarm_http.specs.Takes.{IsHeld};
 ghost use Rattle.swarm_http.specs.Answered.{KeepsDoor};
 ghost use Rattle.swarm_http.specs.Steps.{Answers, IsRejection};
 
+use crate::permitting::check_permission;
 use crate::reply::{Refusal, ReplyBytes, field_refusal, whole_reply};
 use crate::request::{Caller, Received, RequestLine};
 use dimensions::Text;
@@ -130,6 +131,7 @@ fn shown_fault(alloc: Global, after: After, fault: WireFault) -> ReplyBytes
 }
 
 // What a body asks for, or its refusal.
+#[tactic(auto, using(crate::proofs::Pools::few_pools))]
 fn read_asked(
     alloc: Global,
     settings: &Settings,
@@ -137,7 +139,7 @@ fn read_asked(
     after: After,
     body: &[u8],
 ) -> Result<Asked, ReplyBytes>
-    requires { AreOpen settings.now }
+    requires rules { IsTrue (are_settings settings.now) }
     ensures asks { IfOk result (λ asked. with_front after (asked_of settings.now route body.now) ≡ Ok asked) }
     ensures refused { IfErr result (λ shown. IsRejection shown (with_front after (asked_of settings.now route body.now))) }
     ensures fits { IfOk result (λ asked. IsSomeAnd (slice_get settings.now.pools asked.place) (λ pool. IsTrue (fits pool asked.request))) }
@@ -152,6 +154,30 @@ fn read_asked(
     }
 }
 
+// Asks the pool of a request, unless the pool's settings deny it to the caller.
+fn ask_pool<D: Door, C: Clock>(
+    alloc: Global,
+    settings: &Settings,
+    who: &Text,
+    after: After,
+    asked: &Asked,
+    door: &mut D,
+    clock: &mut C,
+) -> ReplyBytes
+    requires settings { (D.state door.old).settings ≡ settings.now }
+    requires low { asked.now.place < 4 }
+    requires fits { IsSomeAnd (slice_get settings.now.pools asked.now.place) (λ pool. IsTrue (fits pool asked.now.request)) }
+    requires calls { (D.state door.old).calls < 2 ^ 40 }
+    ensures answers { (head : RequestHead) (body : List ℕ) → after ≡ after_of head → request_of settings.now head body ≡ permitted_request settings.now who.now asked.now →
+        Answers head body (C.ahead clock.old) (C.ahead clock.new) (D.state door.old) (D.state door.new) result }
+    ensures door { KeepsDoor 1 (D.state door.old) (D.state door.new) }
+{
+    match check_permission(alloc, settings, who, asked) {
+        Ok(()) => call_door(alloc, who, after, asked, door, clock),
+        Err(denied) => denied,
+    }
+}
+
 /// Answers a request.
 pub fn answer_request<D: Door, C: Clock>(
     alloc: Global,
@@ -161,7 +187,7 @@ pub fn answer_request<D: Door, C: Clock>(
     clock: &mut C,
 ) -> ReplyBytes
     requires settings { (D.state door.old).settings ≡ settings.now }
-    requires open { AreOpen settings.now }
+    requires rules { IsTrue (are_settings settings.now) }
     requires calls { (D.state door.old).calls < 2 ^ 40 }
     ensures answers { (body : List ℕ) (head : RequestHead) → IsHeld received body head →
         Answers head body (C.ahead clock.old) (C.ahead clock.new) (D.state door.old) (D.state door.new) result }
@@ -190,7 +216,7 @@ pub fn answer_request<D: Door, C: Clock>(
         return ReplyBytes::Refused(Refusal::WantOfMemory);
     };
     match read_asked(alloc, settings, route, after, &body) {
-        Ok(asked) => call_door(alloc, &who, after, &asked, door, clock),
+        Ok(asked) => ask_pool(alloc, settings, &who, after, &asked, door, clock),
         Err(shown) => shown,
     }
 }

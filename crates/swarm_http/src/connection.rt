@@ -1,7 +1,7 @@
 //! One connection.
-ghost use Rattle.std.specs.Prelude.{◌≡◌, ◌<◌, ◌≤◌, ◌+◌, ◌^◌};
+ghost use Rattle.std.specs.Prelude.{◌≡◌, ◌<◌, ◌≤◌, ◌+◌, ◌^◌, IsTrue};
 ghost use Rattle.sw_base.specs.Link.{IsClean};
-ghost use Rattle.swarm_model.specs.Settings.{AreOpen};
+ghost use Rattle.swarm_model.specs.Settings.{are_settings};
 ghost use Rattle.swarm_http.specs.Answered.{IsAnswered, KeepsDoor};
 ghost use Rattle.swarm_http.specs.Steps.{IsStep};
 
@@ -35,7 +35,7 @@ fn serve_one<D: Door, L: Link, C: Clock>(
     link: &mut L,
 ) -> Step
     requires settings { (D.state door.old).settings ≡ settings.now }
-    requires open { AreOpen settings.now }
+    requires rules { IsTrue (are_settings settings.now) }
     requires calls { (D.state door.old).calls < 2 ^ 40 }
     requires clean { IsClean (L.state link.old) }
     ensures step { IsStep pending.old pending.new
@@ -70,7 +70,7 @@ pub fn session<D: Door, L: Link, C: Clock>(
     link: &mut L,
 ) -> Ended
     requires settings { (D.state door.old).settings ≡ settings.now }
-    requires open { AreOpen settings.now }
+    requires rules { IsTrue (are_settings settings.now) }
     requires calls { (D.state door.old).calls + 65536 ≤ 2 ^ 40 }
     requires clean { IsClean (L.state link.old) }
     ensures answered { IsAnswered

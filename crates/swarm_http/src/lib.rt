@@ -7,7 +7,8 @@
 //! taken from the link are those requests one after the other and a rest, the bytes written are
 //! their replies, the moments that the clock handed in are theirs, and the logs of the pools grew
 //! by what each of them did. How the connection ended then says what the rest is. The bytes of a
-//! reply are `shown` of `specs/Replies.antt`.
+//! reply are `shown` of `specs/Replies.antt`. What a request means, or the refusal that it gets
+//! before any pool is asked, is `request_of` of `specs/Requests.antt`.
 //!
 //! The crate passes on the link and the clock of `sw_base` and the door of `swarm_history`, which
 //! a caller of [`session`] needs.
@@ -16,6 +17,7 @@
 mod answer;
 mod connection;
 mod ended;
+mod permitting;
 mod reply;
 mod request;
 mod send;

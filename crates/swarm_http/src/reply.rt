@@ -4,11 +4,11 @@ ghost use Rattle.http.specs.StatusCode.{IsStatusCode};
 ghost use Rattle.swarm_http.specs.Replies.{phrase_of as spec_phrase_of, head_with, reply_text, shown, refusal};
 ghost use Rattle.swarm_http.specs.Sends.{text_of};
 
-use dimensions::{Seq, Text};
+use dimensions::{Seq, Text, TryCopy};
 use http::StatusCode;
 use reply_bodies::{show_reply, status_of};
 use std::alloc::{AllocError, Global};
-use swarm_model::{Reply, Rule};
+use swarm_model::{Permission, Reply, Rule};
 use task_props::PropRule;
 
 /// A refusal whose reply takes no memory.
@@ -145,6 +145,21 @@ pub fn field_refusal(alloc: Global, field: Text, rule: PropRule) -> Result<Reply
     ensures { IfOk result (λ s. text_of s ≡ refusal None (Rule.BadField field rule)) }
 {
     let reply = Reply::No(Rule::BadField { field, rule });
+    let pieces = Seq::new(alloc);
+    whole_reply(alloc, 0, None, &reply, &pieces)
+}
+
+/// The refusal of a caller to whom the pool of this name doesn't give the permission.
+#[tactic(auto, unfolding(crate::specs::Replies::refusal))]
+pub fn denied_refusal(
+    alloc: Global,
+    permission: Permission,
+    pool: &Text,
+) -> Result<ReplyBytes, AllocError>
+    ensures { IfOk result (λ s. text_of s ≡ refusal None (Rule.Denied permission pool.now)) }
+{
+    let pool = pool.try_copy(alloc)?;
+    let reply = Reply::No(Rule::Denied { permission, pool });
     let pieces = Seq::new(alloc);
     whole_reply(alloc, 0, None, &reply, &pieces)
 }

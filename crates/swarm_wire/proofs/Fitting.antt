@@ -1,15 +1,13 @@
 -- Which requests fit their pools.
-use Rattle.std.proofs.Common.{◌≡◌, ℕ, ◌≤◌, true, List, length, arith, ◌∙◌, sym}
+use Rattle.std.proofs.Common.{◌≡◌, ℕ, true, List, ◌∙◌, sym}
 use Rattle.std.specs.Prelude.{IsTrue, IsSomeAnd, Option, Some, None, slice_get}
 use Rattle.std.proofs.lemmas.Bool.{and_from}
 use Rattle.dimensions.specs.Alike.{same, same_laws}
 use Rattle.task_props.specs.declared.new_task.NewTask.{NewTask}
 use Rattle.task_props.specs.Checked.{is_checked, pool_of_task}
 use Rattle.swarm_model.specs.declared.pool_settings.PoolSettings.{PoolSettings}
-use Rattle.swarm_model.specs.declared.pool_settings.Settings.{Settings}
 use Rattle.swarm_model.specs.declared.request.Request.TheVariants as ask
 use Rattle.swarm_model.specs.Fits.{fits}
-use Rattle.swarm_model.specs.Settings.{AreOpen}
 
 task_fits : (pool : PoolSettings) (task : NewTask) → is_checked task ≡ true → IsTrue (same pool.name (pool_of_task task)) → IsTrue (fits pool (ask.New task))
 task_fits pool task checked named = and_from _ _ checked (sym (same_laws.symm pool.name (pool_of_task task)) ∙ named)
@@ -22,7 +20,3 @@ fits_where (Some pool) task checked named = task_fits pool task checked named
 pub new_fits : (pools : List PoolSettings) (place : ℕ) (task : NewTask) → is_checked task ≡ true
     → IsSomeAnd (slice_get pools place) (λ pool. IsTrue (same pool.name (pool_of_task task))) → IsSomeAnd (slice_get pools place) (λ pool. IsTrue (fits pool (ask.New task)))
 new_fits pools place task = fits_where (slice_get pools place) task
-
--- open settings have few pools
-pub open_few : (settings : Settings) → AreOpen settings → length settings.pools ≤ 4
-open_few settings opened = rw opened.only (omega arith)

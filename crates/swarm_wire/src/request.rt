@@ -1,7 +1,6 @@
 ghost use Rattle.std.specs.Prelude.{◌≡◌, ◌≢◌, ◌≤◌, ◌<◌, IfOk, IfErr, IsTrue, IsSomeAnd, length, slice_get};
 ghost use Rattle.serde_json.specs.View.{view};
 ghost use Rattle.swarm_model.specs.Fits.{fits};
-ghost use Rattle.swarm_model.specs.Settings.{AreOpen};
 ghost use Rattle.swarm_wire.specs.Asking.{Asks, FitsPool, object_asks, value_asks, asked_of};
 
 use crate::asking::{ask_cancel, ask_count, ask_named, ask_new, ask_result, ask_update};
@@ -60,14 +59,14 @@ fn ask_value(
 }
 
 /// What the body of a call asks for: a request to one of the pools of the settings.
-#[tactic(auto, using(crate::proofs::Fitting::open_few), unfolding(crate::specs::Asking::asked_of))]
+#[tactic(auto, unfolding(crate::specs::Asking::asked_of))]
 pub fn read_request(
     alloc: Global,
     settings: &Settings,
     route: Route,
     body: &[u8],
 ) -> Result<Asked, WireFault>
-    requires { AreOpen settings.now }
+    requires few { length settings.now.pools ≤ 4 }
     ensures asks { IfOk result (λ asked. asked_of settings.now route body.now ≡ Ok asked) }
     ensures refused { IfErr result (λ fault. fault ≢ WireFault.Memory → asked_of settings.now route body.now ≡ Err fault) }
     ensures fits { IfOk result (λ asked. IsSomeAnd (slice_get settings.now.pools asked.place) (λ pool. IsTrue (fits pool asked.request))) }

@@ -1,4 +1,4 @@
-use crate::{TextFault, Transcript, TranscriptError};
+use crate::{File, TextFault, Transcript, TranscriptError};
 use std::alloc::{AllocError, Global};
 use std::mem;
 
@@ -7,6 +7,9 @@ use std::mem;
 pub(crate) struct Draft {
     pub(crate) transcript: Transcript,
     has_row: bool,
+    has_from: bool,
+    /// Whether the next line may be one of the last file.
+    is_in_file: bool,
     /// How many requests have no reply yet.
     unanswered: usize,
     /// The further fields of the next request, and the line of the last of them.
@@ -19,25 +22,84 @@ impl Draft {
         Ok(Draft {
             transcript: Transcript::new(alloc, name, line)?,
             has_row: false,
+            has_from: false,
+            is_in_file: false,
             unanswered: 0,
             fields: Vec::new(alloc),
             fields_line: line,
         })
     }
 
-    /// Begins with the rows of another transcript.
+    /// Begins with the rows and the files of another transcript.
     pub(crate) fn begin_with(
         &mut self,
         alloc: Global,
         line: usize,
         other: &Transcript,
     ) -> Result<(), TranscriptError> {
-        if self.has_row {
+        if self.has_row || self.has_from {
             return Err(TextFault::LateFrom.at(line));
         }
-        self.has_row = true;
+        self.has_from = true;
         self.transcript.add_rows(alloc, other)?;
+        for file in other.files.iter() {
+            let bytes = Vec::from_slice(alloc, file.bytes.as_slice())?;
+            self.add_file(alloc, line, file.path.as_str(), bytes)?;
+        }
         Ok(())
+    }
+
+    /// Adds a file whose path no other has.
+    fn add_file(
+        &mut self,
+        alloc: Global,
+        line: usize,
+        path: &str,
+        bytes: Vec<u8>,
+    ) -> Result<(), TranscriptError> {
+        let is_given = self
+            .transcript
+            .files
+            .iter()
+            .any(|it| it.path.as_str() == path);
+        let path = String::from_str(alloc, path)?;
+        if is_given {
+            return Err(TextFault::RepeatedFile(path).at(line));
+        }
+        self.transcript.files.push(File { path, bytes })?;
+        Ok(())
+    }
+
+    /// Begins a file, which has no lines yet.
+    pub(crate) fn begin_file(
+        &mut self,
+        alloc: Global,
+        line: usize,
+        path: &str,
+    ) -> Result<(), TranscriptError> {
+        if self.has_row {
+            return Err(TextFault::LateFile.at(line));
+        }
+        self.add_file(alloc, line, path, Vec::new(alloc))?;
+        self.is_in_file = true;
+        Ok(())
+    }
+
+    /// Adds a line to the file that was begun last.
+    pub(crate) fn add_file_line(
+        &mut self,
+        line: usize,
+        text: &[u8],
+    ) -> Result<(), TranscriptError> {
+        match self.transcript.files.last_mut() {
+            Some(file) if self.is_in_file => Ok(file.add_line(text)?),
+            _ => Err(TextFault::LineWithoutFile.at(line)),
+        }
+    }
+
+    /// Lets no more lines come to the last file.
+    pub(crate) fn end_file(&mut self) {
+        self.is_in_file = false;
     }
 
     /// Adds a field to the head of the next request.

@@ -19,6 +19,12 @@ pub enum TextFault {
     OutsideTranscript,
     /// `from` stands behind a row.
     LateFrom,
+    /// The transcript has a file of this path already.
+    RepeatedFile(String),
+    /// `file` stands behind a row.
+    LateFile,
+    /// A line of a file that does not stand right below its `file` or another line of it.
+    LineWithoutFile,
     RequestWithoutCaller,
     FieldWithoutRequest,
     /// A reply before the first request, or the second reply to one.
@@ -40,6 +46,11 @@ impl fmt::Display for TextFault {
             }
             TextFault::OutsideTranscript => write!(f, "this line stands outside any transcript"),
             TextFault::LateFrom => write!(f, "`from` has to stand before the first row"),
+            TextFault::RepeatedFile(path) => {
+                write!(f, "the transcript has a file `{path}` already")
+            }
+            TextFault::LateFile => write!(f, "`file` has to stand before the first row"),
+            TextFault::LineWithoutFile => write!(f, "no file stands right above this line of one"),
             TextFault::RequestWithoutCaller => write!(f, "this request has no caller"),
             TextFault::FieldWithoutRequest => write!(f, "no request follows this field"),
             TextFault::ReplyWithoutRequest => write!(f, "this reply has no request before it"),

@@ -10,7 +10,7 @@
 //! |---|---|
 //! | `let NAME TEXT` | from here on `${NAME}` stands for the text, and `${NAME*9}` for it nine times |
 //! | `transcript NAME` | begins a transcript: one run of the program over one connection, on a new pool |
-//! | `from NAME` | the transcript begins with the rows of an earlier one of the file |
+//! | `from NAME` | the transcript begins with the rows of an earlier one of the text, and has its files |
 //! | `words WORD ..` | the words of the command line; `session` where the line is absent |
 //! | `caller NAME` | who sends the requests from here on, also in the transcripts that follow |
 //! | `field TEXT` | one more field in the head of the next request |
@@ -22,11 +22,17 @@
 //! | `step SECONDS` | the transcript is also run over a clock that begins at its first moment and goes on by this step at each call |
 //! | `pieces FIRST LAST` | the transcript is run once for each size of the pieces in which its bytes come; `pieces 1000 1000` where the line is absent |
 //! | `fails CALL ..` | the calls on the link that fail: reads, writes and flushes, counted together from 0 |
+//! | `file PATH` | the program finds a file at this path, with the lines that follow; it stands before the first row |
+//! | `\| TEXT` | the next line of the file, which ends in LF |
+//! | `file_fails CALL ..` | the loads of files that fail, counted from 0 |
 //! | `ends STATUS` | the status with which the program ends; 0 where the line is absent |
 //!
 //! Each TEXT and BODY may be empty, and white space at its end counts. In it `${NAME}` and
 //! `${NAME*9}` are put in, `${0x0a}` stands for one byte, and `${0x61*65}` for 65 of them. A name is
-//! letters, digits and `_`. It is given once in a file, and used below the line that gives it.
+//! letters, digits and `_`. It is given once in a text, and used below the line that gives it.
+//!
+//! The lines of a file follow its `file` at once: any other key ends it. A file without lines is
+//! empty, and no two files of a transcript have one path.
 //!
 //! A request is sent as
 //!
@@ -63,4 +69,4 @@ mod transcript;
 pub use comparison::{compare, compare_moments};
 pub use error::{TextFault, TranscriptError};
 pub use reader::read;
-pub use transcript::{Pieces, Reply, Transcript};
+pub use transcript::{File, Pieces, Reply, Transcript};

@@ -30,6 +30,19 @@ where
     }
 }
 
+/// The numbers of a line, with white space between them.
+pub(crate) fn read_numbers(
+    alloc: Global,
+    line: usize,
+    text: &str,
+) -> Result<Vec<u64>, TranscriptError> {
+    let mut numbers = Vec::new(alloc);
+    for word in text.split_whitespace() {
+        numbers.push(read_number(alloc, line, word)?)?;
+    }
+    Ok(numbers)
+}
+
 /// A byte by its digits in base 16.
 pub(crate) fn read_byte(alloc: Global, line: usize, digits: &str) -> Result<u8, TranscriptError> {
     match u8::from_str_radix(digits, 16) {

@@ -1,7 +1,7 @@
 use crate::draft::Draft;
 use crate::exchange::{reply_bytes, request_bytes};
 use crate::names::Names;
-use crate::parts::{form_error, is_front, is_name, is_status, read_number};
+use crate::parts::{form_error, is_front, is_name, is_status, read_number, read_numbers};
 use crate::{Pieces, TextFault, Transcript, TranscriptError};
 use std::alloc::Global;
 
@@ -35,6 +35,9 @@ impl Reader {
             return Ok(());
         }
         let (key, entry) = text.split_once(' ').unwrap_or((text, ""));
+        if key != "|" {
+            self.end_file();
+        }
         match key {
             "let" => self.give_name(entry),
             "caller" => self.set_caller(entry),
@@ -44,6 +47,9 @@ impl Reader {
             "step" => self.set_step(entry),
             "pieces" => self.set_pieces(entry),
             "fails" => self.set_fails(entry),
+            "file" => self.begin_file(entry),
+            "|" => self.add_file_line(entry),
+            "file_fails" => self.set_file_fails(entry),
             "ends" => self.set_status(entry),
             "field" => self.add_field(entry),
             "moment" => self.add_moment(entry),
@@ -147,11 +153,14 @@ impl Reader {
     }
 
     fn set_fails(&mut self, entry: &str) -> Result<(), TranscriptError> {
-        let mut fails = Vec::new(self.alloc);
-        for call in entry.split_whitespace() {
-            fails.push(read_number(self.alloc, self.line, call)?)?;
-        }
+        let fails = read_numbers(self.alloc, self.line, entry)?;
         self.draft()?.transcript.fails = fails;
+        Ok(())
+    }
+
+    fn set_file_fails(&mut self, entry: &str) -> Result<(), TranscriptError> {
+        let fails = read_numbers(self.alloc, self.line, entry)?;
+        self.draft()?.transcript.file_fails = fails;
         Ok(())
     }
 
@@ -159,6 +168,28 @@ impl Reader {
         let status = read_number(self.alloc, self.line, entry)?;
         self.draft()?.transcript.status = status;
         Ok(())
+    }
+
+    fn begin_file(&mut self, path: &str) -> Result<(), TranscriptError> {
+        if path.is_empty() {
+            return Err(self.form_error("a path", path));
+        }
+        let line = self.line;
+        let alloc = self.alloc;
+        self.draft()?.begin_file(alloc, line, path)
+    }
+
+    fn add_file_line(&mut self, entry: &str) -> Result<(), TranscriptError> {
+        let line = self.line;
+        let text = self.expand(entry)?;
+        self.draft()?.add_file_line(line, text.as_slice())
+    }
+
+    /// Ends the file whose lines were read last, if there is one.
+    fn end_file(&mut self) {
+        if let Some(draft) = &mut self.current {
+            draft.end_file();
+        }
     }
 
     fn add_field(&mut self, entry: &str) -> Result<(), TranscriptError> {

@@ -7,6 +7,22 @@ pub struct Reply {
     pub bytes: Vec<u8>,
 }
 
+/// A file that the program finds.
+#[derive(Drop)]
+pub struct File {
+    pub path: String,
+    pub bytes: Vec<u8>,
+}
+
+impl File {
+    /// Adds a line, which ends in LF.
+    pub(crate) fn add_line(&mut self, text: &[u8]) -> Result<(), AllocError> {
+        self.bytes.extend_from_slice(text)?;
+        self.bytes.push(b'\n')?;
+        Ok(())
+    }
+}
+
 /// The sizes of the pieces in which the bytes of a connection come, from the first to the last.
 #[derive(Clone, Copy, Debug, PartialEq, Eq)]
 pub struct Pieces {
@@ -34,6 +50,10 @@ pub struct Transcript {
     pub pieces: Pieces,
     /// The numbers of the calls on the link that fail.
     pub fails: Vec<u64>,
+    /// The files, no two of which have one path.
+    pub files: Vec<File>,
+    /// The numbers of the loads of files that fail.
+    pub file_fails: Vec<u64>,
     /// The status with which the program ends.
     pub status: u8,
 }
@@ -55,6 +75,8 @@ impl Transcript {
                 last: 1000,
             },
             fails: Vec::new(alloc),
+            files: Vec::new(alloc),
+            file_fails: Vec::new(alloc),
             status: 0,
         })
     }

@@ -1,7 +1,18 @@
-use std::alloc::Global;
-use sw_base::{Clock, ListClock, MemoryLink, StepClock};
+use std::alloc::{AllocError, Global};
+use sw_base::{Clock, ListClock, MemoryFiles, MemoryLink, StepClock};
 use swarm_cli::run;
 use transcript::{Transcript, TranscriptError, compare, compare_moments};
+
+/// The files of a transcript, for one run.
+fn files_of(alloc: Global, transcript: &Transcript) -> Result<MemoryFiles, AllocError> {
+    let mut files = Vec::new(alloc);
+    for file in transcript.files.iter() {
+        let path = String::from_str(alloc, file.path.as_str())?;
+        files.push((path, Vec::from_slice(alloc, file.bytes.as_slice())?))?;
+    }
+    let fails = Vec::from_slice(alloc, transcript.file_fails.as_slice())?;
+    Ok(MemoryFiles::new(files, fails))
+}
 
 /// Runs a transcript over a clock, its bytes in pieces of this size, and compares what was written
 /// and the status.
@@ -14,7 +25,14 @@ fn check_over<C: Clock>(
     let input = Vec::from_slice(alloc, transcript.input.as_slice())?;
     let fails = Vec::from_slice(alloc, transcript.fails.as_slice())?;
     let mut link = MemoryLink::new(alloc, input, piece, fails);
-    let status = run(alloc, transcript.words.as_slice(), &mut link, clock);
+    let mut files = files_of(alloc, transcript)?;
+    let status = run(
+        alloc,
+        transcript.words.as_slice(),
+        &mut link,
+        clock,
+        &mut files,
+    );
     compare(alloc, transcript, link.output(), status)
 }
 

@@ -2,8 +2,8 @@
 
 use crate::tests::NEW_TASK;
 use std::test::Fail;
+use sw_base::{MemoryFiles, MemoryLink, StepClock};
 use swarm_cli::run;
-use swarm_http::{MemoryLink, StepClock};
 
 #[test]
 fn an_input_that_is_cut_anywhere(rt: HostRuntime) -> Result<(), Fail> {
@@ -13,7 +13,9 @@ fn an_input_that_is_cut_anywhere(rt: HostRuntime) -> Result<(), Fail> {
         let input = Vec::from_slice(alloc, &NEW_TASK[..size])?;
         let mut link = MemoryLink::new(alloc, input, 100, Vec::new(alloc));
         let mut clock = StepClock { at: 1000, step: 0 };
-        assert_eq!(rt; run(alloc, &words, &mut link, &mut clock), 7);
+        let mut files = MemoryFiles::new(Vec::new(alloc), Vec::new(alloc));
+        let status = run(alloc, &words, &mut link, &mut clock, &mut files);
+        assert_eq!(rt; status, 7);
         assert_eq!(rt; link.output().len(), 0);
     }
     Ok(())

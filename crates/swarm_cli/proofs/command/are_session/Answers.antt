@@ -2,7 +2,7 @@ use Rattle.std.proofs.Common.{◌≡◌, List, ℕ, sym, ap, ◌∙◌, [], ◌�
 use Rattle.std.specs.Prelude.{codes, string_bytes}
 use Rattle.std.proofs.lemmas.Slice.Eq.{bytes_eq-Decides}
 use Rattle.swarm_cli.proofs.Words.{one_word}
-use Rattle.swarm_cli.proofs.program.are_session.Goals as goal
+use Rattle.swarm_cli.proofs.command.are_session.Goals as goal
 
 pub returns-in-len1 : goal.returns-in-len1
 returns-in-len1 c =

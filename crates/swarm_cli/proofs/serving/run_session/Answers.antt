@@ -1,0 +1,9 @@
+use Rattle.swarm_cli.proofs.Sessions.{session_ran, nothing_began}
+use Rattle.swarm_cli.proofs.serving.run_session.Goals as goal
+
+pub returns-in_default : goal.returns-in_default
+returns-in_default g c =
+    nothing_began c.args.settings.now (g.L.Link.state c.args.console.now) (g.C.Clock.ahead c.args.clock.now) c.exit_status.result c.requires.clean c.exit_status.ensures
+
+pub returns : goal.returns
+returns g c = session_ran c.in-Ok.ensures c.session-ended.ensures.answered c.exit_status-2.ensures

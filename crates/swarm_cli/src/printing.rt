@@ -1,0 +1,35 @@
+//! The lines that the program prints.
+ghost use Rattle.std.specs.Prelude.{◌≡◌, ℕ, IfOk, List, Option, string_bytes};
+ghost use Rattle.sw_base.specs.Link.{IsClean};
+ghost use Rattle.swarm_cli.specs.Run.{Prints};
+ghost use Rattle.swarm_cli.specs.SettingsFile.{Refuses, settings_line as spec_settings_line};
+
+use std::alloc::{AllocError, Global};
+use swarm_http::{Link, send_flushed};
+
+/// Prints a text, and answers the status: this one, or 4 where a write or the flush failed.
+pub(crate) fn print<L: Link>(console: &mut L, text: &[u8], status: u8) -> u8
+    ensures { Prints text.now status (L.state console.old) (L.state console.new) result }
+{
+    match send_flushed(console, text) {
+        Ok(()) => status,
+        Err(_) => 4,
+    }
+}
+
+fn settings_line(alloc: Global, place: &str, rule: &str) -> Result<String, AllocError>
+    ensures { IfOk result (λ line. string_bytes line ≡ spec_settings_line place.now rule.now) }
+{
+    format!(in alloc; "settings {place} {rule}\n")
+}
+
+/// Prints what is wrong with the settings, and where.
+pub(crate) fn print_refusal<L: Link>(alloc: Global, console: &mut L, place: &str, rule: &str) -> u8
+    ensures { (clock : ℕ → Option (List ℕ)) →
+        Refuses (spec_settings_line place.now rule.now) (L.state console.old) (L.state console.new) clock clock result }
+{
+    match settings_line(alloc, place, rule) {
+        Ok(line) => print(console, line.as_bytes(), 3),
+        Err(_) => 5,
+    }
+}

@@ -1,0 +1,66 @@
+//! The permission that a request needs before its pool is asked.
+ghost use Rattle.std.specs.Prelude.{◌≡◌, ◌<◌, Err, IfErr, Ok, OnOk, length};
+ghost use Rattle.swarm_model.specs.declared.rule.Rule.TheVariants as Rule;
+ghost use Rattle.swarm_http.specs.Permissions.{permission_of as spec_permission_of, permitted};
+ghost use Rattle.swarm_http.specs.Steps.{IsRejection};
+
+use crate::reply::{Refusal, ReplyBytes, denied_refusal};
+use dimensions::Text;
+use permissions::allowed;
+use std::alloc::Global;
+use swarm_model::{Permission, Request, Settings};
+use swarm_wire::Asked;
+
+/// The permission without which the pool of a request is not asked. Whether a caller may cancel a
+/// task or see its result, the pool itself decides: the task's creator needs no permission.
+pub fn permission_of(request: &Request) -> Option<Permission>
+    ensures { result ≡ spec_permission_of request.now }
+{
+    match request {
+        Request::New(_) => Some(Permission::CreateTask),
+        Request::Count { .. } => Some(Permission::ListTasks),
+        Request::Handshake { .. }
+        | Request::Poll { .. }
+        | Request::Claim { .. }
+        | Request::Event { .. }
+        | Request::Update { .. } => Some(Permission::RunBot),
+        Request::Terminate { .. } => Some(Permission::TerminateBot),
+        Request::Cancel { .. } | Request::Result { .. } => None,
+    }
+}
+
+fn denied(alloc: Global, permission: Permission, pool: &Text) -> ReplyBytes
+    ensures { IsRejection result (Err (Rule.Denied permission pool.now)) }
+{
+    match denied_refusal(alloc, permission, pool) {
+        Ok(shown) => shown,
+        Err(_) => ReplyBytes::Refused(Refusal::WantOfMemory),
+    }
+}
+
+/// Checks that the pool of a request gives the caller the permission that the request needs.
+///
+/// # Errors
+///
+/// The reply of the refusal, or that for want of memory.
+pub fn check_permission(
+    alloc: Global,
+    settings: &Settings,
+    who: &Text,
+    asked: &Asked,
+) -> Result<(), ReplyBytes>
+    requires place { asked.now.place < length settings.now.pools }
+    ensures permitted { OnOk result (permitted settings.now who.now asked.now ≡ Ok asked.now) }
+    ensures denied { IfErr result (λ shown. IsRejection shown (permitted settings.now who.now asked.now)) }
+{
+    let Some(permission) = permission_of(&asked.request) else {
+        return Ok(());
+    };
+    let place = asked.place as usize;
+    let pool = &settings.pools.as_slice()[place];
+    if allowed(pool, who, permission) {
+        Ok(())
+    } else {
+        Err(denied(alloc, permission, &pool.name))
+    }
+}
