@@ -15,7 +15,8 @@ crates/swarm/out/logs.
 
 The processors are shared out among the crates that are ready: one alone gets them all, of two each
 gets half, and of more the one with the longest chain above it gets all but one and each other one
-process, at a lower priority. One process proves a crate with less work in all than several do.
+process, at a lower priority. One process proves a crate with less work in all than several do. A
+chain is as long as the proofs of its crates took by the table of docs/gate-times.md.
 """
 import fcntl
 import hashlib
@@ -35,6 +36,10 @@ BUILT = f"{OUT}/{PROGRAM}"
 LIBRARIES = f"{OUT}/rlib"
 LOGS = f"{OUT}/logs"
 PARTS = ("src", "specs", "proofs")
+# The table with the minutes that each crate's proof took when it was measured.
+TIMES = f"{ROOT}/docs/gate-times.md"
+# What a crate that the table lacks is taken for.
+LINES_A_MINUTE = 1000
 # Processes for each crate, at most.
 MOST_JOBS = 4
 # Seconds between two lines on how far it is, where nothing ends.
@@ -81,7 +86,7 @@ class Crate:
         # The libraries of the repository below it, each after those that it uses.
         self.below = []
         self.rlib, self.stamp, self.log = f"{LIBRARIES}/{name}.rlib", f"{LIBRARIES}/{name}.sum", f"{LOGS}/{name}.log"
-        self.weight = self.chain = 0
+        self.lines = self.weight = self.chain = 0
         self.jobs, self.process, self.status, self.began, self.sum, self.was_killed = 0, None, None, 0, None, False
 
     def is_program(self):
@@ -187,11 +192,13 @@ def is_newer(crates, than):
 
 
 def weigh(crates):
-    """Gives each crate its lines and those of the longest chain from it up to the program."""
+    """Gives each crate its lines, the minutes that its proof takes, and those of the longest chain from it up to the program."""
+    minutes = dict(re.findall(r"^\| `(\w+)` \| \d+ \| \d+ \| ([\d.]+) \|", text_of(TIMES) or "", re.M))
     for crate in crates:
         for file in crate.files():
             with open(file, "rb") as it:
-                crate.weight += it.read().count(b"\n")
+                crate.lines += it.read().count(b"\n")
+        crate.weight = float(minutes.get(crate.name, crate.lines / LINES_A_MINUTE))
     for crate in reversed(crates):
         crate.chain = crate.weight + max([it.chain for it in crates if crate in it.below], default=0)
 
@@ -220,7 +227,7 @@ def free_memory():
 
 def memory_of(crate, jobs):
     """The most memory that the check of a crate is planned to take, in bytes."""
-    return 1_200_000_000 + 250_000 * crate.weight + 500_000_000 * (jobs - 1)
+    return 1_200_000_000 + 250_000 * crate.lines + 500_000_000 * (jobs - 1)
 
 
 class Builder:
@@ -287,7 +294,7 @@ class Builder:
             while jobs > 1 and (crate.was_killed or memory_of(crate, jobs) > room):
                 jobs -= 1
             held = sum(it.jobs for it in self.running)
-            if self.running and (held + jobs > self.processors + 1 or memory_of(crate, jobs) > room or crate.was_killed or self.running[0].was_killed):
+            if self.running and (held + jobs > self.processors + 2 or memory_of(crate, jobs) > room or crate.was_killed or self.running[0].was_killed):
                 break
             self.left.remove(crate)
             self.running.append(crate)
