@@ -176,13 +176,13 @@ def settings_with(grants):
 def measure_grants(program):
     """Settings of more and more grants: reading them, and a call that the last one permits."""
     best = {}
-    for grants in (1, 8, 256):
+    for grants in (8, 256):
         with tempfile.NamedTemporaryFile("w", suffix=".toml") as file:
             file.write(settings_with(grants))
             file.flush()
             words = ("session", "--settings", file.name)
             for name, parts, count, times in (
-                ("reading settings, %d grants a pool" % grants, [], 0, 20),
+                ("reading settings, %d grants a pool" % grants, [], 0, 100),
                 ("CountTasks, the last of %d grants" % grants, [(request(b"CountTasks", COUNT), 65000)], 65000, 1),
             ):
                 fastest = None
@@ -197,9 +197,7 @@ def measure_grants(program):
                 best[grants, count] = fastest
                 show(name, count or 1, fastest, memory)
     for name, count in (("reading settings", 0), ("CountTasks", 65000)):
-        one, few, many = (best[it, count] for it in (1, 8, 256))
-        print("%-42s 256 grants take %.1f times as long as 8" % (name, many / few), flush=True)
-        print("%-42s beyond 1 grant: %.6f s for 7 more, %.6f s for 255 more" % (name, few - one, many - one), flush=True)
+        print("%-42s 256 grants take %.1f times as long as 8" % (name, best[256, count] / best[8, count]), flush=True)
 
 
 def compare(before, program):
