@@ -17,6 +17,10 @@ The lines on grants are about settings of four pools with so many grants each: r
 request behind, and a caller who counts tasks and whom the last grant permits that. Each has the best
 of five runs. Beside them stands how many times as long 256 grants take as 8.
 
+The lines on pages are about ListTasks among more and more tasks, one request after the other on one
+connection, with the replies read: beside them stands how many times as long a page takes among ten
+times as many tasks.
+
 The lines on settling are about one CountTasks, on a connection that was held open until the slices
 of so many tasks had run out: the deadlines that it settles, the seconds from writing it to its
 reply, deadlines per second, microseconds a deadline, and the memory.
@@ -51,6 +55,8 @@ PERMISSIONS = (
 )
 # Longer than the requests of a run take, so that no NewTask settles anything.
 SLICE_SECS = 5
+# How often a page is asked for.
+PAGES = 300
 
 
 def request(call, body):
@@ -119,17 +125,21 @@ def read_reply(told):
     return status, front, told.read(size)
 
 
+def check_status(name, status, told_front, front):
+    """A reply must be good and have this front."""
+    if status != b"HTTP/1.1 200 OK\r\n" or told_front != front:
+        sys.exit("%s: %r with front %s, where %d is right" % (name, status, told_front, front))
+
+
 def check_reply(name, told, front):
     """The body of the next reply, which must be good and have this front."""
     status, told_front, body = read_reply(told)
-    if status != b"HTTP/1.1 200 OK\r\n" or told_front != front:
-        sys.exit("%s: %r with front %s, where %d is right" % (name, status, told_front, front))
+    check_status(name, status, told_front, front)
     return json.loads(body)
 
 
-def measure_settling(program, rows):
-    name = "settling %d deadlines" % rows
-    task = NEW_TASK.replace(b":600,", b":%d," % SLICE_SECS)
+def open_session(program, name, task, rows):
+    """A session that has answered so many of this NewTask."""
     child = subprocess.Popen([program, "session"], stdin=subprocess.PIPE, stdout=subprocess.PIPE)
     asked = request(b"NewTask", task) * rows
     writer = threading.Thread(target=lambda: (child.stdin.write(asked), child.stdin.flush()))
@@ -137,6 +147,23 @@ def measure_settling(program, rows):
     for row in range(rows):
         check_reply(name, child.stdout, row + 1)
     writer.join()
+    return child
+
+
+def close_session(program, child):
+    """The greatest memory in MiB of a session that has answered all, once it has ended well."""
+    child.stdin.close()
+    rest = child.stdout.read()
+    _, status, usage = os.wait4(child.pid, 0)
+    child.returncode = os.waitstatus_to_exitcode(status)
+    if child.returncode != 0 or rest:
+        sys.exit("%s ended with status %d and %r" % (program, child.returncode, rest))
+    return usage.ru_maxrss / 1024
+
+
+def measure_settling(program, rows):
+    name = "settling %d deadlines" % rows
+    child = open_session(program, name, NEW_TASK.replace(b":600,", b":%d," % SLICE_SECS), rows)
     # The program's moments are whole seconds, so no deadline is later than this.
     time.sleep(SLICE_SECS + 0.1)
     begun = time.monotonic()
@@ -146,13 +173,40 @@ def measure_settling(program, rows):
     seconds = time.monotonic() - begun
     if counted != {"count": rows}:
         sys.exit("%s: %s" % (name, counted))
-    child.stdin.close()
-    rest = child.stdout.read()
-    _, status, usage = os.wait4(child.pid, 0)
-    child.returncode = os.waitstatus_to_exitcode(status)
-    if child.returncode != 0 or rest:
-        sys.exit("%s ended with status %d and %r" % (program, child.returncode, rest))
-    show(name, rows, seconds, usage.ru_maxrss / 1024)
+    show(name, rows, seconds, close_session(program, child))
+
+
+def measure_pages(program):
+    """ListTasks of 200 among more and more tasks, the newest and the oldest; CountTasks looks at each row, too."""
+    last = {}
+    for rows in (650, 6500, 65000):
+        child = open_session(program, "tasks to list", NEW_TASK.replace(b":600,", b":604800,"), rows)
+        took = []
+        for name, call, body, items in (
+            ("CountTasks", b"CountTasks", COUNT, None),
+            ("ListTasks of the newest 200", b"ListTasks", b'{"pool":"default","limit":200}', 200),
+            ("ListTasks of the oldest 200", b"ListTasks", b'{"pool":"default","limit":200,"cursor":201}', 200),
+            ("ListTasks in a state of no task", b"ListTasks", b'{"pool":"default","state":"KILLED"}', 0),
+        ):
+            name = "%s among %d" % (name, rows)
+            replies = []
+            begun = time.monotonic()
+            for _ in range(PAGES):
+                child.stdin.write(request(call, body))
+                child.stdin.flush()
+                replies.append(read_reply(child.stdout))
+            took.append((name, time.monotonic() - begun))
+            for status, front, told in replies:
+                check_status(name, status, front, rows)
+                if items is not None and len(json.loads(told)["items"]) != items:
+                    sys.exit("%s: %r" % (name, told))
+        memory = close_session(program, child)
+        for name, seconds in took:
+            show(name, PAGES, seconds, memory)
+            kind = name[: name.index(" among")]
+            if kind in last:
+                print("%-42s %.1f times as long among 10 times as many" % (kind, seconds / last[kind]), flush=True)
+            last[kind] = seconds
 
 
 def show(name, count, seconds, memory):
@@ -251,6 +305,7 @@ def main():
     measure(program, "GetResult of the first of 500", 500, request(b"GetResult", b'{"task_id":"10"}'), 65000)
     measure(program, "GetResult of the last of 500", 500, request(b"GetResult", b'{"task_id":"1f40"}'), 65000)
     measure_grants(program)
+    measure_pages(program)
     for rows in (1000, 5000, 10000):
         measure_settling(program, rows)
 

@@ -1,5 +1,5 @@
--- Which requests of bots fit the pools of their names.
-use Rattle.std.proofs.Common.{◌≡◌, ℕ, ◌≤◌, true, List, length, ◌∙◌, sym, le-leb}
+-- Which requests of bots and on bots fit the pools of their names.
+use Rattle.std.proofs.Common.{◌≡◌, ℕ, ◌≤◌, true, ◌||◌, List, length, ◌∙◌, sym, le-leb}
 use Rattle.std.specs.Prelude.{IsTrue}
 use Rattle.std.proofs.lemmas.Bool.{and_from}
 use Rattle.dimensions.specs.Alike.{same, same_laws}
@@ -7,7 +7,8 @@ use Rattle.dimensions.specs.BotRules.{are_bot_checked, pool_of_bot}
 use Rattle.dimensions.specs.declared.bot_dims.BotDims.{BotDims}
 use Rattle.swarm_model.specs.declared.pool_settings.PoolSettings.{PoolSettings}
 use Rattle.swarm_model.specs.declared.request.Request.TheVariants as ask
-use Rattle.swarm_model.specs.Fits.{fits_bot, fits_message, is_name}
+use Rattle.task_props.specs.Checked.{is_empty}
+use Rattle.swarm_model.specs.Fits.{fits_bot, fits_message, is_limit, is_name}
 use Rattle.swarm_model.specs.declared.entry.EventKind.{EventKind}
 use Rattle.bot_bodies.specs.BotCalls.{FitsNamed}
 
@@ -32,3 +33,9 @@ event_fits pool bot message kind named fitting = λ _ _. and_from _ _ named fitt
 
 pub terminate_fits : (pool bot : List ℕ) → is_name bot ≡ true → FitsNamed (record { pool = pool; request = ask.Terminate bot })
 terminate_fits pool bot named = λ _ _. named
+
+pub get_bot_fits : (pool bot : List ℕ) → is_name bot ≡ true → FitsNamed (record { pool = pool; request = ask.Bot bot })
+get_bot_fits pool bot named = λ _ _. named
+
+pub list_bots_fits : (pool after : List ℕ) (limit : ℕ) → is_limit limit ≡ true → (is_empty after || is_name after) ≡ true → FitsNamed (record { pool = pool; request = ask.Bots limit after })
+list_bots_fits pool after limit within named = λ _ _. and_from _ _ within named

@@ -1,4 +1,4 @@
--- The bodies of the calls of bots: all fields are read before the other rules are tried.
+-- The bodies of the calls of bots and on bots: all fields are read before the other rules are tried.
 use Rattle.std.specs.Prelude.{IsTrue, Result, Ok, codes}
 use Rattle.serde_json.specs.Data.{Data}
 use Rattle.dimensions.specs.Alike.{same}
@@ -9,8 +9,9 @@ use Rattle.swarm_model.specs.declared.request.Request.TheVariants as ask
 use Rattle.swarm_model.specs.Fits.{fits}
 use Rattle.bot_bodies.specs.declared.pool_request.PoolRequest.{PoolRequest}
 use Rattle.json_fields.specs.Readings.{at, ◌>>=◌}
-use Rattle.json_fields.specs.Fields.{text_at, required_text_at}
-use Rattle.bot_bodies.specs.Names.{name_at}
+use Rattle.json_fields.specs.Fields.{text_at, required_text_at, number_at}
+use Rattle.json_fields.specs.Pages.{limit_of}
+use Rattle.bot_bodies.specs.Names.{name_at, optional_name_at}
 use Rattle.bot_bodies.specs.BotFields.{bot_info_in, bot_info_by, event_of, message_of}
 
 -- a bot comes to the pool of its dimensions
@@ -59,6 +60,24 @@ terminate_in d = do
   name ← required_text_at (codes "bot_id") d
   bot ← name_at (codes "bot_id") name
   Ok (record { pool = pool; request = ask.Terminate bot })
+
+-- what is known of a bot
+unfoldable pub get_bot_in : Data → Result PoolRequest PropFault
+get_bot_in d = do
+  pool ← required_text_at (codes "pool") d
+  name ← required_text_at (codes "bot_id") d
+  bot ← name_at (codes "bot_id") name
+  Ok (record { pool = pool; request = ask.Bot bot })
+
+-- a page of the bots of a pool, from the name that the last page ended with
+unfoldable pub list_bots_in : Data → Result PoolRequest PropFault
+list_bots_in d = do
+  pool ← required_text_at (codes "pool") d
+  number ← number_at (codes "limit") d
+  text ← text_at (codes "cursor") d
+  limit ← limit_of number
+  after ← optional_name_at (codes "cursor") text
+  Ok (record { pool = pool; request = ask.Bots limit after })
 
 -- a pool of its name may be asked it
 abbrev pub FitsNamed : PoolRequest → Type 0

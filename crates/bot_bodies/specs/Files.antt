@@ -13,7 +13,7 @@ use Rattle.json_fields.specs.Readings.{at, inside, each_from, ◌>>=◌}
 use Rattle.json_fields.specs.Fields.{text_at, required_text_at, number_at, object_item, items_at}
 use Rattle.bot_bodies.specs.declared.files.RawFile.{RawFile}
 use Rattle.json_fields.specs.Ids.{is_hex_digit}
-use Rattle.bot_bodies.specs.Ranges.{whole_at}
+use Rattle.json_fields.specs.Ranges.{whole_at}
 
 -- ---- fields
 
@@ -50,7 +50,7 @@ unfoldable pub file_of : RawFile → Result File PropFault
 file_of raw = do
   path ← at (codes "path") (path_of raw.path)
   digest ← at (codes "digest") (digest_of raw.digest)
-  size ← whole_at (codes "size") 16777216 raw.size
+  size ← whole_at (codes "size") 0 16777216 raw.size
   Ok (record { path = path; digest = digest; size = size })
 
 abbrev pub file_at : ℕ → RawFile → Result File PropFault

@@ -1,5 +1,5 @@
 pub mod Names
-pub mod Ranges
+pub mod ExitCodes
 pub mod BotFields
 pub mod BotCalls
 pub mod Outputs

@@ -10,7 +10,7 @@ use Rattle.task_props.specs.declared.prop_fault.PropFault.{PropFault}
 use Rattle.json_fields.specs.Readings.{at, ◌>>=◌}
 use Rattle.json_fields.specs.Fields.{text_at, number_at}
 use Rattle.bot_bodies.specs.declared.outputs.RawOutput.{RawOutput}
-use Rattle.bot_bodies.specs.Ranges.{whole_to}
+use Rattle.json_fields.specs.Ranges.{whole_in}
 
 unfoldable pub raw_output_in : Data → Result RawOutput PropFault
 raw_output_in d = do
@@ -28,7 +28,7 @@ bytes_of text = few_bytes (decode_of standard text)
 
 -- where the piece begins: it ends within 67108864 bytes; an empty one is none, and begins anywhere
 unfoldable pub start_of : List ℕ → ℤ → Result ℕ PropRule
-start_of bytes start = if length bytes == 0 then Ok 0 else whole_to (67108864 - length bytes) start
+start_of bytes start = if length bytes == 0 then Ok 0 else whole_in 0 (67108864 - length bytes) start
 
 unfoldable pub output_of : RawOutput → Result (List ℕ) PropFault
 output_of raw = do

@@ -13,9 +13,10 @@ use Rattle.bot_bodies.specs.declared.reports.RawEnd.{RawEnd}
 use Rattle.bot_bodies.specs.declared.reports.RawReport.{RawReport}
 use Rattle.bot_bodies.specs.declared.reports.End.{End}
 use Rattle.bot_bodies.specs.declared.reports.Report.{Report}
+use Rattle.json_fields.specs.Ranges.{whole_at}
 use Rattle.json_fields.specs.Ids.{run_of, task_of_id, try_of_id}
 use Rattle.bot_bodies.specs.Names.{name_at}
-use Rattle.bot_bodies.specs.Ranges.{whole_at, code_of}
+use Rattle.bot_bodies.specs.ExitCodes.{code_of}
 use Rattle.bot_bodies.specs.Outputs.{raw_output_in, output_of}
 use Rattle.bot_bodies.specs.Files.{files_in, files_of}
 
@@ -51,8 +52,8 @@ raw_report_in d = do
 unfoldable pub end_of : RawEnd → Result End PropFault
 end_of raw = do
   code ← at (codes "exit_code") (code_of raw.exit.exit_code)
-  duration ← whole_at (codes "duration_ms") (2 ^ 40) raw.exit.duration_ms
-  dropped ← whole_at (codes "dropped") (2 ^ 53) raw.dropped
+  duration ← whole_at (codes "duration_ms") 0 (2 ^ 40) raw.exit.duration_ms
+  dropped ← whole_at (codes "dropped") 0 (2 ^ 53) raw.dropped
   files ← files_of raw.files
   Ok (record { exit_code = code; duration_ms = duration; hard_timeout = raw.exit.hard_timeout; io_timeout = raw.exit.io_timeout; dropped = dropped; files = files })
 

@@ -1,14 +1,14 @@
-//! The bodies of the calls of bots.
+//! The bodies of the calls of bots and on bots.
 ghost use Rattle.std.specs.Prelude.{◌≡◌, IfOk};
 ghost use Rattle.serde_json.specs.View.{view};
 ghost use Rattle.json_fields.specs.Readings.{Reads};
-ghost use Rattle.bot_bodies.specs.BotCalls.{handshake_in, poll_in, claim_in, event_in, terminate_in, FitsNamed};
+ghost use Rattle.bot_bodies.specs.BotCalls.{handshake_in, poll_in, claim_in, event_in, terminate_in, get_bot_in, list_bots_in, FitsNamed};
 
 use crate::PoolRequest;
 use crate::bot_fields::{check_bot_info, read_bot_info, read_event, read_message};
-use crate::names::read_name;
+use crate::names::{read_name, read_optional_name};
 use dimensions::Text;
-use json_fields::{read_required_text, read_text};
+use json_fields::{read_limit, read_number, read_required_text, read_text};
 use serde_json::Value;
 use std::alloc::Global;
 use swarm_model::Request;
@@ -100,5 +100,35 @@ pub fn read_terminate(alloc: Global, body: &Value) -> Result<PoolRequest, PropFa
     let bot = read_name(alloc, "bot_id", name)?;
     let pool = Text::from_str(alloc, pool)?;
     let request = Request::Terminate { bot };
+    Ok(PoolRequest { pool, request })
+}
+
+/// What is known of a bot.
+#[tactic(auto, using(crate::proofs::Fitting::get_bot_fits), unfolding(crate::specs::BotCalls::get_bot_in))]
+pub fn read_get_bot(alloc: Global, body: &Value) -> Result<PoolRequest, PropFault>
+    ensures exact { Reads result (get_bot_in (view body.now)) }
+    ensures fits { IfOk result FitsNamed }
+{
+    let pool = read_required_text(alloc, body, "pool")?;
+    let name = read_required_text(alloc, body, "bot_id")?;
+    let bot = read_name(alloc, "bot_id", name)?;
+    let pool = Text::from_str(alloc, pool)?;
+    let request = Request::Bot { bot };
+    Ok(PoolRequest { pool, request })
+}
+
+/// A page of the bots of a pool.
+#[tactic(auto, using(crate::proofs::Fitting::list_bots_fits), unfolding(crate::specs::BotCalls::list_bots_in))]
+pub fn read_list_bots(alloc: Global, body: &Value) -> Result<PoolRequest, PropFault>
+    ensures exact { Reads result (list_bots_in (view body.now)) }
+    ensures fits { IfOk result FitsNamed }
+{
+    let pool = read_required_text(alloc, body, "pool")?;
+    let number = read_number(alloc, body, "limit")?;
+    let text = read_text(alloc, body, "cursor")?;
+    let limit = read_limit(alloc, number)?;
+    let after = read_optional_name(alloc, "cursor", text.as_str())?;
+    let pool = Text::from_str(alloc, pool)?;
+    let request = Request::Bots { limit, after };
     Ok(PoolRequest { pool, request })
 }

@@ -4,12 +4,11 @@ ghost use Rattle.serde_json.specs.View.{view};
 ghost use Rattle.json_fields.specs.Readings.{Gives, Reads, at, each_from};
 ghost use Rattle.bot_bodies.specs.Files.{file_in, files_in, path_of, digest_of as spec_digest_of, file_of, file_at, files_of};
 
-use crate::ranges::read_whole;
 use dimensions::{Seq, Text};
 use hex::FromHex;
 use json_fields::{
     ReadFields, are_hex_digits, below, below_place, broken, read_number, read_optional_objects,
-    read_required_text, read_text,
+    read_required_text, read_text, read_whole,
 };
 use serde_json::Value;
 use std::alloc::Global;
@@ -86,7 +85,7 @@ fn read_file(alloc: Global, raw: &RawFile) -> Result<File, PropFault>
 {
     let path = read_path(alloc, raw.path.as_str())?;
     let digest = read_digest(alloc, raw.digest.as_str())?;
-    let size = read_whole(alloc, "size", 16_777_216, raw.size)?;
+    let size = read_whole(alloc, "size", 0, 16_777_216, raw.size)?;
     Ok(File {
         path,
         digest,

@@ -1,10 +1,11 @@
 //! The names of bots, of their sessions and of their claims.
-ghost use Rattle.std.specs.Prelude.{◌≡◌, IfOk, true};
+ghost use Rattle.std.specs.Prelude.{◌≡◌, ◌||◌, IfOk, true};
 ghost use Rattle.std.specs.List.{list_all};
 ghost use Rattle.dimensions.specs.Rules.{is_key_byte};
+ghost use Rattle.task_props.specs.Checked.{is_empty};
 ghost use Rattle.swarm_model.specs.Fits.{is_name};
 ghost use Rattle.json_fields.specs.Readings.{Gives, Reads};
-ghost use Rattle.bot_bodies.specs.Names.{name_of as spec_name_of, name_at};
+ghost use Rattle.bot_bodies.specs.Names.{name_of as spec_name_of, name_at, optional_name_at};
 
 use dimensions::Text;
 use json_fields::broken;
@@ -50,4 +51,16 @@ pub(crate) fn read_name(alloc: Global, key: &str, text: &str) -> Result<Text, Pr
         Ok(name) => Ok(Text::from_str(alloc, name)?),
         Err(rule) => Err(broken(alloc, key, rule)),
     }
+}
+
+/// The same of a text that may be empty, which is no name.
+#[tactic(auto, unfolding(crate::specs::Names::optional_name_at))]
+pub(crate) fn read_optional_name(alloc: Global, key: &str, text: &str) -> Result<Text, PropFault>
+    ensures exact { Reads result (optional_name_at key.now text.now) }
+    ensures named { IfOk result (λ name. (is_empty name || is_name name) ≡ true) }
+{
+    if text.is_empty() {
+        return Ok(Text::new(alloc));
+    }
+    read_name(alloc, key, text)
 }

@@ -4,11 +4,10 @@ ghost use Rattle.serde_json.specs.View.{view};
 ghost use Rattle.json_fields.specs.Readings.{GivesUnlessMemory, Reads, at};
 ghost use Rattle.bot_bodies.specs.Outputs.{raw_output_in, bytes_of, start_of, output_of};
 
-use crate::ranges::read_whole;
 use base64::DecodeAllocError;
 use base64::engine::general_purpose::STANDARD;
 use dimensions::{Seq, Text};
-use json_fields::{broken, read_number, read_text};
+use json_fields::{broken, read_number, read_text, read_whole};
 use serde_json::Value;
 use std::alloc::Global;
 use task_props::{PropFault, PropRule};
@@ -57,7 +56,7 @@ fn read_start(alloc: Global, bytes: &[u8], start: i128) -> Result<u64, PropFault
         return Ok(0);
     }
     let highest = 67_108_864 - bytes.len() as u64;
-    read_whole(alloc, "output_chunk_start", highest, start)
+    read_whole(alloc, "output_chunk_start", 0, highest, start)
 }
 
 /// The bytes of a piece, checked.

@@ -5,16 +5,16 @@ ghost use Rattle.serde_json.specs.View.{view};
 ghost use Rattle.json_fields.specs.Readings.{Reads, at};
 ghost use Rattle.json_fields.specs.Fields.{required_text_at};
 ghost use Rattle.swarm_model.specs.Fits.{is_name, fits_last};
-ghost use Rattle.bot_bodies.specs.Ranges.{code_of as spec_code_of};
+ghost use Rattle.bot_bodies.specs.ExitCodes.{code_of as spec_code_of};
 ghost use Rattle.bot_bodies.specs.Reports.{raw_exit_in, raw_end_in, raw_report_in, end_of, report_of, report_in, is_bare as spec_is_bare, ending_of as spec_last_of};
 
+use crate::exit_codes::code_of;
 use crate::files::{RawFile, read_files, read_raw_files};
 use crate::names::read_name;
 use crate::outputs::{RawOutput, read_output, read_raw_output};
-use crate::ranges::{code_of, read_whole};
 use dimensions::{Seq, Text};
 use json_fields::{
-    broken, read_flag, read_number, read_optional_number, read_required_text, read_run,
+    broken, read_flag, read_number, read_optional_number, read_required_text, read_run, read_whole,
 };
 use serde_json::Value;
 use std::alloc::Global;
@@ -139,8 +139,8 @@ fn read_end(alloc: Global, raw: RawEnd) -> Result<End, PropFault>
     ensures dropped { IfOk result (λ end. end.dropped ≤ 2 ^ 53) }
 {
     let exit_code = read_code(alloc, raw.exit.exit_code)?;
-    let duration_ms = read_whole(alloc, "duration_ms", 1 << 40, raw.exit.duration_ms)?;
-    let dropped = read_whole(alloc, "dropped", 1 << 53, raw.dropped)?;
+    let duration_ms = read_whole(alloc, "duration_ms", 0, 1 << 40, raw.exit.duration_ms)?;
+    let dropped = read_whole(alloc, "dropped", 0, 1 << 53, raw.dropped)?;
     let files = read_files(alloc, raw.files.as_slice())?;
     Ok(End {
         exit_code,

@@ -9,13 +9,17 @@ use Rattle.task_props.specs.declared.prop_rule.PropRule.TheVariants.{Grammar}
 
 -- ---- shown
 
--- the task and the place of its pool as one number in lower-case hexadecimal, then 0
+-- the task and the place of its pool as one number
+abbrev pub shown_number : ℕ → ℕ → ℕ
+shown_number place task = place * 262144 + task
+
+-- that number in lower-case hexadecimal, then 0
 unfoldable pub task_id : ℕ → ℕ → List ℕ
-task_id place task = digits 16 false (place * 262144 + task) ++ codes "0"
+task_id place task = digits 16 false (shown_number place task) ++ codes "0"
 
 -- the same of a run's task, then the number of its try
 unfoldable pub run_id : ℕ → ℕ × ℕ → List ℕ
-run_id place run = digits 16 false (place * 262144 + run.0) ++ digits 16 false run.1
+run_id place run = digits 16 false (shown_number place run.0) ++ digits 16 false run.1
 
 -- ---- the parts of an id
 
@@ -24,11 +28,17 @@ abbrev pub try_of_id : ℕ → ℕ
 try_of_id id = id % 16
 
 -- the digits before it write the number of the place and the task, which is counted from 1
+abbrev pub place_of_number : ℕ → ℕ
+place_of_number number = (number - 1) / 262144
+
+abbrev pub task_of_number : ℕ → ℕ
+task_of_number number = (number - 1) % 262144 + 1
+
 abbrev pub place_of_id : ℕ → ℕ
-place_of_id id = (id / 16 - 1) / 262144
+place_of_id id = place_of_number (id / 16)
 
 abbrev pub task_of_id : ℕ → ℕ
-task_of_id id = (id / 16 - 1) % 262144 + 1
+task_of_id id = task_of_number (id / 16)
 
 -- ---- read
 

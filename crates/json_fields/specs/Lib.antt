@@ -1,4 +1,6 @@
 pub mod Readings
 pub mod Numbers
 pub mod Fields
+pub mod Ranges
+pub mod Pages
 pub mod Ids

@@ -3,15 +3,16 @@ ghost use Rattle.std.specs.Prelude.{◌≡◌, ◌≤◌, ◌<◌, ◌+◌, ◌*
 ghost use Rattle.std.specs.List.{list_all};
 ghost use Rattle.std.specs.Str.Parse.{digits_value};
 ghost use Rattle.json_fields.specs.Readings.{Gives, Reads, at};
-ghost use Rattle.json_fields.specs.Ids.{task_id as spec_task_id, run_id as spec_run_id, place_of_id as spec_place_of_id, task_of_id as spec_task_of_id, try_of_id as spec_try_of_id, is_hex_digit as spec_is_hex_digit, has_id_form as spec_has_id_form, id_of as spec_id_of, run_of as spec_run_of};
+ghost use Rattle.json_fields.specs.Ids.{shown_number as spec_shown_number, task_id as spec_task_id, run_id as spec_run_id, place_of_number as spec_place_of_number, task_of_number as spec_task_of_number, place_of_id as spec_place_of_id, task_of_id as spec_task_of_id, try_of_id as spec_try_of_id, is_hex_digit as spec_is_hex_digit, has_id_form as spec_has_id_form, id_of as spec_id_of, run_of as spec_run_of};
 
 use crate::faults::broken;
 use std::alloc::{AllocError, Global};
 use task_props::{PropFault, PropRule};
 
-fn shown_number(place: u32, task: u32) -> u64
+/// A task of the pool at a place, as one number.
+pub fn shown_number(place: u32, task: u32) -> u64
     requires { place < 4 }
-    ensures { result ≡ place * 262144 + task }
+    ensures { result ≡ spec_shown_number place task }
 {
     u64::from(place) * 262_144 + u64::from(task)
 }
@@ -126,11 +127,26 @@ pub fn read_run(alloc: Global, text: &str) -> Result<u32, PropFault>
     }
 }
 
+/// The place of the pool of the number that an id shows before its last digit.
+pub fn place_of_number(number: u32) -> u32
+    ensures { result ≡ spec_place_of_number number }
+{
+    number.saturating_sub(1) / 262_144
+}
+
+/// The task of such a number, by its number in the pool.
+pub fn task_of_number(number: u32) -> u32
+    ensures is { result ≡ spec_task_of_number number }
+    ensures within { (nat_le 1 result && nat_le result 262144) ≡ true }
+{
+    number.saturating_sub(1) % 262_144 + 1
+}
+
 /// The place of the pool of an id.
 pub fn place_of_id(id: u32) -> u32
     ensures { result ≡ spec_place_of_id id }
 {
-    (id / 16).saturating_sub(1) / 262_144
+    place_of_number(id / 16)
 }
 
 /// The task of an id, by its number in the pool.
@@ -138,7 +154,7 @@ pub fn task_of_id(id: u32) -> u32
     ensures is { result ≡ spec_task_of_id id }
     ensures within { (nat_le 1 result && nat_le result 262144) ≡ true }
 {
-    (id / 16).saturating_sub(1) % 262_144 + 1
+    task_of_number(id / 16)
 }
 
 /// The try of an id; 0 names the task itself.
@@ -148,9 +164,15 @@ pub fn try_of_id(id: u32) -> u32
     id % 16
 }
 
+/// The number of a task tells the place and the task that it was made of.
+pub fn number_tells_its_parts()
+    ensures place { (place task : ℕ) → 0 < task → task ≤ 262144 → spec_place_of_number (spec_shown_number place task) ≡ place }
+    ensures task { (place task : ℕ) → 0 < task → task ≤ 262144 → spec_task_of_number (spec_shown_number place task) ≡ task }
+{}
+
 /// The number of an id tells the place, the task and the try that it was made of.
 pub fn id_tells_its_parts()
-    ensures place { (place task try_no : ℕ) → 0 < task → task ≤ 262144 → try_no < 16 → spec_place_of_id ((place * 262144 + task) * 16 + try_no) ≡ place }
-    ensures task { (place task try_no : ℕ) → 0 < task → task ≤ 262144 → try_no < 16 → spec_task_of_id ((place * 262144 + task) * 16 + try_no) ≡ task }
-    ensures try_no { (place task try_no : ℕ) → try_no < 16 → spec_try_of_id ((place * 262144 + task) * 16 + try_no) ≡ try_no }
+    ensures place { (place task try_no : ℕ) → 0 < task → task ≤ 262144 → try_no < 16 → spec_place_of_id (spec_shown_number place task * 16 + try_no) ≡ place }
+    ensures task { (place task try_no : ℕ) → 0 < task → task ≤ 262144 → try_no < 16 → spec_task_of_id (spec_shown_number place task * 16 + try_no) ≡ task }
+    ensures try_no { (place task try_no : ℕ) → try_no < 16 → spec_try_of_id (spec_shown_number place task * 16 + try_no) ≡ try_no }
 {}

@@ -13,10 +13,13 @@
 //!
 //! The ids of tasks and of their runs are shown by [`task_id`] and [`run_id`] and read by
 //! [`read_id`] and [`read_run`], and [`id_tells_its_parts`] is the law by which the number of an id
-//! tells the place, the task and the try that it was made of (`specs/Ids.antt`).
+//! tells the place, the task and the try that it was made of (`specs/Ids.antt`). The number of the
+//! place and the task alone has the law [`number_tells_its_parts`].
 //!
-//! What a field may hold beyond its type is no matter of this crate. It stands on the rules of
-//! `task_props`, on the texts and lists of `dimensions`, and on `serde_json`.
+//! Of what a field may hold beyond its type, this crate has what the bodies of clients and of bots
+//! share: [`read_whole`], for a number within a range (`specs/Ranges.antt`), and [`read_limit`], for
+//! how many rows a page shows (`specs/Pages.antt`). It stands on the rules of `task_props`, on the
+//! texts and lists of `dimensions`, and on `serde_json`.
 #![tactic(auto)]
 
 mod body;
@@ -26,6 +29,8 @@ mod ids;
 mod keys;
 mod lists;
 mod numbers;
+mod pages;
+mod ranges;
 
 pub use body::read_body;
 pub use faults::{below, below_place, broken, broken_at};
@@ -34,8 +39,10 @@ pub use fields::{
     read_required_text, read_text, values_of,
 };
 pub use ids::{
-    are_hex_digits, id_tells_its_parts, place_of_id, read_id, read_run, run_id, task_id,
-    task_of_id, try_of_id,
+    are_hex_digits, id_tells_its_parts, number_tells_its_parts, place_of_id, place_of_number,
+    read_id, read_run, run_id, shown_number, task_id, task_of_id, task_of_number, try_of_id,
 };
 pub use keys::unknown_key;
 pub use lists::{ReadFields, read_objects, read_optional_objects, read_optional_texts, read_texts};
+pub use pages::read_limit;
+pub use ranges::read_whole;

@@ -4,7 +4,7 @@ ghost use Rattle.std.specs.Option.{option_map};
 ghost use Rattle.swarm_model.specs.declared.request.Request.TheVariants as ask;
 ghost use Rattle.swarm_model.specs.declared.reply.Reply.TheVariants as reply;
 ghost use Rattle.swarm_model.specs.declared.rule.Rule.TheVariants as rule;
-ghost use Rattle.swarm_model.specs.declared.pool_settings.Permission.TheVariants as permission;
+ghost use Rattle.swarm_model.specs.declared.permission.Permission.TheVariants as permission;
 ghost use Rattle.swarm_model.specs.declared.task_state.TaskState.TheVariants.{Pending, Running, TimedOut, BotDied, Canceled, Completed, Killed};
 ghost use Rattle.swarm_model.specs.Examples.{small_task, exits};
 ghost use Rattle.model_examples.specs.BotExamples.{script, greets, polls, claims, comes_to};

@@ -1,7 +1,8 @@
 ghost use Rattle.std.specs.Prelude.{◌≡◌, codes, ◌||◌};
 ghost use Rattle.std.specs.List.{list_any};
 ghost use Rattle.dimensions.specs.Alike.{same};
-ghost use Rattle.swarm_model.specs.Settings.{is_permission, gives, permits};
+ghost use Rattle.swarm_model.specs.Permissions.{is_permission};
+ghost use Rattle.swarm_model.specs.Settings.{gives, permits};
 
 use dimensions::Text;
 use swarm_model::{Grant, Permission, PoolSettings};

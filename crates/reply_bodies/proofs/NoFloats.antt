@@ -7,15 +7,17 @@ use Rattle.serde_json.specs.Written.{has_float, items_have_float, members_have_f
 use Rattle.task_props.specs.declared.file.File.{File}
 use Rattle.task_props.specs.declared.properties.Properties.{Properties}
 use Rattle.swarm_model.specs.declared.task_view.TaskView.{TaskView}
+use Rattle.swarm_model.specs.declared.bot_view.BotView.{BotView}
 use Rattle.swarm_model.specs.declared.rule.Rule.{Rule}
 use Rattle.swarm_model.specs.declared.rule.Rule.TheVariants as rule
 use Rattle.swarm_model.specs.declared.reply.Reply.{Reply}
 use Rattle.swarm_model.specs.declared.reply.Reply.TheVariants as reply
 use Rattle.json_values.specs.Values.{whole, signed, or_null}
-use Rattle.reply_bodies.specs.Views.{file_data, run_data, last_members, task_members}
-use Rattle.reply_bodies.specs.Commands.{pair_data, cache_data, last_properties, properties_members, run_members}
+use Rattle.reply_bodies.specs.Items.{pair_data, bot_pair_data, cache_data, file_data}
+use Rattle.reply_bodies.specs.Views.{run_data, last_members, task_members, task_data, bot_members, bot_data}
+use Rattle.reply_bodies.specs.Commands.{last_properties, properties_members, run_members}
 use Rattle.reply_bodies.specs.Refusals.{refusal_members}
-use Rattle.reply_bodies.specs.Bodies.{reply_members}
+use Rattle.reply_bodies.specs.Bodies.{number_data, reply_members}
 
 refusal_is_plain : (place : ℕ) (why : Rule) → members_have_float (refusal_members place why) ≡ false
 refusal_is_plain place rule.BadHead = refl
@@ -79,6 +81,20 @@ task_is_plain place task =
       last_are_plain place task,
     ) refl
 
+tasks_are_plain : (place : ℕ) (tasks : List TaskView) → items_have_float (items_of (map (task_data place) tasks)) ≡ false
+tasks_are_plain place tasks = plain_items (task_data place) (task_is_plain place) tasks
+
+bot_pair_is_plain : (pair : List ℕ × List (List ℕ)) → has_float (bot_pair_data pair) ≡ false
+bot_pair_is_plain pair = rw (plain_items string (λ _. refl) pair.1) refl
+
+bot_is_plain : (place : ℕ) (bot : BotView) → members_have_float (bot_members place bot) ≡ false
+unfolding bot_members
+bot_is_plain place bot =
+    rw (plain_items bot_pair_data bot_pair_is_plain bot.dimensions, or_null_is_plain (run_data place) (λ _. refl) bot.task_id) refl
+
+bots_are_plain : (place : ℕ) (bots : List BotView) → items_have_float (items_of (map (bot_data place) bots)) ≡ false
+bots_are_plain place bots = plain_items (bot_data place) (bot_is_plain place) bots
+
 last_properties_are_plain : (properties : Properties) → members_have_float (last_properties properties) ≡ false
 unfolding last_properties
 last_properties_are_plain properties =
@@ -103,6 +119,7 @@ reply_are_plain : (place : ℕ) (r : Reply) → members_have_float (reply_member
 reply_are_plain place (reply.New task state) = refl
 reply_are_plain place (reply.Canceled canceled was_running) = refl
 reply_are_plain place (reply.Result task) = task_is_plain place task
+reply_are_plain place (reply.Tasks items cursor) = rw (or_null_is_plain (number_data place) (λ _. refl) cursor, tasks_are_plain place items) refl
 reply_are_plain place (reply.Count count) = refl
 reply_are_plain place (reply.Shaken bot) = refl
 reply_are_plain place (reply.Sleep secs) = refl
@@ -113,6 +130,8 @@ reply_are_plain place reply.Skip = refl
 reply_are_plain place reply.Noted = refl
 reply_are_plain place (reply.Updated must_stop) = refl
 reply_are_plain place reply.Terminating = refl
+reply_are_plain place (reply.Bots items cursor) = rw (or_null_is_plain string (λ _. refl) cursor, bots_are_plain place items) refl
+reply_are_plain place (reply.Bot bot) = bot_is_plain place bot
 reply_are_plain place (reply.No why) = refusal_is_plain place why
 
 pub reply_is_plain : (place : ℕ) (r : Reply) → has_float (object (reply_members place r)) ≡ false

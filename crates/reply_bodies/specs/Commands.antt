@@ -1,18 +1,10 @@
 -- What a bot is told to do.
-use Rattle.std.specs.Prelude.{ℕ, List, codes}
-use Rattle.serde_json.specs.Data.{Data, boolean, string, object, Members, member, no_members}
+use Rattle.std.specs.Prelude.{ℕ, codes}
+use Rattle.serde_json.specs.Data.{boolean, string, object, Members, member, no_members}
 use Rattle.json_values.specs.Values.{whole, list_data}
-use Rattle.task_props.specs.declared.cache.Cache.{Cache}
 use Rattle.task_props.specs.declared.properties.Properties.{Properties}
 use Rattle.json_fields.specs.Ids.{run_id}
-use Rattle.reply_bodies.specs.Views.{file_data}
-
--- a key and its value
-abbrev pub pair_data : List ℕ × List ℕ → Data
-pair_data pair = object (member (codes "key") (string pair.0) (member (codes "value") (string pair.1) no_members))
-
-abbrev pub cache_data : Cache → Data
-cache_data cache = object (member (codes "name") (string cache.name) (member (codes "path") (string cache.path) no_members))
+use Rattle.reply_bodies.specs.Items.{pair_data, cache_data, file_data}
 
 -- the members from `grace_period_secs` on
 unfoldable pub last_properties : Properties → Members

@@ -3,14 +3,13 @@ use Rattle.std.specs.Prelude.{ℕ, List, codes}
 use Rattle.serde_json.specs.Data.{Data, string, Members, member, no_members, put}
 use Rattle.json_values.specs.Values.{whole}
 use Rattle.task_props.specs.RuleNames.{rule_name}
-use Rattle.swarm_model.specs.declared.pool_settings.Permission.{Permission}
-use Rattle.swarm_model.specs.declared.pool_settings.Permission.TheVariants as permission
 use Rattle.swarm_model.specs.declared.rule.Unbuilt.{Unbuilt}
 use Rattle.swarm_model.specs.declared.rule.Unbuilt.TheVariants as unbuilt
 use Rattle.swarm_model.specs.declared.rule.Unfit.{Unfit}
 use Rattle.swarm_model.specs.declared.rule.Unfit.TheVariants as unfit
 use Rattle.swarm_model.specs.declared.rule.Rule.{Rule}
 use Rattle.swarm_model.specs.declared.rule.Rule.TheVariants as rule
+use Rattle.swarm_model.specs.Permissions.{permission_name}
 use Rattle.swarm_model.specs.States.{state_name}
 use Rattle.json_fields.specs.Ids.{task_id}
 use Rattle.reply_bodies.specs.Views.{run_data}
@@ -50,15 +49,6 @@ abbrev pub unfit_name : Unfit → List ℕ
 unfit_name unfit.Dead = codes "dead"
 unfit_name unfit.Quarantined = codes "quarantined"
 unfit_name unfit.Terminating = codes "terminating"
-
-abbrev pub permission_name : Permission → List ℕ
-permission_name permission.CreateTask = codes "swarming.pools.createTask"
-permission_name permission.CancelTask = codes "swarming.pools.cancelTask"
-permission_name permission.ListTasks = codes "swarming.pools.listTasks"
-permission_name permission.ListBots = codes "swarming.pools.listBots"
-permission_name permission.TerminateBot = codes "swarming.pools.terminateBot"
-permission_name permission.RunBot = codes "profile.pools.runBot"
-permission_name permission.UseBlobs = codes "profile.pools.useBlobs"
 
 -- one member, and two whose keys stand in their order
 abbrev pub one : List ℕ → Data → Members

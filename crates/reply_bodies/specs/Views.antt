@@ -1,20 +1,12 @@
--- What is shown of a task.
+-- What is shown of a task and of a bot.
 use Rattle.std.specs.Prelude.{ℕ, codes}
-use Rattle.hex.specs.Hex.{encode_lower}
-use Rattle.serde_json.specs.Data.{Data, string, object, Members, member, no_members}
+use Rattle.serde_json.specs.Data.{Data, boolean, string, object, Members, member, no_members}
 use Rattle.json_values.specs.Values.{whole, signed, or_null, list_data}
-use Rattle.task_props.specs.declared.file.File.{File}
 use Rattle.swarm_model.specs.declared.task_view.TaskView.{TaskView}
+use Rattle.swarm_model.specs.declared.bot_view.BotView.{BotView}
 use Rattle.swarm_model.specs.States.{state_name}
 use Rattle.json_fields.specs.Ids.{task_id, run_id}
-
--- a file, by its path, its digest and its size
-abbrev pub file_data : File → Data
-file_data file =
-    object
-    (member (codes "digest") (string (encode_lower file.digest))
-    (member (codes "path") (string file.path)
-    (member (codes "size") (whole file.size) no_members)))
+use Rattle.reply_bodies.specs.Items.{bot_pair_data, file_data}
 
 abbrev pub run_data : ℕ → ℕ × ℕ → Data
 run_data place run = string (run_id place run)
@@ -44,3 +36,20 @@ task_members place task =
     (member (codes "duration_ms") (or_null whole task.duration_ms)
     (member (codes "exit_code") (or_null signed task.exit_code)
     (last_members place task))))))))
+
+abbrev pub task_data : ℕ → TaskView → Data
+task_data place task = object (task_members place task)
+
+-- a bot of the pool at a place
+unfoldable pub bot_members : ℕ → BotView → Members
+bot_members place bot =
+    member (codes "bot_id") (string bot.bot_id)
+    (member (codes "dimensions") (list_data bot_pair_data bot.dimensions)
+    (member (codes "is_dead") (boolean bot.is_dead)
+    (member (codes "last_seen_ts") (whole bot.last_seen_ts)
+    (member (codes "quarantined") (string bot.quarantined)
+    (member (codes "task_id") (or_null (run_data place) bot.task_id)
+    (member (codes "terminating") (boolean bot.terminating) no_members))))))
+
+abbrev pub bot_data : ℕ → BotView → Data
+bot_data place bot = object (bot_members place bot)

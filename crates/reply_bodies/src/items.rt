@@ -1,11 +1,10 @@
 //! The items of lists.
 ghost use Rattle.std.specs.Prelude.{◌≡◌, IfOk};
 ghost use Rattle.serde_json.specs.Data.{string};
-ghost use Rattle.reply_bodies.specs.Commands.{pair_data, cache_data};
-ghost use Rattle.reply_bodies.specs.Views.{file_data};
+ghost use Rattle.reply_bodies.specs.Items.{pair_data, bot_pair_data, cache_data, file_data};
 
-use dimensions::Text;
-use json_values::{ShowItem, with_text, with_whole};
+use dimensions::{Seq, Text};
+use json_values::{ShowItem, with_list, with_text, with_whole};
 use serde_json::{Map, Value};
 use std::alloc::{AllocError, Global};
 use task_props::{Cache, File};
@@ -15,6 +14,9 @@ pub(crate) struct Texts;
 
 /// Keys with their values.
 pub(crate) struct Pairs;
+
+/// Keys of a bot, each with its values.
+pub(crate) struct BotPairs;
 
 /// Caches, each by its name and its path.
 pub(crate) struct Caches;
@@ -39,6 +41,19 @@ impl ShowItem for Pairs {
 
     fn show(&self, alloc: Global, pair: &(Text, Text)) -> Result<Value, AllocError> {
         let members = with_text(alloc, Map::new(alloc), "value", pair.1.as_str())?;
+        let members = with_text(alloc, members, "key", pair.0.as_str())?;
+        Ok(Value::Object(members))
+    }
+}
+
+impl ShowItem for BotPairs {
+    type Item = (Text, Seq<Text>);
+
+    ghost value_of = { λ _. bot_pair_data };
+
+    fn show(&self, alloc: Global, pair: &(Text, Seq<Text>)) -> Result<Value, AllocError> {
+        let values = pair.1.as_slice();
+        let members = with_list(alloc, Map::new(alloc), "value", &Texts, values)?;
         let members = with_text(alloc, members, "key", pair.0.as_str())?;
         Ok(Value::Object(members))
     }

@@ -4,7 +4,7 @@
 //! `specs/Bodies.antt`: compact, with the keys of each object in the order of their bytes.
 //! [`status_of`] is its status. Each value is a definition first: `Bodies` has the table of
 //! replies, `Refusals` that of refusals, with the status, the code and the members of each, `Views`
-//! what is shown of a task, and `Commands` what a bot is told to do. Any body may give way to want
+//! what is shown of a task and of a bot, and `Commands` what a bot is told to do. Any body may give way to want
 //! of memory.
 //!
 //! The ids of tasks and runs are shown by `json_fields`, which also reads them. The crate stands on
@@ -14,6 +14,7 @@
 
 mod commands;
 mod items;
+mod pages;
 mod refusals;
 mod reply;
 mod views;

@@ -5,7 +5,8 @@ ghost use Rattle.serde_json.specs.Data.{string};
 ghost use Rattle.serde_json.specs.View.{members_view};
 ghost use Rattle.json_values.specs.Values.{whole};
 ghost use Rattle.swarm_model.specs.declared.rule.Rule.TheVariants.{ClaimOver};
-ghost use Rattle.reply_bodies.specs.Refusals.{status_and_code as spec_status_and_code, unbuilt_name as spec_unbuilt_name, unfit_name as spec_unfit_name, permission_name as spec_permission_name, one, two, told_members as spec_told_members, refusal_members as spec_refusal_members};
+ghost use Rattle.swarm_model.specs.Permissions.{permission_name};
+ghost use Rattle.reply_bodies.specs.Refusals.{status_and_code as spec_status_and_code, unbuilt_name as spec_unbuilt_name, unfit_name as spec_unfit_name, one, two, told_members as spec_told_members, refusal_members as spec_refusal_members};
 
 use crate::views::{with_run_id, with_task_id};
 use json_values::{with_text, with_whole};
@@ -66,20 +67,6 @@ fn unfit_name(why: Unfit) -> &'static str
     }
 }
 
-fn permission_name(permission: Permission) -> &'static str
-    ensures { result.now ≡ spec_permission_name permission }
-{
-    match permission {
-        Permission::CreateTask => "swarming.pools.createTask",
-        Permission::CancelTask => "swarming.pools.cancelTask",
-        Permission::ListTasks => "swarming.pools.listTasks",
-        Permission::ListBots => "swarming.pools.listBots",
-        Permission::TerminateBot => "swarming.pools.terminateBot",
-        Permission::RunBot => "profile.pools.runBot",
-        Permission::UseBlobs => "profile.pools.useBlobs",
-    }
-}
-
 /// One member, a text.
 pub(crate) fn one_text(
     alloc: Global,
@@ -114,10 +101,10 @@ fn denied_members(
     permission: Permission,
     pool: &str,
 ) -> Result<Map<String, Value>, AllocError>
-    ensures { IfOk result (λ members. members_view members.entries ≡ two (codes "permission") (string (spec_permission_name permission)) (codes "pool") (string pool.now)) }
+    ensures { IfOk result (λ members. members_view members.entries ≡ two (codes "permission") (string (permission_name permission)) (codes "pool") (string pool.now)) }
 {
     let members = one_text(alloc, "pool", pool)?;
-    with_text(alloc, members, "permission", permission_name(permission))
+    with_text(alloc, members, "permission", permission.name())
 }
 
 fn over_members(

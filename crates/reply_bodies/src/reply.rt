@@ -10,8 +10,9 @@ ghost use Rattle.reply_bodies.specs.Refusals.{one, two};
 ghost use Rattle.reply_bodies.specs.Bodies.{status_of as spec_status_of, reply_members as spec_reply_members, body_of};
 
 use crate::commands::run_members;
+use crate::pages::{bots_members, tasks_members};
 use crate::refusals::{one_text, one_whole, refusal_members, status_and_code};
-use crate::views::{task_members, with_task_id};
+use crate::views::{bot_members, task_members, with_task_id};
 use dimensions::Seq;
 use json_values::{with_flag, with_text};
 use serde_json::{Map, Value};
@@ -74,6 +75,7 @@ fn reply_members(alloc: Global, place: u32, reply: &Reply) -> Result<Map<String,
             was_running,
         } => canceled_members(alloc, *canceled, *was_running),
         Reply::Result(task) => task_members(alloc, place, task),
+        Reply::Tasks { items, cursor } => tasks_members(alloc, place, items.as_slice(), *cursor),
         Reply::Count { count } => one_whole(alloc, "count", *count),
         Reply::Shaken { bot } => one_text(alloc, "bot_id", bot.as_str()),
         Reply::Sleep { secs } => sleep_members(alloc, *secs),
@@ -96,6 +98,8 @@ fn reply_members(alloc: Global, place: u32, reply: &Reply) -> Result<Map<String,
         Reply::Skip => one_text(alloc, "cmd", "skip"),
         Reply::Updated { must_stop } => with_flag(alloc, Map::new(alloc), "must_stop", *must_stop),
         Reply::Noted | Reply::Terminating => Ok(Map::new(alloc)),
+        Reply::Bots { items, cursor } => bots_members(alloc, place, items.as_slice(), cursor),
+        Reply::Bot(bot) => bot_members(alloc, place, bot),
         Reply::No(why) => refusal_members(alloc, place, why),
     }
 }

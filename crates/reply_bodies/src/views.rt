@@ -1,22 +1,22 @@
-//! What is shown of a task.
+//! What is shown of a task and of a bot.
 ghost use Rattle.std.specs.Prelude.{◌≡◌, ◌<◌, IfOk};
 ghost use Rattle.std.specs.Option.{option_map};
 ghost use Rattle.serde_json.specs.Data.{string, put};
 ghost use Rattle.serde_json.specs.View.{view, members_view};
 ghost use Rattle.json_values.specs.Values.{or_null};
 ghost use Rattle.json_fields.specs.Ids.{task_id as spec_task_id};
-ghost use Rattle.reply_bodies.specs.Views.{run_data, last_members as spec_last_members, task_members as spec_task_members};
+ghost use Rattle.reply_bodies.specs.Views.{run_data, last_members as spec_last_members, task_members as spec_task_members, bot_members as spec_bot_members};
 
-use crate::items::Files;
+use crate::items::{BotPairs, Files};
 use dimensions::Text;
 use json_fields::{run_id, task_id};
 use json_values::{
-    with, with_list, with_signed_or_null, with_text, with_text_or_null, with_whole,
+    with, with_flag, with_list, with_signed_or_null, with_text, with_text_or_null, with_whole,
     with_whole_or_null,
 };
 use serde_json::{Map, Value};
 use std::alloc::{AllocError, Global};
-use swarm_model::TaskView;
+use swarm_model::{BotView, TaskView};
 
 fn run_or_null(alloc: Global, place: u32, run: Option<(u32, u32)>) -> Result<Value, AllocError>
     requires { place < 4 }
@@ -71,7 +71,7 @@ pub(crate) fn with_run_id(
     with(alloc, members, key, id)
 }
 
-fn text_of(text: &Option<Text>) -> Option<&str>
+pub(crate) fn text_of(text: &Option<Text>) -> Option<&str>
     ensures { option_map (λ t. t.now) result ≡ text.now }
 {
     match text {
@@ -127,4 +127,24 @@ pub(crate) fn task_members(
     let members = with_whole(alloc, members, "created_ts", task.created_ts)?;
     let members = with_whole_or_null(alloc, members, "completed_ts", task.completed_ts)?;
     with_text_or_null(alloc, members, "bot_id", text_of(&task.bot_id))
+}
+
+/// A bot of the pool at a place.
+#[tactic(auto, unfolding(crate::specs::Views::bot_members))]
+pub(crate) fn bot_members(
+    alloc: Global,
+    place: u32,
+    bot: &BotView,
+) -> Result<Map<String, Value>, AllocError>
+    requires { place < 4 }
+    ensures { IfOk result (λ members. members_view members.entries ≡ spec_bot_members place bot.now) }
+{
+    let members = with_flag(alloc, Map::new(alloc), "terminating", bot.terminating)?;
+    let members = with_run_or_null(alloc, members, "task_id", place, bot.task_id)?;
+    let members = with_text(alloc, members, "quarantined", bot.quarantined.as_str())?;
+    let members = with_whole(alloc, members, "last_seen_ts", bot.last_seen_ts)?;
+    let members = with_flag(alloc, members, "is_dead", bot.is_dead)?;
+    let pairs = bot.dimensions.pairs();
+    let members = with_list(alloc, members, "dimensions", &BotPairs, pairs)?;
+    with_text(alloc, members, "bot_id", bot.bot_id.as_str())
 }

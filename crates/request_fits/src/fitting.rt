@@ -4,7 +4,7 @@ ghost use Rattle.std.specs.Option.{option_map_or};
 ghost use Rattle.dimensions.specs.Alike.{same};
 ghost use Rattle.dimensions.specs.Rules.{is_key_byte};
 ghost use Rattle.task_props.specs.Checked.{is_checked as spec_is_checked, pool_of_task};
-ghost use Rattle.swarm_model.specs.Fits.{is_name, fits_bot, fits_message, fits_task, fits_last, fits};
+ghost use Rattle.swarm_model.specs.Fits.{is_name, fits_bot, fits_message, is_task_number, fits_task, is_limit, fits_last, fits};
 
 use crate::is_checked;
 use dimensions::{BotDims, Text};
@@ -52,10 +52,31 @@ fn fits_message(kind: EventKind, message: &str) -> bool
     }
 }
 
+fn is_task_number(number: u32) -> bool
+    ensures { result ≡ is_task_number number }
+{
+    1 <= number && number <= 262_144
+}
+
 fn fits_task(task: u32, try_no: u32) -> bool
     ensures { result ≡ fits_task task try_no }
 {
-    task >= 1 && task <= 262_144 && try_no <= 1
+    is_task_number(task) && try_no <= 1
+}
+
+fn is_limit(limit: u32) -> bool
+    ensures { result ≡ is_limit limit }
+{
+    1 <= limit && limit <= 200
+}
+
+fn is_task_number_or_none(number: Option<u32>) -> bool
+    ensures { result ≡ option_map_or is_task_number number true }
+{
+    match number {
+        None => true,
+        Some(number) => is_task_number(number),
+    }
 }
 
 fn fits_last(last: &Option<Last>) -> bool
@@ -83,6 +104,11 @@ pub fn fits(settings: &PoolSettings, request: &Request) -> bool
             kill: _,
         } => fits_task(*task, *try_no),
         Request::Result { task, try_no } => fits_task(*task, *try_no),
+        Request::List {
+            state: _,
+            limit,
+            below,
+        } => is_limit(*limit) && is_task_number_or_none(*below),
         Request::Count { state: _ } => true,
         Request::Handshake {
             bot,
@@ -117,5 +143,9 @@ pub fn fits(settings: &PoolSettings, request: &Request) -> bool
                 && fits_last(last)
         }
         Request::Terminate { bot } => is_name(bot.as_str()),
+        Request::Bots { limit, after } => {
+            is_limit(*limit) && (after.as_str().is_empty() || is_name(after.as_str()))
+        }
+        Request::Bot { bot } => is_name(bot.as_str()),
     }
 }

@@ -6,19 +6,9 @@ use crate::Clock;
 /// A clock that answers the moments of a list in turn, and 0 past the last of them.
 #[derive(Clone, Copy, Debug)]
 pub struct ListClock<'a> {
-    moments: &'a [u64],
-    asked: usize,
-}
-
-impl<'a> ListClock<'a> {
-    pub fn new(moments: &'a [u64]) -> ListClock<'a> {
-        ListClock { moments, asked: 0 }
-    }
-
+    pub moments: &'a [u64],
     /// How often it was asked.
-    pub fn asked(&self) -> usize {
-        self.asked
-    }
+    pub asked: usize,
 }
 
 impl<'a> Clock for ListClock<'a> {

@@ -9,5 +9,4 @@ use Rattle.swarm_cli.specs.SettingsFile.{PrintsFault, RunsText}
 pub text_refused : (why : SettingsFault) (text : List ℕ) (s t : LinkState) (a b : ℕ → Option (List ℕ)) (status : ℕ) → (why ≢ fault.Memory → settings_of text ≡ Err why)
     → PrintsFault why s t a b status → RunsText text s t a b status
 text_refused fault.Memory text s t a b status reads printed = inr printed
-text_refused fault.Text text s t a b status reads printed = let same = reads (λ e. cc) in inl (rw same printed)
 text_refused (fault.Broken place rule) text s t a b status reads printed = let same = reads (λ e. cc) in inl (rw same printed)

@@ -1,5 +1,5 @@
 -- A session with the settings of a file.
-use Rattle.std.specs.Prelude.{◌≡◌, ◌⊎◌, ℕ, List, ◌++◌, codes, Option, Some, None, Result, Ok, Err, Vec, vec_items}
+use Rattle.std.specs.Prelude.{◌≡◌, ◌⊎◌, ℕ, List, [], ◌++◌, codes, Option, Some, None, Result, Ok, Err, Vec, vec_items}
 use Rattle.std.specs.declared.alloc.Global.{Global}
 use Rattle.sw_base.specs.Link.{LinkState}
 use Rattle.sw_base.specs.Files.{FilesState, Loads}
@@ -8,7 +8,6 @@ use Rattle.sw_base.specs.declared.file_fault.FileFault.TheVariants as file_fault
 use Rattle.swarm_model.specs.declared.pool_settings.Settings.{Settings}
 use Rattle.swarm_policy.specs.declared.settings_fault.SettingsFault.{SettingsFault}
 use Rattle.swarm_policy.specs.declared.settings_fault.SettingsFault.TheVariants as fault
-use Rattle.swarm_policy.specs.Faults.{fault_place, fault_rule_name}
 use Rattle.swarm_policy.specs.Rules.{rule_name}
 use Rattle.swarm_policy.specs.Documents.{settings_of}
 use Rattle.swarm_cli.specs.Run.{RunsSession, Prints}
@@ -22,10 +21,15 @@ abbrev pub unless_kept : Option (List ℕ) → Settings → Result Settings (Lis
 unless_kept None settings = Ok settings
 unless_kept (Some folder) settings = Err (settings_line (codes "store") (codes "later"))
 
+-- the line for the first broken rule of a text
+abbrev pub fault_line : SettingsFault → List ℕ
+fault_line fault.Memory = []
+fault_line (fault.Broken place rule) = settings_line place (rule_name rule)
+
 -- the settings that a text gives, or the line that is printed in their place
 abbrev pub or_line : Result Settings SettingsFault → Result Settings (List ℕ)
 or_line (Ok settings) = unless_kept settings.store settings
-or_line (Err why) = Err (settings_line (fault_place why) (fault_rule_name why))
+or_line (Err why) = Err (fault_line why)
 
 -- nothing was read, printed or asked of the clock, and the status is this
 pub record Stops (reason : ℕ) (s t : LinkState) (a b : ℕ → Option (List ℕ)) (status : ℕ) : Type 0 where
@@ -41,8 +45,7 @@ pub data Refuses (line : List ℕ) (s t : LinkState) (a b : ℕ → Option (List
 -- the line for a fault of a text is printed, or there was no memory to read it
 abbrev pub PrintsFault : SettingsFault → LinkState → LinkState → (ℕ → Option (List ℕ)) → (ℕ → Option (List ℕ)) → ℕ → Type 0
 PrintsFault fault.Memory s t a b status = Stops 5 s t a b status
-PrintsFault fault.Text s t a b status = Refuses (settings_line (codes "text") (codes "toml")) s t a b status
-PrintsFault (fault.Broken place rule) s t a b status = Refuses (settings_line place (rule_name rule)) s t a b status
+PrintsFault why s t a b status = Refuses (fault_line why) s t a b status
 
 -- a connection under the settings, or their refusal
 abbrev pub Follows : Result Settings (List ℕ) → LinkState → LinkState → (ℕ → Option (List ℕ)) → (ℕ → Option (List ℕ)) → ℕ → Type 0

@@ -36,7 +36,6 @@ fn print_fault<L: Link>(alloc: Global, console: &mut L, fault: &SettingsFault) -
 {
     match fault {
         SettingsFault::Memory => 5,
-        SettingsFault::Text => print_refusal(alloc, console, "text", "toml"),
         SettingsFault::Broken { place, rule } => {
             print_refusal(alloc, console, place.as_str(), rule.name())
         }

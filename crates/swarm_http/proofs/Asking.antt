@@ -7,9 +7,9 @@ use Rattle.request_head.specs.HeadFields.{method_of, caller_of, after_of}
 use Rattle.swarm_model.specs.declared.pool_settings.Settings.{Settings}
 use Rattle.swarm_model.specs.declared.rule.Rule.{Rule}
 use Rattle.swarm_model.specs.declared.rule.Rule.TheVariants as rule
-use Rattle.swarm_wire.specs.declared.route.Route.{Route}
+use Rattle.routes.specs.declared.route.Route.{Route}
+use Rattle.routes.specs.Routes.{route_of}
 use Rattle.swarm_wire.specs.declared.asked.Asked.{Asked}
-use Rattle.swarm_wire.specs.Routes.{route_of}
 use Rattle.swarm_wire.specs.Asking.{asked_of}
 use Rattle.swarm_history.specs.declared.door.Answered.{Answered}
 use Rattle.swarm_history.specs.declared.door.CallFault.{CallFault}

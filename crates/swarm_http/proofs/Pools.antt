@@ -2,7 +2,7 @@
 use Rattle.std.proofs.Common.{◌≡◌, ℕ, ◌≤◌, false, List, length, leb-true, refl, Some, Err}
 use Rattle.std.specs.Prelude.{IsTrue, nat_le, slice_get}
 use Rattle.std.proofs.lemmas.Bool.{and_parts}
-use Rattle.swarm_model.specs.declared.pool_settings.Permission.{Permission}
+use Rattle.swarm_model.specs.declared.permission.Permission.{Permission}
 use Rattle.swarm_model.specs.declared.pool_settings.PoolSettings.{PoolSettings}
 use Rattle.swarm_model.specs.declared.pool_settings.Settings.{Settings}
 use Rattle.swarm_model.specs.declared.rule.Rule.TheVariants as rule

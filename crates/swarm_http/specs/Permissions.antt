@@ -1,7 +1,7 @@
 -- The permission without which no pool is asked.
 use Rattle.std.specs.Prelude.{List, ℕ, Option, Some, None, Result, Ok, Err, slice_get, if◌then◌else◌}
-use Rattle.swarm_model.specs.declared.pool_settings.Permission.{Permission}
-use Rattle.swarm_model.specs.declared.pool_settings.Permission.TheVariants as permission
+use Rattle.swarm_model.specs.declared.permission.Permission.{Permission}
+use Rattle.swarm_model.specs.declared.permission.Permission.TheVariants as permission
 use Rattle.swarm_model.specs.declared.pool_settings.PoolSettings.{PoolSettings}
 use Rattle.swarm_model.specs.declared.pool_settings.Settings.{Settings}
 use Rattle.swarm_model.specs.declared.request.Request.{Request}
@@ -16,7 +16,10 @@ abbrev pub permission_of : Request → Option Permission
 permission_of (ask.New task) = Some permission.CreateTask
 permission_of (ask.Cancel task try_no kill) = None
 permission_of (ask.Result task try_no) = None
+permission_of (ask.List state limit below) = Some permission.ListTasks
 permission_of (ask.Count state) = Some permission.ListTasks
+permission_of (ask.Bots limit after) = Some permission.ListBots
+permission_of (ask.Bot bot) = Some permission.ListBots
 permission_of (ask.Handshake bot session dims quarantined) = Some permission.RunBot
 permission_of (ask.Poll bot dims quarantined) = Some permission.RunBot
 permission_of (ask.Claim bot claim) = Some permission.RunBot

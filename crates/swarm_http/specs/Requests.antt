@@ -10,11 +10,11 @@ use Rattle.task_props.specs.declared.prop_rule.PropRule.TheVariants.{Grammar}
 use Rattle.swarm_model.specs.declared.pool_settings.Settings.{Settings}
 use Rattle.swarm_model.specs.declared.rule.Rule.{Rule}
 use Rattle.swarm_model.specs.declared.rule.Rule.TheVariants as rule
-use Rattle.swarm_wire.specs.declared.route.Route.{Route}
+use Rattle.routes.specs.declared.route.Route.{Route}
+use Rattle.routes.specs.Routes.{route_of}
 use Rattle.swarm_wire.specs.declared.asked.Asked.{Asked}
 use Rattle.swarm_wire.specs.declared.asked.WireFault.{WireFault}
 use Rattle.swarm_wire.specs.declared.asked.WireFault.TheVariants as fault
-use Rattle.swarm_wire.specs.Routes.{route_of}
 use Rattle.swarm_wire.specs.Asking.{asked_of}
 use Rattle.swarm_http.specs.Permissions.{permitted}
 

@@ -7,7 +7,7 @@ use Rattle.swarm_http.specs.declared.ended.Ended.{Ended}
 use Rattle.swarm_http.specs.declared.ended.Ended.TheVariants.{Closed, LastAsked, CutShort, BadHead, Retired, ReadFault, WriteFault, Memory}
 use Rattle.httparse.specs.Grammar.{RequestHead}
 use Rattle.request_head.specs.HeadFields.{method_of, size_of, closes_of, caller_of, after_of}
-use Rattle.swarm_wire.specs.Routes.{route_of}
+use Rattle.routes.specs.Routes.{route_of}
 use Rattle.swarm_http.specs.declared.request.Caller.{Caller}
 use Rattle.swarm_http.specs.declared.request.Caller.TheVariants.{Unnamed, Named, NoMemory}
 use Rattle.swarm_http.specs.declared.request.RequestLine.{RequestLine}

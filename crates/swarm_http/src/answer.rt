@@ -20,11 +20,12 @@ use crate::reply::{Refusal, ReplyBytes, field_refusal, whole_reply};
 use crate::request::{Caller, Received, RequestLine};
 use dimensions::Text;
 use request_head::{After, Method};
+use routes::Route;
 use std::alloc::Global;
 use sw_base::Clock;
 use swarm_history::{CallFault, Door};
 use swarm_model::{Settings, Unbuilt};
-use swarm_wire::{Asked, Route, WireFault, read_request};
+use swarm_wire::{Asked, WireFault, read_request};
 
 fn stop_refusal(why: CallFault) -> Refusal
     ensures { rule_of result ≡ stop_rule why }

@@ -1,5 +1,5 @@
 //! One connection.
-ghost use Rattle.std.specs.Prelude.{◌≡◌, ◌<◌, ◌≤◌, ◌+◌, ◌^◌, IsTrue};
+ghost use Rattle.std.specs.Prelude.{◌≡◌, ◌<◌, ◌≤◌, ◌+◌, ◌^◌, [], IfOk, IsTrue};
 ghost use Rattle.sw_base.specs.Link.{IsClean};
 ghost use Rattle.swarm_model.specs.Settings.{are_settings};
 ghost use Rattle.swarm_http.specs.Answered.{IsAnswered, KeepsDoor};
@@ -11,7 +11,8 @@ use crate::reply::ReplyBytes;
 use crate::request::{Incoming, take_request};
 use crate::send::send_shown;
 use link_reader::Pending;
-use std::alloc::Global;
+use routes::Routes;
+use std::alloc::{AllocError, Global};
 use sw_base::{Clock, Link};
 use swarm_history::Door;
 use swarm_model::Settings;
@@ -26,9 +27,17 @@ enum Step {
 // The most requests of one connection.
 const REQUEST_LIMIT: u32 = 65536;
 
+// What a connection holds from its begin to its end: the bytes that are pending, and the router.
+fn begin(alloc: Global) -> Result<(Pending, Routes), AllocError>
+    ensures { IfOk result (λ held. held.0 ≡ []) }
+{
+    Ok((Pending::new(alloc)?, Routes::new(alloc)?))
+}
+
 fn serve_one<D: Door, L: Link, C: Clock>(
     alloc: Global,
     settings: &Settings,
+    routes: &Routes,
     pending: &mut Pending,
     door: &mut D,
     clock: &mut C,
@@ -43,7 +52,7 @@ fn serve_one<D: Door, L: Link, C: Clock>(
         (record { link = L.state link.new; clock = C.ahead clock.new; door = D.state door.new }) result }
     ensures door { KeepsDoor 1 (D.state door.old) (D.state door.new) }
 {
-    match take_request(alloc, pending, link) {
+    match take_request(alloc, routes, pending, link) {
         Incoming::Asks(received) => {
             let closes = received.line.closes;
             let shown = answer_request(alloc, settings, received, door, clock);
@@ -78,11 +87,11 @@ pub fn session<D: Door, L: Link, C: Clock>(
         (record { link = L.state link.new; clock = C.ahead clock.new; door = D.state door.new }) result }
     ensures door { KeepsDoor 65536 (D.state door.old) (D.state door.new) }
 {
-    let Ok(mut pending) = Pending::new(alloc) else {
+    let Ok((mut pending, routes)) = begin(alloc) else {
         return Ended::Memory;
     };
     'requests: for turn in 0..REQUEST_LIMIT {
-        match serve_one(alloc, settings, &mut pending, door, clock, link) {
+        match serve_one(alloc, settings, &routes, &mut pending, door, clock, link) {
             Step::Next => {}
             Step::End(ended) => return ended,
         }

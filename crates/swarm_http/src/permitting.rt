@@ -18,7 +18,8 @@ pub fn permission_of(request: &Request) -> Option<Permission>
 {
     match request {
         Request::New(_) => Some(Permission::CreateTask),
-        Request::Count { .. } => Some(Permission::ListTasks),
+        Request::List { .. } | Request::Count { .. } => Some(Permission::ListTasks),
+        Request::Bots { .. } | Request::Bot { .. } => Some(Permission::ListBots),
         Request::Handshake { .. }
         | Request::Poll { .. }
         | Request::Claim { .. }

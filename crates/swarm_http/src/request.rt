@@ -15,9 +15,9 @@ use crate::reply::Refusal;
 use dimensions::Text;
 use link_reader::{BodyEnd, HeadEnd, Pending, read_body, read_head};
 use request_head::{After, Head, HeadCheck, Method, check_head};
+use routes::{Route, Routes};
 use std::alloc::Global;
 use sw_base::Link;
-use swarm_wire::{Route, route_of};
 
 /// The caller of a request.
 #[derive(Drop)]
@@ -67,11 +67,11 @@ fn held_caller(alloc: Global, caller: Option<&str>) -> Caller
     }
 }
 
-fn request_line_of(alloc: Global, head: &Head) -> RequestLine
+fn request_line_of(alloc: Global, routes: &Routes, head: &Head) -> RequestLine
     ensures { (h : RequestHead) → Says h head.now → IsRequestLine result h }
 {
     RequestLine {
-        route: route_of(head.target),
+        route: routes.find(head.target),
         method: head.method,
         who: held_caller(alloc, head.caller),
         after: head.after,
@@ -116,7 +116,13 @@ fn too_large(limit: u32) -> Refusal
 }
 
 // Takes the request whose head is the first n bytes that are pending.
-fn take_head<L: Link>(alloc: Global, n: usize, pending: &mut Pending, link: &mut L) -> Incoming
+fn take_head<L: Link>(
+    alloc: Global,
+    routes: &Routes,
+    n: usize,
+    pending: &mut Pending,
+    link: &mut L,
+) -> Incoming
     requires end { IsHeadEnd pending.old n }
     requires short { length pending.old ≤ 16384 }
     requires clean { IsClean (L.state link.old) }
@@ -127,19 +133,24 @@ fn take_head<L: Link>(alloc: Global, n: usize, pending: &mut Pending, link: &mut
         HeadCheck::LengthRequired => Incoming::Refuses(Refusal::LengthRequired),
         HeadCheck::TooLarge { limit } => Incoming::Refuses(too_large(limit)),
         HeadCheck::Good(head) => {
-            let line = request_line_of(alloc, &head);
+            let line = request_line_of(alloc, routes, &head);
             take_body(alloc, n, head.size, line, pending, link)
         }
     }
 }
 
 /// Takes the next request.
-pub fn take_request<L: Link>(alloc: Global, pending: &mut Pending, link: &mut L) -> Incoming
+pub fn take_request<L: Link>(
+    alloc: Global,
+    routes: &Routes,
+    pending: &mut Pending,
+    link: &mut L,
+) -> Incoming
     requires { IsClean (L.state link.old) }
     ensures { Takes (L.state link.old) (L.state link.new) pending.old pending.new result }
 {
     match read_head(pending, link) {
-        Ok(HeadEnd::At(n)) => take_head(alloc, n, pending, link),
+        Ok(HeadEnd::At(n)) => take_head(alloc, routes, n, pending, link),
         Ok(HeadEnd::TooLong) => Incoming::Refuses(Refusal::BadHead),
         Ok(HeadEnd::Ended) => {
             if pending.is_empty() {

@@ -20,7 +20,7 @@ use Rattle.task_props.proofs.Checked.{slices_counted}
 use Rattle.swarm_model.specs.declared.attempt.Attempt.{Attempt}
 use Rattle.swarm_model.specs.declared.attempt.Chunk.{Chunk}
 use Rattle.swarm_model.specs.declared.attempt.Last.{Last}
-use Rattle.swarm_model.specs.declared.pool_settings.Permission.TheVariants as permission
+use Rattle.swarm_model.specs.declared.permission.Permission.TheVariants as permission
 use Rattle.swarm_model.specs.declared.pool_settings.PoolSettings.{PoolSettings}
 use Rattle.swarm_model.specs.declared.task_row.TaskRow.{TaskRow}
 use Rattle.swarm_model.specs.declared.bot_row.BotRow.{BotRow}
@@ -44,7 +44,7 @@ use Rattle.swarm_model.specs.Finding.{is_final, is_task, task_of, bot_named, is_
 use Rattle.swarm_model.specs.Fits.{fits, is_name}
 use Rattle.swarm_model.specs.Slices.{is_open, admit, current_slice, first}
 use Rattle.swarm_model.specs.Reuse.{sent, reuse, ended_well, is_young, ran_hash}
-use Rattle.swarm_model.specs.Answers.{decide, entry_at, resubmitted, reuse_outcome, accepted, accepted_at, tasks_full, named_task, result_of, known_bot, handshake, poll, busy, run_on, claim, claim_again, claimed, claims, unfit_of, unfit_refusal, event, terminate, reply_with_entry, with, has_try, if_named, may, denied, cancel, cancel_row, stop, is_killed, is_kept, updates, report, report_again, report_on, not_claimant, update, update_row}
+use Rattle.swarm_model.specs.Answers.{decide, entry_at, resubmitted, reuse_outcome, accepted, accepted_at, tasks_full, named_task, result_of, show_bot, known_bot, handshake, poll, busy, run_on, claim, claim_again, claimed, claims, unfit_of, unfit_refusal, event, terminate, reply_with_entry, with, has_try, if_named, may, denied, cancel, cancel_row, stop, is_killed, is_kept, updates, report, report_again, report_on, not_claimant, update, update_row}
 use Rattle.swarm_model.specs.Deadlines.{settled, slice_end, slice_limit, silence_end, silence_limit, runner_of, bot_end, deadlines, due_entry}
 use Rattle.swarm_model.specs.Entries.{asks, is_deadline, Asked}
 use Rattle.swarm_model.specs.History.{MayFollow, IsDue, IsAnswered}
@@ -220,6 +220,7 @@ tell_finds s who m (ask.New request) may =
 tell_finds s who m (ask.Cancel task try_no kill) may =
     by_with (Adds s) (named_task s task try_no) rule.NoTask (cancel s who kill) tt (λ row e. cancel_finds s who kill row (named_is s task try_no row e).among)
 tell_finds s who m (ask.Result task try_no) may = by_with (Adds s) (named_task s task try_no) rule.NoTask (result_of s who) tt (λ row e. result_finds s who row)
+tell_finds s who m (ask.List state limit below) may = tt
 tell_finds s who m (ask.Count state) may = tt
 tell_finds s who m (ask.Handshake name session dims q) may = handshake_finds s name session dims q
 tell_finds s who m (ask.Poll name dims q) may = by_with (Adds s) (bot_named s name) rule.NoBot (poll s dims q) tt (λ bot e. poll_finds s dims q bot)
@@ -231,6 +232,8 @@ tell_finds s who m (ask.Update name task try_no chunk last) may =
     report_finds s bot row chunk last row.attempt (bot_is s name bot e).among (named_is s task try_no row f).among refl (update_fits s.settings name task try_no chunk last may).1))
 tell_finds s who m (ask.Terminate name) may =
     by_with (Adds s) (bot_named s name) rule.NoBot terminate tt (λ bot e. cond_both bot.terminating _ _ (Adds s) (λ t. tt) (λ t. tt))
+tell_finds s who m (ask.Bots limit after) may = tt
+tell_finds s who m (ask.Bot name) may = by_with (Adds s) (bot_named s name) rule.NoBot (show_bot s) tt (λ bot e. tt)
 
 -- what is due is the deadline of a row
 

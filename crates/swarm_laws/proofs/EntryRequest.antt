@@ -11,7 +11,7 @@ use Rattle.task_props.specs.Alike.{same_task}
 use Rattle.swarm_model.specs.declared.attempt.Attempt.{Attempt}
 use Rattle.swarm_model.specs.declared.attempt.Chunk.{Chunk}
 use Rattle.swarm_model.specs.declared.attempt.Last.{Last}
-use Rattle.swarm_model.specs.declared.pool_settings.Permission.TheVariants as permission
+use Rattle.swarm_model.specs.declared.permission.Permission.TheVariants as permission
 use Rattle.swarm_model.specs.declared.task_row.TaskRow.{TaskRow}
 use Rattle.swarm_model.specs.declared.bot_row.BotRow.{BotRow}
 use Rattle.swarm_model.specs.declared.pool_state.PoolState.{PoolState}
@@ -30,7 +30,7 @@ use Rattle.swarm_model.specs.Words.{is_between}
 use Rattle.swarm_model.specs.Fits.{fits, fits_task}
 use Rattle.swarm_model.specs.Slices.{admit, first}
 use Rattle.swarm_model.specs.Reuse.{sent, reuse}
-use Rattle.swarm_model.specs.Answers.{decide, resubmitted, reuse_outcome, accepted, accepted_at, tasks_full, named_task, result_of, known_bot, handshake, poll, polls, busy, run_on, claim, claim_again, claimed, claims, sleep_secs, run, unfit_of, unfit_refusal, event, terminate, reply_with_entry, dims_unless, text_unless, with, has_try, if_named, may, denied, cancel, cancel_row, stop, is_killed, is_kept, updates, report, report_again, report_on, not_claimant, update, update_row}
+use Rattle.swarm_model.specs.Answers.{decide, resubmitted, reuse_outcome, accepted, accepted_at, tasks_full, named_task, result_of, show_bot, known_bot, handshake, poll, polls, busy, run_on, claim, claim_again, claimed, claims, sleep_secs, run, unfit_of, unfit_refusal, event, terminate, reply_with_entry, dims_unless, text_unless, with, has_try, if_named, may, denied, cancel, cancel_row, stop, is_killed, is_kept, updates, report, report_again, report_on, not_claimant, update, update_row}
 use Rattle.swarm_model.specs.Entries.{asks, is_deadline, by_nobody, cancel_of, update_of, poll_of, claim_of, event_of, terminate_of, handshake_of, Asked}
 use Rattle.swarm_model.specs.Soundness.{IsSound}
 use Rattle.swarm_laws.proofs.Lists.{Found, find_is}
@@ -232,6 +232,7 @@ tell_stands s who m (ask.Cancel number try_no kill) o may =
     by_with (Stands s who m (ask.Cancel number try_no kill)) (named_task s number try_no) rule.NoTask (cancel s who kill) tt
     (λ row e. cancel_stands s o who m number try_no kill may row (named_is s number try_no row e))
 tell_stands s who m (ask.Result task try_no) o may = by_with (Stands s who m (ask.Result task try_no)) (named_task s task try_no) rule.NoTask (result_of s who) tt (λ row e. result_stands s who m task try_no row)
+tell_stands s who m (ask.List state limit below) o may = tt
 tell_stands s who m (ask.Count state) o may = tt
 tell_stands s who m (ask.Handshake name session dims q) o may =
     by_map P (known_bot name session dims q) (bot_named s name) _ (λ bot e. greet_stands s o who m name bot e session dims q) (λ unknown.
@@ -250,3 +251,5 @@ tell_stands s who m (ask.Update name number try_no chunk last) o may =
     by_with (Stands s who m (ask.Update name number try_no chunk last)) (named_task s number try_no) rule.NoTask (update_row s bot chunk last) tt (λ row f.
     report_stands s o who m name bot e number try_no chunk last row (named_is s number try_no row f) (update_fits s.settings name number try_no chunk last may).0 row.attempt refl))
 tell_stands s who m (ask.Terminate name) o may = by_with (Stands s who m (ask.Terminate name)) (bot_named s name) rule.NoBot terminate tt (λ bot e. terminate_stands s o who m name bot e)
+tell_stands s who m (ask.Bots limit after) o may = tt
+tell_stands s who m (ask.Bot name) o may = by_with (Stands s who m (ask.Bot name)) (bot_named s name) rule.NoBot (show_bot s) tt (λ bot e. tt)

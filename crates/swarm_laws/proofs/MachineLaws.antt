@@ -14,6 +14,7 @@ use Rattle.swarm_model.specs.History.{replay, MayFollow, tally}
 use Rattle.swarm_model.specs.MachineState.{MachineState, IsHistory, IsRight, KeepsFinals, ShowsVerdict, ActsOnce, TakesOutcome}
 use Rattle.swarm_model.specs.Soundness.{IsSound}
 use Rattle.swarm_model.specs.Verdicts.{is_new, verdict, verdict_tally}
+use Rattle.swarm_laws.proofs.Lists.{Among, all}
 use Rattle.swarm_laws.proofs.Preconditions.{Finds}
 use Rattle.swarm_laws.proofs.EntryPreconditions.{IsNamed, named_is, finds}
 use Rattle.swarm_laws.proofs.Rows.{find_task}
@@ -42,12 +43,15 @@ module _ (kept : MachineState) (h : IsHistory kept) where
 
   -- so a result shows it
   pub shows_verdict : (who : List ℕ) (moment pass : ℕ) (request : Request) → ShowsVerdict kept (answer kept.pool who moment pass request).reply
-  shows_verdict who moment pass request = tell_shows kept told who moment request
+  shows_verdict who moment pass request = tell_shows kept told (all (λ task. verdict kept.log task.no ≡ task.state) kept.pool.tasks told_of) who moment request
     where
+      told_of : (task : TaskRow) → Among task kept.pool.tasks → verdict kept.log task.no ≡ task.state
+      told_of task a = tells_state task.no task (find_task kept.pool is_sound task task.no a refl)
+
       told : (number try_no : ℕ) (task : TaskRow) → named_task kept.pool number try_no ≡ Some task → verdict kept.log task.no ≡ task.state
       told number try_no task e =
           (let f : IsNamed kept.pool number try_no task = named_is kept.pool number try_no task e in
-          tells_state task.no task (find_task kept.pool is_sound task task.no f.among refl))
+          told_of task f.among)
 
   -- what is sent again adds at most a contact
   pub repeats_once : (who : List ℕ) (moment pass : ℕ) (request : Request) → ActsOnce kept who request (answer kept.pool who moment pass request).entry

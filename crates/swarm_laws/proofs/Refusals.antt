@@ -23,7 +23,7 @@ use Rattle.swarm_model.specs.declared.answer.Decision.{Decision}
 use Rattle.swarm_model.specs.Slices.{admit, current_slice, first}
 use Rattle.swarm_model.specs.Finding.{bot_named, has_state, is_final}
 use Rattle.swarm_model.specs.Reuse.{sent, reuse}
-use Rattle.swarm_model.specs.declared.pool_settings.Permission.TheVariants as permission
+use Rattle.swarm_model.specs.declared.permission.Permission.TheVariants as permission
 use Rattle.swarm_model.specs.declared.entry.EntryKind.TheVariants as kind
 use Rattle.swarm_model.specs.declared.entry.EventKind.{EventKind}
 use Rattle.swarm_model.specs.declared.rule.Unfit.TheVariants as unfit
@@ -31,7 +31,7 @@ use Rattle.task_props.specs.Alike.{same_task}
 use Rattle.dimensions.specs.Alike.{same}
 use Rattle.dimensions.specs.Rules.{is_empty}
 use Rattle.swarm_model.specs.Words.{◌otherwise◌}
-use Rattle.swarm_model.specs.Answers.{reply_only, reply_with_entry, with, cancels, stop, cancel, denied, may, result_of, resubmitted, tasks_full, reuse_outcome, accepted_at, new_task, known_bot, bots_full, handshake, polls, poll, sleep_secs, run, run_from, run_on, claim_again, claims, claim, claimed, unfit_of, busy, unfit_refusal, event, is_kept, updates, report_again, report, report_on, not_claimant, update_row, update, terminate, named_task, entry_at, decide}
+use Rattle.swarm_model.specs.Answers.{reply_only, reply_with_entry, with, cancels, stop, cancel, denied, may, result_of, show_bot, resubmitted, tasks_full, reuse_outcome, accepted_at, new_task, known_bot, bots_full, handshake, polls, poll, sleep_secs, run, run_from, run_on, claim_again, claims, claim, claimed, unfit_of, busy, unfit_refusal, event, is_kept, updates, report_again, report, report_on, not_claimant, update_row, update, terminate, named_task, entry_at, decide}
 use Rattle.swarm_model.specs.declared.task_state.TaskState.TheVariants.{Pending, Running, Completed}
 use Rattle.swarm_model.specs.RefusalLaw.{RefusalsAddNothing}
 
@@ -172,6 +172,7 @@ pub quiet : (s : PoolState) (who : List ℕ) (moment : ℕ) (request : Request) 
 quiet s who moment (ask.New request) = quiet_new s who moment request
 quiet s who moment (ask.Cancel task try_no kill) = quiet_with (named_task s task try_no) _ (cancel s who kill) (quiet_cancel s who kill)
 quiet s who moment (ask.Result task try_no) = quiet_with (named_task s task try_no) _ (result_of s who) (quiet_result s who)
+quiet s who moment (ask.List state limit below) = quiet_says _
 quiet s who moment (ask.Count state) = quiet_says _
 quiet s who moment (ask.Handshake bot session dims quarantined) = quiet_handshake s bot session dims quarantined
 quiet s who moment (ask.Poll bot dims quarantined) = quiet_with (bot_named s bot) _ (poll s dims quarantined) (quiet_poll s dims quarantined)
@@ -182,6 +183,8 @@ quiet s who moment (ask.Update bot task try_no chunk last) =
     (λ row. quiet_with (named_task s task try_no) _ (update_row s row chunk last) (λ it. quiet_with it.attempt _ (report_on s row it chunk last) (quiet_report_on s row it chunk last)))
 quiet s who moment (ask.Terminate bot) =
     quiet_with (bot_named s bot) _ terminate (λ row. quiet_if row.terminating _ _ (quiet_says _) (quiet_reply reply.Terminating _ refl))
+quiet s who moment (ask.Bots limit after) = quiet_says _
+quiet s who moment (ask.Bot bot) = quiet_with (bot_named s bot) _ (show_bot s) (λ row. quiet_says _)
 
 -- so it is with the entry of an answer
 pub refusals_add_nothing : RefusalsAddNothing

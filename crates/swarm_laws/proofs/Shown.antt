@@ -1,8 +1,10 @@
--- A result shows the state that the log tells of its task.
+-- What is shown of a task has the state that the log tells of it.
 use Rattle.std.proofs.Common.{◌≡◌, ℕ, ◌==◌, ◌&&◌, not, List, length, Bool, true, false, Option, Some, None, is_some, is_none}
 use Rattle.std.specs.Prelude.{nat_le}
 use Rattle.std.specs.Option.{option_map_or}
+use Rattle.std.specs.List.{All}
 use Rattle.std.proofs.lemmas.Bool.{cond_both}
+use Rattle.std.proofs.lemmas.List.Elements.{All-map, All-take, All-filter}
 use Rattle.dimensions.specs.declared.bot_dims.BotDims.{BotDims}
 use Rattle.dimensions.specs.Alike.{same}
 use Rattle.dimensions.specs.Rules.{is_empty}
@@ -12,7 +14,8 @@ use Rattle.task_props.specs.Alike.{same_task}
 use Rattle.swarm_model.specs.declared.attempt.Attempt.{Attempt}
 use Rattle.swarm_model.specs.declared.attempt.Chunk.{Chunk}
 use Rattle.swarm_model.specs.declared.attempt.Last.{Last}
-use Rattle.swarm_model.specs.declared.pool_settings.Permission.TheVariants as permission
+use Rattle.swarm_model.specs.declared.permission.Permission.TheVariants as permission
+use Rattle.swarm_model.specs.declared.task_state.TaskState.{TaskState}
 use Rattle.swarm_model.specs.declared.task_row.TaskRow.{TaskRow}
 use Rattle.swarm_model.specs.declared.bot_row.BotRow.{BotRow}
 use Rattle.swarm_model.specs.declared.pool_state.PoolState.{PoolState}
@@ -25,16 +28,21 @@ use Rattle.swarm_model.specs.declared.rule.Unfit.TheVariants as unfit
 use Rattle.swarm_model.specs.declared.reply.Reply.TheVariants as reply
 use Rattle.swarm_model.specs.declared.answer.Decision.{Decision}
 use Rattle.swarm_model.specs.Finding.{is_final, bot_named}
+use Rattle.swarm_model.specs.Pages.{is_listed, listed_tasks}
+use Rattle.swarm_model.specs.Views.{view_of}
 use Rattle.swarm_model.specs.Slices.{admit, current_slice, first}
 use Rattle.swarm_model.specs.Reuse.{sent, reuse}
-use Rattle.swarm_model.specs.Answers.{decide, reply_with_entry, resubmitted, reuse_outcome, accepted, accepted_at, tasks_full, named_task, result_of, may, denied, cancel, cancel_row, stop, known_bot, handshake, poll, busy, run_on, run_from, claim, claim_again, claimed, claims, unfit_of, unfit_refusal, event, is_kept, updates, report, report_again, report_on, not_claimant, update, update_row, terminate}
-use Rattle.swarm_model.specs.MachineState.{MachineState, ShowsVerdict}
+use Rattle.swarm_model.specs.Answers.{decide, reply_with_entry, resubmitted, reuse_outcome, accepted, accepted_at, tasks_full, named_task, result_of, list_tasks, show_bot, may, denied, cancel, cancel_row, stop, known_bot, handshake, poll, busy, run_on, run_from, claim, claim_again, claimed, claims, unfit_of, unfit_refusal, event, is_kept, updates, report, report_again, report_on, not_claimant, update, update_row, terminate}
+use Rattle.swarm_model.specs.MachineState.{MachineState, HasVerdict, ShowsVerdict}
 use Rattle.swarm_model.specs.Verdicts.{verdict}
 use Rattle.swarm_laws.proofs.Answering.{by_when, by_map, by_with}
+use Rattle.swarm_laws.proofs.Lists.{All-reverse}
 use Rattle.swarm_laws.proofs.Preconditions.{waits, runs}
 
 -- where the log tells the state of each task
-module _ (kept : MachineState) (tells : (number try_no : ℕ) (task : TaskRow) → named_task kept.pool number try_no ≡ Some task → verdict kept.log task.no ≡ task.state) where
+module _ (kept : MachineState)
+    (tells : (number try_no : ℕ) (task : TaskRow) → named_task kept.pool number try_no ≡ Some task → verdict kept.log task.no ≡ task.state)
+    (tells_each : All (λ task. verdict kept.log task.no ≡ task.state) kept.pool.tasks) where
   abbrev s : PoolState
   s = kept.pool
 
@@ -90,6 +98,15 @@ module _ (kept : MachineState) (tells : (number try_no : ℕ) (task : TaskRow) �
       by_when Shows (is_final task.state) (report_again bot task chunk last attempt) _ (λ f. cond_both (is_kept attempt chunk last) _ _ Shows (λ k. tt) (λ k. tt)) (λ f.
       by_when Shows (is_some last) (updates attempt (kind.Update bot.no task.no attempt.try_no chunk last)) (updates attempt (kind.Contact bot.no)) (λ l. tt) (λ l. tt)))
 
+  -- each task of a page is one of the rows
+  list_shows : (wanted : Option TaskState) (limit : ℕ) (below : Option ℕ) → Shows (list_tasks s limit (listed_tasks s wanted below))
+  list_shows wanted limit below =
+      All-map (HasVerdict kept.log) (view_of s) _
+      (All-take IsTold limit _ (All-reverse IsTold _ (All-filter (is_listed wanted below) IsTold s.tasks tells_each)))
+    where
+      IsTold : TaskRow → Type 0
+      IsTold task = verdict kept.log task.no ≡ task.state
+
   -- so each answer shows what the log tells
   pub tell_shows : (who : List ℕ) (m : ℕ) (request : Request) → Shows (decide s who m request)
   tell_shows who m (ask.New request) =
@@ -99,6 +116,7 @@ module _ (kept : MachineState) (tells : (number try_no : ℕ) (task : TaskRow) �
   tell_shows who m (ask.Cancel number try_no kill) = by_with Shows (named_task s number try_no) rule.NoTask (cancel s who kill) tt (λ task e. cancel_shows who kill task)
   tell_shows who m (ask.Result number try_no) = by_with Shows (named_task s number try_no) rule.NoTask (result_of s who) tt (λ task e.
       by_when Shows (not (may s who permission.ListTasks task)) (denied s permission.ListTasks) _ (λ t. tt) (λ t. tells number try_no task e))
+  tell_shows who m (ask.List state limit below) = list_shows state limit below
   tell_shows who m (ask.Count state) = tt
   tell_shows who m (ask.Handshake name session dims q) = handshake_shows name session dims q
   tell_shows who m (ask.Poll name dims q) = by_with Shows (bot_named s name) rule.NoBot (poll s dims q) tt (λ bot e. poll_shows dims q bot)
@@ -109,3 +127,5 @@ module _ (kept : MachineState) (tells : (number try_no : ℕ) (task : TaskRow) �
       by_with Shows (named_task s number try_no) rule.NoTask (update_row s bot chunk last) tt (λ task f.
       by_with Shows task.attempt rule.NoTask (report_on s bot task chunk last) tt (λ attempt g. report_shows bot task chunk last attempt)))
   tell_shows who m (ask.Terminate name) = by_with Shows (bot_named s name) rule.NoBot terminate tt (λ bot e. cond_both bot.terminating _ _ Shows (λ t. tt) (λ t. tt))
+  tell_shows who m (ask.Bots limit after) = tt
+  tell_shows who m (ask.Bot name) = by_with Shows (bot_named s name) rule.NoBot (show_bot s) tt (λ bot e. tt)

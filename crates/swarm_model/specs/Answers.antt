@@ -1,5 +1,5 @@
 -- The answer to each request, and the entry that it adds.
-use Rattle.std.specs.Prelude.{ℕ, Bool, true, false, [], unwrap_or, ◌+◌, ◌-◌, ◌^◌, ◌==◌, ◌&&◌, ◌||◌, not, min, List, length, Option, Some, None, is_some, is_none, nat_le, if◌then◌else◌}
+use Rattle.std.specs.Prelude.{ℕ, Bool, true, false, [], unwrap_or, ◌+◌, ◌-◌, ◌^◌, ◌==◌, ◌&&◌, ◌||◌, not, min, List, length, map, take, Option, Some, None, is_some, is_none, nat_le, if◌then◌else◌}
 use Rattle.std.specs.List.{count_by, find}
 use Rattle.std.specs.Option.{option_map, option_map_or, option_and_then, option_eq}
 use Rattle.dimensions.specs.declared.text.Text.{Text}
@@ -15,8 +15,8 @@ use Rattle.swarm_model.specs.declared.task_state.TaskState.TheVariants.{Pending,
 use Rattle.swarm_model.specs.declared.attempt.Attempt.{Attempt}
 use Rattle.swarm_model.specs.declared.attempt.Chunk.{Chunk}
 use Rattle.swarm_model.specs.declared.attempt.Last.{Last}
-use Rattle.swarm_model.specs.declared.pool_settings.Permission.{Permission}
-use Rattle.swarm_model.specs.declared.pool_settings.Permission.TheVariants as permission
+use Rattle.swarm_model.specs.declared.permission.Permission.{Permission}
+use Rattle.swarm_model.specs.declared.permission.Permission.TheVariants as permission
 use Rattle.swarm_model.specs.declared.task_row.TaskRow.{TaskRow}
 use Rattle.swarm_model.specs.declared.bot_row.BotRow.{BotRow}
 use Rattle.swarm_model.specs.declared.pool_state.PoolState.{PoolState}
@@ -40,7 +40,8 @@ use Rattle.swarm_model.specs.Finding.{has_state, task_of, bot_named, is_final, i
 use Rattle.swarm_model.specs.declared.reuse.Reuse.{Reuse}
 use Rattle.swarm_model.specs.Reuse.{sent, reuse}
 use Rattle.swarm_model.specs.Slices.{admit, current_slice, first}
-use Rattle.swarm_model.specs.Views.{bot_name_of, view_of}
+use Rattle.swarm_model.specs.Views.{bot_name_of, view_of, bot_view_of}
+use Rattle.swarm_model.specs.Pages.{listed_tasks, listed_bots, cursor_of}
 use Rattle.swarm_model.specs.Words.{◌otherwise◌}
 
 -- a reply that adds nothing
@@ -138,6 +139,10 @@ abbrev pub result_of : PoolState → List ℕ → TaskRow → Decision
 result_of s who task =
     when (not (may s who permission.ListTasks task)) (denied s permission.ListTasks)
     otherwise reply_only (reply.Result (view_of s task))
+
+-- at most so many of the rows that are left, with where the next page goes on
+abbrev pub list_tasks : PoolState → ℕ → List TaskRow → Decision
+list_tasks s limit tasks = reply_only (reply.Tasks (map (view_of s) (take limit tasks)) (cursor_of (λ (task : TaskRow). task.no) limit tasks))
 
 abbrev pub count_tasks : PoolState → Option TaskState → Decision
 count_tasks s state = reply_only (reply.Count (count_by (is_wanted state) s.tasks))
@@ -287,6 +292,12 @@ update s task try_no chunk last bot = with (named_task s task try_no) rule.NoTas
 abbrev pub terminate : BotRow → Decision
 terminate bot = if bot.terminating then reply_only reply.Terminating else reply_with_entry reply.Terminating (kind.Terminate bot.no)
 
+abbrev pub list_bots : PoolState → ℕ → List BotRow → Decision
+list_bots s limit bots = reply_only (reply.Bots (map (bot_view_of s) (take limit bots)) (cursor_of (λ (bot : BotRow). bot.name) limit bots))
+
+abbrev pub show_bot : PoolState → BotRow → Decision
+show_bot s bot = reply_only (reply.Bot (bot_view_of s bot))
+
 -- ---- all requests
 
 -- what a caller is told at a moment
@@ -294,6 +305,7 @@ abbrev pub decide : PoolState → List ℕ → ℕ → Request → Decision
 decide s who moment (ask.New request) = new_task s who moment request
 decide s who moment (ask.Cancel task try_no kill) = with (named_task s task try_no) rule.NoTask (cancel s who kill)
 decide s who moment (ask.Result task try_no) = with (named_task s task try_no) rule.NoTask (result_of s who)
+decide s who moment (ask.List state limit below) = list_tasks s limit (listed_tasks s state below)
 decide s who moment (ask.Count state) = count_tasks s state
 decide s who moment (ask.Handshake bot session dims quarantined) = handshake s bot session dims quarantined
 decide s who moment (ask.Poll bot dims quarantined) = with (bot_named s bot) rule.NoBot (poll s dims quarantined)
@@ -301,6 +313,8 @@ decide s who moment (ask.Claim bot id) = with (bot_named s bot) rule.NoBot (clai
 decide s who moment (ask.Event bot which message) = with (bot_named s bot) rule.NoBot (event which message)
 decide s who moment (ask.Update bot task try_no chunk last) = with (bot_named s bot) rule.NoBot (update s task try_no chunk last)
 decide s who moment (ask.Terminate bot) = with (bot_named s bot) rule.NoBot terminate
+decide s who moment (ask.Bots limit after) = list_bots s limit (listed_bots s after)
+decide s who moment (ask.Bot bot) = with (bot_named s bot) rule.NoBot (show_bot s)
 
 abbrev pub entry_at : ℕ → ℕ → EntryKind → Entry
 entry_at moment pass kind = record { moment = moment; pass = pass; kind = kind }

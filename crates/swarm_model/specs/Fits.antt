@@ -1,5 +1,5 @@
 -- Which requests a pool may be asked.
-use Rattle.std.specs.Prelude.{Bool, true, ◌&&◌, ◌==◌, ◌^◌, nat_le, List, ℕ, length, is_none}
+use Rattle.std.specs.Prelude.{Bool, true, ◌&&◌, ◌||◌, ◌==◌, ◌^◌, nat_le, List, ℕ, length, is_none}
 use Rattle.std.specs.List.{list_all}
 use Rattle.std.specs.Option.{option_map_or}
 use Rattle.dimensions.specs.declared.bot_dims.BotDims.{BotDims}
@@ -29,9 +29,16 @@ fits_message event.Quarantine message = has_length_to 256 message
 fits_message event.Ping message = nat_le (length message) 256
 fits_message event.Unquarantine message = nat_le (length message) 256
 
+abbrev pub is_task_number : ℕ → Bool
+is_task_number number = is_between 1 262144 number
+
 -- a task of a pool by its number, with the number of a try; 0 names the task itself
 abbrev pub fits_task : ℕ → ℕ → Bool
-fits_task task try_no = is_between 1 262144 task && nat_le try_no 1
+fits_task task try_no = is_task_number task && nat_le try_no 1
+
+-- how many rows a page may show
+abbrev pub is_limit : ℕ → Bool
+is_limit limit = is_between 1 200 limit
 
 -- the report of an end: it names no files yet
 abbrev pub fits_last : Last → Bool
@@ -42,6 +49,7 @@ abbrev pub fits : PoolSettings → Request → Bool
 fits settings (ask.New request) = is_checked request && same (pool_of_task request) settings.name
 fits settings (ask.Cancel task try_no kill) = fits_task task try_no
 fits settings (ask.Result task try_no) = fits_task task try_no
+fits settings (ask.List state limit below) = is_limit limit && option_map_or is_task_number below true
 fits settings (ask.Count state) = true
 fits settings (ask.Handshake bot session dims quarantined) =
     fits_bot settings bot dims && (is_name session && nat_le (length quarantined) 256)
@@ -49,5 +57,7 @@ fits settings (ask.Poll bot dims quarantined) = fits_bot settings bot dims && na
 fits settings (ask.Claim bot claim) = is_name bot && is_name claim
 fits settings (ask.Event bot which message) = is_name bot && fits_message which message
 fits settings (ask.Update bot task try_no chunk last) =
-    is_name bot && (is_between 1 262144 task && (try_no == 1 && (is_none chunk && option_map_or fits_last last true)))
+    is_name bot && (is_task_number task && (try_no == 1 && (is_none chunk && option_map_or fits_last last true)))
 fits settings (ask.Terminate bot) = is_name bot
+fits settings (ask.Bots limit after) = is_limit limit && (is_empty after || is_name after)
+fits settings (ask.Bot bot) = is_name bot

@@ -1,4 +1,5 @@
 pub mod Words
+pub mod Permissions
 pub mod Settings
 pub mod Numbers
 pub mod Finding
@@ -6,6 +7,7 @@ pub mod Fits
 pub mod Alike
 pub mod Slices
 pub mod Views
+pub mod Pages
 pub mod Reuse
 pub mod Answers
 pub mod Entries

@@ -1,6 +1,6 @@
 -- What a machine keeps.
 use Rattle.std.specs.Prelude.{◌≡◌, ℕ, Bool, ⊤, IsTrue, List, ◌∷◌, Option, Some, None, IfSome, length, option_map, if◌then◌else◌}
-use Rattle.std.specs.List.{find}
+use Rattle.std.specs.List.{All, find}
 use Rattle.sha2.specs.Sha256.{sha256}
 use Rattle.content_store.specs.declared.Filled.{Filled}
 use Rattle.content_store.specs.declared.Filled.TheVariants.{Done, Differs, Unknown}
@@ -14,6 +14,7 @@ use Rattle.swarm_model.specs.declared.request.Request.TheVariants as ask
 use Rattle.swarm_model.specs.declared.task_state.TaskState.{TaskState}
 use Rattle.swarm_model.specs.declared.task_row.TaskRow.{TaskRow}
 use Rattle.swarm_model.specs.declared.bot_row.BotRow.{BotRow}
+use Rattle.swarm_model.specs.declared.task_view.TaskView.{TaskView}
 use Rattle.swarm_model.specs.declared.reply.Reply.{Reply}
 use Rattle.swarm_model.specs.declared.reply.Reply.TheVariants as reply
 use Rattle.swarm_model.specs.Finding.{has_blob, is_final, task_of, bot_named}
@@ -63,9 +64,14 @@ pub record Fills (old new : MachineState) (digest bytes : List ℕ) (result : Fi
   pub told : result ≡ filled old.pool digest bytes
   pub holds : new ≡ record old { ready = None; held = held_after result old.held digest bytes }
 
--- a result shows the state that the log tells of its task
+-- what is shown of a task has the state that the log tells of it
+abbrev pub HasVerdict : List Entry → TaskView → Type 0
+HasVerdict log view = verdict log view.task_id ≡ view.state
+
+-- so has each task of a reply
 abbrev pub ShowsVerdict : MachineState → Reply → Type 0
-ShowsVerdict kept (reply.Result view) = verdict kept.log view.task_id ≡ view.state
+ShowsVerdict kept (reply.Result view) = HasVerdict kept.log view
+ShowsVerdict kept (reply.Tasks items cursor) = All (HasVerdict kept.log) items
 ShowsVerdict kept other = ⊤
 
 -- a task that has ended stays as it is

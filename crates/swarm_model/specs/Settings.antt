@@ -1,13 +1,13 @@
 -- Which settings a pool may have.
-use Rattle.std.specs.Prelude.{◌≡◌, ℕ, Bool, true, ◌+◌, ◌==◌, ◌&&◌, ◌||◌, nat_le, IsTrue, List, [], ◌∷◌, length, codes}
+use Rattle.std.specs.Prelude.{ℕ, Bool, true, ◌+◌, ◌==◌, ◌&&◌, ◌||◌, nat_le, List, [], ◌∷◌, length, codes}
 use Rattle.std.specs.List.{list_all, list_any}
 use Rattle.dimensions.specs.Alike.{same}
 use Rattle.dimensions.specs.Rules.{has_length_to, is_key_byte}
-use Rattle.swarm_model.specs.declared.pool_settings.Permission.{Permission}
-use Rattle.swarm_model.specs.declared.pool_settings.Permission.TheVariants as permission
+use Rattle.swarm_model.specs.declared.permission.Permission.{Permission}
 use Rattle.swarm_model.specs.declared.pool_settings.Grant.{Grant}
 use Rattle.swarm_model.specs.declared.pool_settings.PoolSettings.{PoolSettings}
 use Rattle.swarm_model.specs.declared.pool_settings.Settings.{Settings}
+use Rattle.swarm_model.specs.Permissions.{is_permission}
 use Rattle.swarm_model.specs.Words.{is_between}
 
 -- 1 to 64 ASCII letters, digits, '-', '_' and '.'
@@ -46,20 +46,6 @@ abbrev pub are_settings : Settings → Bool
 are_settings settings =
     is_between 1 4 (length settings.pools) && (list_all keeps_rules settings.pools && are_placed 0 settings.pools)
 
--- permissions
-
-abbrev pub number_of : Permission → ℕ
-number_of permission.CreateTask = 0
-number_of permission.CancelTask = 1
-number_of permission.ListTasks = 2
-number_of permission.ListBots = 3
-number_of permission.TerminateBot = 4
-number_of permission.RunBot = 5
-number_of permission.UseBlobs = 6
-
-abbrev pub is_permission : Permission → Permission → Bool
-is_permission wanted permission = number_of permission == number_of wanted
-
 -- the grant is for this caller or for every one, and lists the permission
 abbrev pub gives : List ℕ → Permission → Grant → Bool
 gives who wanted grant =
@@ -68,25 +54,3 @@ gives who wanted grant =
 -- a caller has a permission in the pool
 abbrev pub permits : PoolSettings → List ℕ → Permission → Bool
 permits settings who wanted = list_any (gives who wanted) settings.grants
-
--- the grant is for every caller, and lists the permission
-abbrev pub gives_all : Permission → Grant → Bool
-gives_all wanted grant = same grant.caller (codes "*") && list_any (is_permission wanted) grant.permissions
-
-abbrev pub permits_all : PoolSettings → Permission → Bool
-permits_all settings wanted = list_any (gives_all wanted) settings.grants
-
-abbrev pub permissions : List Permission
-permissions =
-    permission.CreateTask ∷ permission.CancelTask ∷ permission.ListTasks ∷ permission.ListBots ∷ permission.TerminateBot
-    ∷ permission.RunBot ∷ permission.UseBlobs ∷ []
-
--- the pool `default`, which permits everything to everyone
-abbrev pub is_open_pool : PoolSettings → Bool
-is_open_pool settings = same settings.name (codes "default") && list_all (permits_all settings) permissions
-
--- one pool, which is open
-pub record AreOpen (settings : Settings) : Type 0 where
-  pub pool : PoolSettings
-  pub only : settings.pools ≡ pool ∷ []
-  pub open_pool : IsTrue (is_open_pool pool)

@@ -7,7 +7,9 @@ use Rattle.swarm_model.specs.declared.attempt.Attempt.{Attempt}
 use Rattle.swarm_model.specs.declared.attempt.Last.{Last}
 use Rattle.swarm_model.specs.declared.task_row.TaskRow.{TaskRow}
 use Rattle.swarm_model.specs.declared.pool_state.PoolState.{PoolState}
+use Rattle.swarm_model.specs.declared.bot_row.BotRow.{BotRow}
 use Rattle.swarm_model.specs.declared.task_view.TaskView.{TaskView}
+use Rattle.swarm_model.specs.declared.bot_view.BotView.{BotView}
 use Rattle.swarm_model.specs.Finding.{task_of, bot_of}
 
 -- the last update of a task's run
@@ -57,4 +59,17 @@ view_of s task =
       state = task.state;
       task_id = task.no;
       user = task.creator;
+    }
+
+-- a bot
+abbrev pub bot_view_of : PoolState → BotRow → BotView
+bot_view_of s bot =
+    record {
+      bot_id = bot.name;
+      dimensions = bot.dims;
+      is_dead = bot.dead;
+      last_seen_ts = bot.contact;
+      quarantined = bot.quarantined;
+      task_id = option_and_then run_of (option_and_then (task_of s) bot.task);
+      terminating = bot.terminating;
     }

@@ -1,17 +1,6 @@
+use crate::Permission;
 use dimensions::{Seq, Text, TryCopy};
 use std::alloc::{AllocError, Global};
-
-/// What a caller may do in a pool.
-#[derive(Clone, Copy, Debug, PartialEq, Eq)]
-pub enum Permission {
-    CreateTask,
-    CancelTask,
-    ListTasks,
-    ListBots,
-    TerminateBot,
-    RunBot,
-    UseBlobs,
-}
 
 /// What one caller, or by `*` every caller, may do.
 #[derive(Drop)]
@@ -44,12 +33,6 @@ pub struct Settings {
     /// The folder in which the pools' records are kept, if they are.
     pub store: Option<Text>,
     pub pools: Seq<PoolSettings>,
-}
-
-impl TryCopy for Permission {
-    fn try_copy(&self, _alloc: Global) -> Result<Permission, AllocError> {
-        Ok(*self)
-    }
 }
 
 impl TryCopy for Grant {

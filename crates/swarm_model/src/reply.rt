@@ -1,5 +1,5 @@
-use crate::{Rule, TaskState, TaskView};
-use dimensions::Text;
+use crate::{BotView, Rule, TaskState, TaskView};
+use dimensions::{Seq, Text};
 use task_props::Properties;
 
 /// What a request is answered.
@@ -16,6 +16,11 @@ pub enum Reply {
         was_running: bool,
     },
     Result(TaskView),
+    /// A page of tasks, and where more are left the number of its last one.
+    Tasks {
+        items: Seq<TaskView>,
+        cursor: Option<u32>,
+    },
     Count {
         count: u64,
     },
@@ -48,5 +53,11 @@ pub enum Reply {
     },
     /// The bot will be told to end.
     Terminating,
+    /// A page of bots, and where more are left the name of its last one.
+    Bots {
+        items: Seq<BotView>,
+        cursor: Option<Text>,
+    },
+    Bot(BotView),
     No(Rule),
 }

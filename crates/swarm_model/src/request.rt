@@ -18,6 +18,13 @@ pub enum Request {
         task: u32,
         try_no: u32,
     },
+    /// The tasks in a state, or in any, with numbers below `below`, where there is one: at most
+    /// `limit`, 1 to 200, the newest first.
+    List {
+        state: Option<TaskState>,
+        limit: u32,
+        below: Option<u32>,
+    },
     /// How many tasks are in a state, or in any.
     Count {
         state: Option<TaskState>,
@@ -56,6 +63,16 @@ pub enum Request {
     },
     /// A bot is to end.
     Terminate {
+        bot: Text,
+    },
+    /// The bots whose names come after `after`, in the order of their bytes: at most `limit`, 1 to
+    /// 200. All names come after the empty one.
+    Bots {
+        limit: u32,
+        after: Text,
+    },
+    /// What is known of a bot.
+    Bot {
         bot: Text,
     },
 }

@@ -46,7 +46,8 @@ pub enum Rule {
     },
     /// The head names no caller, or not just one.
     NoCaller,
-    /// The pool gives the caller no such permission, and the task is another's.
+    /// The pool gives the caller no such permission. A task's creator needs none to cancel it or to
+    /// see what it has come to.
     Denied {
         permission: Permission,
         pool: Text,

@@ -2,3 +2,7 @@ pub mod Legality
 pub mod Committing
 mod RowEffects
 mod Holding
+mod Finding
+mod TasksBelow
+mod Lowest
+mod NextBot

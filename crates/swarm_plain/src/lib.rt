@@ -8,6 +8,7 @@
 mod deadlines;
 mod effects;
 mod list_pool;
+mod pages;
 mod rows;
 mod scans;
 mod sources;

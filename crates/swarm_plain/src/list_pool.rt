@@ -4,7 +4,7 @@ ghost use Rattle.swarm_model.specs.Answers.{entry_at};
 
 use crate::deadlines::next_deadline;
 use crate::rows::Rows;
-use crate::{scans, sources};
+use crate::{pages, scans, sources};
 use content_store::Filled;
 use dimensions::{BotDims, DimSet, Text, TryCopy};
 use row_changes::{is_capable, row_of};
@@ -84,6 +84,15 @@ impl PoolQueries for ListPool {
         row_of(self.rows.tasks.as_slice(), number)
     }
 
+    fn newest_below<L: Ledger>(
+        &self,
+        wanted: Option<TaskState>,
+        below: Option<u32>,
+        _steps: &mut Steps<L>,
+    ) -> Option<&TaskRow> {
+        pages::newest_below(self.rows.tasks.as_slice(), wanted, below)
+    }
+
     fn bot_count(&self) -> usize {
         self.rows.bots.len()
     }
@@ -94,6 +103,10 @@ impl PoolQueries for ListPool {
 
     fn bot_named<'a>(&'a self, name: &Text) -> Option<&'a BotRow> {
         scans::bot_named(self.rows.bots.as_slice(), name)
+    }
+
+    fn next_bot<'a>(&'a self, name: &Text) -> Option<&'a BotRow> {
+        pages::next_bot(self.rows.bots.as_slice(), name)
     }
 
     fn sent<'a, L: Ledger>(

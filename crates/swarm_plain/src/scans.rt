@@ -12,7 +12,7 @@ use dimensions::{BotDims, Text};
 use row_changes::{is_claimed, is_sent, waits_for};
 use swarm_model::{BotRow, TaskRow, TaskState};
 
-fn is_wanted(wanted: Option<TaskState>, task: &TaskRow) -> bool
+pub(crate) fn is_wanted(wanted: Option<TaskState>, task: &TaskRow) -> bool
     ensures { result ≡ is_wanted wanted task.now }
 {
     match wanted {

@@ -6,9 +6,9 @@ use Rattle.toml.specs.Parse.{parse_document}
 use Rattle.swarm_model.specs.declared.pool_settings.Settings.{Settings}
 use Rattle.json_fields.specs.Readings.{◌>>=◌}
 use Rattle.swarm_policy.specs.declared.settings_rule.SettingsRule.{SettingsRule}
-use Rattle.swarm_policy.specs.declared.settings_rule.SettingsRule.TheVariants.{Count}
+use Rattle.swarm_policy.specs.declared.settings_rule.SettingsRule.TheVariants.{Toml, Count}
 use Rattle.swarm_policy.specs.declared.settings_fault.SettingsFault.{SettingsFault}
-use Rattle.swarm_policy.specs.declared.settings_fault.SettingsFault.TheVariants.{Text}
+use Rattle.swarm_policy.specs.declared.settings_fault.SettingsFault.TheVariants.{Broken}
 use Rattle.swarm_policy.specs.Fields.{first_unknown, or_default, text_of, unless_unknown}
 use Rattle.swarm_policy.specs.Pools.{pools_in}
 use Rattle.swarm_policy.specs.Readings.{at, keeping}
@@ -40,10 +40,9 @@ settings_in t = do
   pools ← pools_in (get_member (codes "pools") t)
   Ok (record { store = store; pools = pools })
 
--- a text that is no table
-abbrev pub or_text : Option Members → Result Members SettingsFault
-or_text None = Err Text
-or_text (Some t) = Ok t
+abbrev pub or_no_toml : Option Members → Result Members SettingsFault
+or_no_toml None = Err (Broken (codes "text") Toml)
+or_no_toml (Some t) = Ok t
 
 -- the table that a text is, where it is UTF-8 and TOML
 abbrev pub table_of : List ℕ → Option Members
@@ -51,4 +50,4 @@ table_of text = if is_utf8 text then parse_document text else None
 
 -- the settings of a text
 unfoldable pub settings_of : List ℕ → Result Settings SettingsFault
-settings_of text = or_text (table_of text) >>= settings_in
+settings_of text = or_no_toml (table_of text) >>= settings_in

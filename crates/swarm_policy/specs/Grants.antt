@@ -2,12 +2,10 @@
 use Rattle.std.specs.Prelude.{ℕ, Bool, ◌&&◌, nat_le, List, [], ◌∷◌, ◌++◌, length, codes, Option, Some, None, if◌then◌else◌, Result, Ok, Err}
 use Rattle.std.specs.List.{list_all}
 use Rattle.toml.specs.Data.{Data, get}
-use Rattle.dimensions.specs.Alike.{same}
-use Rattle.dimensions.specs.Choosing.{when, ◌or_else◌}
 use Rattle.dimensions.specs.Rules.{has_length_to}
-use Rattle.swarm_model.specs.declared.pool_settings.Permission.{Permission}
-use Rattle.swarm_model.specs.declared.pool_settings.Permission.TheVariants as permission
+use Rattle.swarm_model.specs.declared.permission.Permission.{Permission}
 use Rattle.swarm_model.specs.declared.pool_settings.Grant.{Grant}
+use Rattle.swarm_model.specs.Permissions.{permission_named}
 use Rattle.swarm_model.specs.Settings.{is_grant}
 use Rattle.swarm_model.specs.Words.{is_between}
 use Rattle.json_fields.specs.Readings.{◌>>=◌}
@@ -17,17 +15,6 @@ use Rattle.swarm_policy.specs.declared.settings_fault.SettingsFault.{SettingsFau
 use Rattle.swarm_policy.specs.Fields.{is_table, is_text, or_default, required, text_of, unknown_key, values_of}
 use Rattle.swarm_policy.specs.Readings.{at, keeping}
 use Rattle.swarm_policy.specs.Rules.{first_rule}
-
--- the permission of a name
-unfoldable pub permission_named : List ℕ → Option Permission
-permission_named name =
-    when (same name (codes "swarming.pools.createTask")) permission.CreateTask
-    or_else when (same name (codes "swarming.pools.cancelTask")) permission.CancelTask
-    or_else when (same name (codes "swarming.pools.listTasks")) permission.ListTasks
-    or_else when (same name (codes "swarming.pools.listBots")) permission.ListBots
-    or_else when (same name (codes "swarming.pools.terminateBot")) permission.TerminateBot
-    or_else when (same name (codes "profile.pools.runBot")) permission.RunBot
-    or_else when (same name (codes "profile.pools.useBlobs")) permission.UseBlobs
 
 -- a name that no permission has breaks the rule `grammar`
 abbrev pub or_unnamed : Option Permission → Result Permission SettingsRule

@@ -3,7 +3,7 @@ use Rattle.std.specs.Prelude.{[], ◌∷◌, codes, None}
 use Rattle.swarm_model.specs.declared.pool_settings.Grant.{Grant}
 use Rattle.swarm_model.specs.declared.pool_settings.PoolSettings.{PoolSettings}
 use Rattle.swarm_model.specs.declared.pool_settings.Settings.{Settings}
-use Rattle.swarm_model.specs.Settings.{permissions}
+use Rattle.swarm_model.specs.Permissions.{permissions}
 use Rattle.swarm_policy.specs.Defaults.{default_reuse_age_secs, default_death_timeout_secs, default_blob_life_secs, default_store_units, default_most_tasks, default_most_bots, default_most_entries, default_most_weight}
 
 -- everyone may do everything

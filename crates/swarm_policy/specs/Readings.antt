@@ -39,7 +39,6 @@ at key (Err rule) = Err (fault.Broken key rule)
 -- a rule that is broken below a key: the place goes on after a dot
 abbrev pub below : List ℕ → SettingsFault → SettingsFault
 below key fault.Memory = fault.Memory
-below key fault.Text = fault.Text
 below key (fault.Broken place rule) = fault.Broken (key ++ (codes "." ++ place)) rule
 
 -- a reading of what is below a key

@@ -6,7 +6,7 @@ ghost use Rattle.json_fields.specs.Readings.{Gives};
 ghost use Rattle.swarm_policy.specs.Readings.{GivesUnlessMemory, Reads};
 ghost use Rattle.swarm_policy.specs.Fields.{first_unknown as spec_first_unknown};
 ghost use Rattle.swarm_policy.specs.Pools.{have_own_names};
-ghost use Rattle.swarm_policy.specs.Documents.{is_folder as spec_is_folder, folder_of as spec_folder_of, store_at, top_keys, settings_in, or_text, table_of, settings_of};
+ghost use Rattle.swarm_policy.specs.Documents.{is_folder as spec_is_folder, folder_of as spec_folder_of, store_at, top_keys, settings_in, or_no_toml, table_of, settings_of};
 
 use crate::fields::{first_unknown, text_of, value_at};
 use crate::places::broken;
@@ -68,7 +68,7 @@ fn read_table(alloc: Global, table: &Table) -> Result<Settings, SettingsFault>
 }
 
 fn read_document(alloc: Global, text: &[u8]) -> Result<Table, SettingsFault>
-    ensures { GivesUnlessMemory table_view result (or_text (table_of text.now)) }
+    ensures { GivesUnlessMemory table_view result (or_no_toml (table_of text.now)) }
 {
     match toml::table_from_slice(alloc, text) {
         Ok(table) => Ok(table),
@@ -76,7 +76,7 @@ fn read_document(alloc: Global, text: &[u8]) -> Result<Table, SettingsFault>
             if error.is_memory() {
                 Err(SettingsFault::Memory)
             } else {
-                Err(SettingsFault::Text)
+                Err(broken(alloc, "text", SettingsRule::Toml))
             }
         }
     }
@@ -87,10 +87,10 @@ fn read_document(alloc: Global, text: &[u8]) -> Result<Table, SettingsFault>
 ///
 /// # Errors
 ///
-/// `Text` where the text is no TOML. `Broken` with the first broken rule: that of the top, then
-/// pool by pool, unknown keys of a table first, in order of bytes, and then its keys in the order of
-/// `PoolSettings`, each with its rules in the order of `SettingsRule`. The grants of a pool are one
-/// place, so of the rules that they break the first is told, whichever grant breaks it.
+/// The first broken rule: that the text is TOML, those of the top, then pool by pool, unknown keys of
+/// a table first, in order of bytes, and then its keys in the order of `PoolSettings`, each with its
+/// rules in the order of `SettingsRule`. The grants of a pool are one place, so of the rules that
+/// they break the first is told, whichever grant breaks it.
 #[tactic(auto, unfolding(crate::specs::Documents::settings_of))]
 pub fn read_settings(alloc: Global, text: &[u8]) -> Result<Settings, SettingsFault>
     ensures reads { Reads result (settings_of text.now) }

@@ -8,7 +8,7 @@ ghost use Rattle.swarm_model.specs.Words.{is_between};
 ghost use Rattle.json_fields.specs.Readings.{Gives};
 ghost use Rattle.swarm_policy.specs.Readings.{Reads, ReadsValue};
 ghost use Rattle.swarm_policy.specs.Fields.{required as spec_required, is_table as spec_is_table, is_text as spec_is_text, unknown_key as spec_unknown_key};
-ghost use Rattle.swarm_policy.specs.Grants.{permission_named as spec_permission_named, permission_of as spec_permission_of, permissions_of, grant_keys, grant_of, and_grant as spec_and_grant, none_yet as spec_none_yet, grants_of, grants_in, grants_at, are_grants};
+ghost use Rattle.swarm_policy.specs.Grants.{permission_of as spec_permission_of, permissions_of, grant_keys, grant_of, and_grant as spec_and_grant, none_yet as spec_none_yet, grants_of, grants_in, grants_at, are_grants};
 
 use crate::fields::{has_length_to, text_of, unknown_key, values_of};
 use crate::places::broken;
@@ -19,27 +19,11 @@ use std::alloc::{AllocError, AllocFailed, Global};
 use swarm_model::{Grant, Permission};
 use toml::Value;
 
-#[tactic(auto, unfolding(crate::specs::Grants::permission_named))]
-fn permission_named(name: &str) -> Option<Permission>
-    ensures { result ≡ spec_permission_named name.now }
-{
-    match name {
-        "swarming.pools.createTask" => Some(Permission::CreateTask),
-        "swarming.pools.cancelTask" => Some(Permission::CancelTask),
-        "swarming.pools.listTasks" => Some(Permission::ListTasks),
-        "swarming.pools.listBots" => Some(Permission::ListBots),
-        "swarming.pools.terminateBot" => Some(Permission::TerminateBot),
-        "profile.pools.runBot" => Some(Permission::RunBot),
-        "profile.pools.useBlobs" => Some(Permission::UseBlobs),
-        _ => None,
-    }
-}
-
 fn permission_of(value: &Value) -> Result<Permission, SettingsRule>
     ensures { Gives (λ p. p) result (spec_permission_of (view value.now)) }
 {
     let name = text_of(value)?;
-    permission_named(name).ok_or(SettingsRule::Grammar)
+    Permission::from_name(name).ok_or(SettingsRule::Grammar)
 }
 
 fn read_permissions(alloc: Global, values: &[Value]) -> Result<Seq<Permission>, ValueFault>

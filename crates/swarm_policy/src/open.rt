@@ -1,5 +1,6 @@
 ghost use Rattle.std.specs.Prelude.{◌≡◌, IfOk, IsTrue};
-ghost use Rattle.swarm_model.specs.Settings.{AreOpen, are_settings, permissions};
+ghost use Rattle.swarm_model.specs.Permissions.{permissions};
+ghost use Rattle.swarm_model.specs.Settings.{are_settings};
 ghost use Rattle.swarm_policy.specs.Open.{everyone, open_pool, open_settings as spec_open_settings};
 
 use crate::defaults;
@@ -53,7 +54,6 @@ fn open_pool(alloc: Global) -> Result<PoolSettings, AllocError>
 pub fn open_settings(alloc: Global) -> Result<Settings, AllocError>
     ensures exact { IfOk result (λ settings. settings ≡ spec_open_settings) }
     ensures keeps_rules { IfOk result (λ settings. IsTrue (are_settings settings)) }
-    ensures is_open { IfOk result (λ settings. AreOpen settings) }
 {
     Ok(Settings {
         store: None,

@@ -35,7 +35,6 @@ pub(crate) fn below(alloc: Global, key: &str, fault: SettingsFault) -> SettingsF
 {
     match fault {
         SettingsFault::Memory => SettingsFault::Memory,
-        SettingsFault::Text => SettingsFault::Text,
         SettingsFault::Broken { place, rule } => match place_below(alloc, key, place.as_str()) {
             Ok(place) => broken(alloc, place.as_str(), rule),
             Err(_) => SettingsFault::Memory,

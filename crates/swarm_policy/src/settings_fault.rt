@@ -4,42 +4,13 @@ use std::alloc::{AllocError, AllocFailed};
 use std::error::Error;
 use std::fmt;
 
-/// Why a text says no settings: want of memory, a text that is no TOML, or the first broken rule
-/// with its place.
+/// Why a text says no settings: want of memory, or the first broken rule with its place.
 #[derive(Debug, Drop)]
 pub enum SettingsFault {
     Memory,
-    Text,
-    /// The place is a key at the top, or `pools.I.KEY` of the pool I, counted from 0.
+    /// The place is `text` of a text that is no TOML, and else a key at the top, or `pools.I.KEY` of
+    /// the pool I, counted from 0.
     Broken { place: Text, rule: SettingsRule },
-}
-
-impl SettingsFault {
-    ghost use Rattle.std.specs.Prelude.{◌≡◌};
-    ghost use Rattle.swarm_policy.specs.Faults.{fault_place, fault_rule_name};
-
-    /// The place of what is wrong, as it is printed: of a text that is no TOML `text`, and of want
-    /// of memory nothing.
-    pub fn place(&self) -> &str
-        ensures { result.now ≡ fault_place self.now }
-    {
-        match self {
-            SettingsFault::Memory => "",
-            SettingsFault::Text => "text",
-            SettingsFault::Broken { place, .. } => place.as_str(),
-        }
-    }
-
-    /// The name of the broken rule: of a text that is no TOML `toml`, and of want of memory nothing.
-    pub fn rule_name(&self) -> &str
-        ensures { result.now ≡ fault_rule_name self.now }
-    {
-        match self {
-            SettingsFault::Memory => "",
-            SettingsFault::Text => "toml",
-            SettingsFault::Broken { rule, .. } => rule.name(),
-        }
-    }
 }
 
 impl fmt::Display for SettingsFault {
@@ -49,9 +20,14 @@ impl fmt::Display for SettingsFault {
     ghost output = { λ fault. Some (fault_text fault) };
 
     fn fmt<W: fmt::Write>(&self, f: &mut fmt::Formatter<W>) -> fmt::Result {
-        let place = self.place();
-        let rule = self.rule_name();
-        write!(f, "{place} {rule}")
+        match self {
+            SettingsFault::Memory => f.write_str("want of memory"),
+            SettingsFault::Broken { place, rule } => {
+                let place = place.as_str();
+                let rule = rule.name();
+                write!(f, "{place} {rule}")
+            }
+        }
     }
 }
 

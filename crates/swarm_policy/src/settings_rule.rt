@@ -1,6 +1,8 @@
 /// A rule of the settings. Where a key breaks several, the first in the order of this list is told.
 #[derive(Clone, Copy, Debug, PartialEq, Eq, PartialOrd, Ord)]
 pub enum SettingsRule {
+    /// The text is TOML.
+    Toml,
     Unknown,
     Missing,
     WrongType,
@@ -19,6 +21,7 @@ impl SettingsRule {
         ensures { result.now ≡ rule_name self.now }
     {
         match self {
+            SettingsRule::Toml => "toml",
             SettingsRule::Unknown => "unknown",
             SettingsRule::Missing => "missing",
             SettingsRule::WrongType => "type",

@@ -1,0 +1,4 @@
+pub mod Beyond
+pub mod Listed
+pub mod Pages
+pub mod Sorted

@@ -3,13 +3,15 @@ ghost use Rattle.swarm_model.specs.Fits.{fits};
 ghost use Rattle.swarm_model.specs.Answers.{decide};
 
 use crate::PoolQueries;
+use crate::bot_pages::list_bots;
 use crate::canceling::cancel;
 use crate::claiming::claim;
 use crate::events::event;
 use crate::handshakes::handshake;
 use crate::new_tasks::new_task;
 use crate::polling::poll;
-use crate::reading::{task_count, task_result};
+use crate::reading::{show_bot, task_count, task_result};
+use crate::task_pages::list_tasks;
 use crate::terminating::terminate;
 use crate::updating::update;
 use dimensions::Text;
@@ -35,6 +37,11 @@ pub fn decide<P: PoolQueries, L: Ledger>(
             cancel(alloc, pool, who, *task, *try_no, *kill, steps)
         }
         Request::Result { task, try_no } => task_result(alloc, pool, who, *task, *try_no, steps),
+        Request::List {
+            state,
+            limit,
+            below,
+        } => list_tasks(alloc, pool, *state, *limit, *below, steps),
         Request::Count { state } => Ok(task_count(pool, *state)),
         Request::Handshake {
             bot,
@@ -57,5 +64,7 @@ pub fn decide<P: PoolQueries, L: Ledger>(
             last,
         } => update(alloc, pool, bot, *task, *try_no, *chunk, last, steps),
         Request::Terminate { bot } => Ok(terminate(pool, bot)),
+        Request::Bots { limit, after } => list_bots(alloc, pool, *limit, after, steps),
+        Request::Bot { bot } => show_bot(alloc, pool, bot, steps),
     }
 }

@@ -8,6 +8,7 @@
 #![tactic(auto)]
 
 mod admitting;
+mod bot_pages;
 mod canceling;
 mod claiming;
 mod deciding;
@@ -22,6 +23,7 @@ mod replies;
 mod reusing;
 mod runs;
 mod settling;
+mod task_pages;
 mod terminating;
 mod updating;
 mod views;

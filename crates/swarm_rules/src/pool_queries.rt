@@ -1,7 +1,8 @@
-ghost use Rattle.std.specs.Prelude.{◌≡◌, length, IfOk};
+ghost use Rattle.std.specs.Prelude.{◌≡◌, length, slice_get, IfOk};
 ghost use Rattle.std.specs.List.{count_by};
 ghost use Rattle.std.specs.Option.{option_copied};
 ghost use Rattle.swarm_model.specs.Finding.{task_of, bot_of, bot_named, is_wanted};
+ghost use Rattle.swarm_model.specs.Pages.{listed_tasks, listed_bots};
 ghost use Rattle.swarm_model.specs.Slices.{capable, first};
 ghost use Rattle.swarm_model.specs.Reuse.{sent, newest_source};
 ghost use Rattle.swarm_model.specs.Answers.{claimed};
@@ -41,11 +42,25 @@ pub trait PoolQueries {
     fn task_of<L: Ledger>(&self, number: u32, steps: &mut Steps<L>) -> Option<&TaskRow>
         ensures { option_copied result ≡ task_of (state self.now) number };
 
+    /// The newest task in the state, or in any where none is named, with a number below the one
+    /// that is given, where one is.
+    fn newest_below<L: Ledger>(
+        &self,
+        wanted: Option<TaskState>,
+        below: Option<u32>,
+        steps: &mut Steps<L>,
+    ) -> Option<&TaskRow>
+        ensures { option_copied result ≡ slice_get (listed_tasks (state self.now) wanted below) 0 };
+
     fn bot_of(&self, number: u32) -> Option<&BotRow>
         ensures { option_copied result ≡ bot_of (state self.now) number };
 
     fn bot_named<'a>(&'a self, name: &Text) -> Option<&'a BotRow>
         ensures { option_copied result ≡ bot_named (state self.now) name.now };
+
+    /// The bot whose name comes next after this one, in the order of their bytes.
+    fn next_bot<'a>(&'a self, name: &Text) -> Option<&'a BotRow>
+        ensures { option_copied result ≡ slice_get (listed_bots (state self.now) name.now) 0 };
 
     /// The task that the caller sent under this uuid.
     fn sent<'a, L: Ledger>(

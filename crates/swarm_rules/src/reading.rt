@@ -1,12 +1,13 @@
 ghost use Rattle.std.specs.Prelude.{◌≡◌, IfOk};
 ghost use Rattle.std.specs.Option.{option_copied};
 ghost use Rattle.swarm_model.specs.declared.rule.Rule.TheVariants as rule;
-ghost use Rattle.swarm_model.specs.Answers.{if_named, named_task, with, result_of, count_tasks};
+ghost use Rattle.swarm_model.specs.Finding.{bot_named};
+ghost use Rattle.swarm_model.specs.Answers.{if_named, named_task, with, result_of, count_tasks, show_bot};
 
 use crate::PoolQueries;
 use crate::permitting::{denied, may};
 use crate::replies::{refusal, reply_only};
-use crate::views::view_of;
+use crate::views::{bot_view_of, view_of};
 use dimensions::Text;
 use std::alloc::{AllocError, Global};
 use std::sync::ledger::Ledger;
@@ -76,4 +77,19 @@ pub(crate) fn task_count<P: PoolQueries>(pool: &P, state: Option<TaskState>) -> 
     reply_only(Reply::Count {
         count: pool.count(state),
     })
+}
+
+/// What a caller is told who asks what is known of a bot.
+pub(crate) fn show_bot<P: PoolQueries, L: Ledger>(
+    alloc: Global,
+    pool: &P,
+    name: &Text,
+    steps: &mut Steps<L>,
+) -> Result<Decision, AllocError>
+    ensures { IfOk result (λ decision. decision ≡ with (bot_named (P.state pool.now) name.now) rule.NoBot (show_bot (P.state pool.now))) }
+{
+    match pool.bot_named(name) {
+        None => Ok(refusal(Rule::NoBot)),
+        Some(bot) => Ok(reply_only(Reply::Bot(bot_view_of(alloc, pool, bot, steps)?))),
+    }
 }

@@ -1,14 +1,14 @@
-//! What a reader is shown of a task.
+//! What a reader is shown of a task or a bot.
 ghost use Rattle.std.specs.Prelude.{◌≡◌, IfOk};
 ghost use Rattle.std.specs.Option.{option_copied, option_map, option_map_or, option_and_then};
 ghost use Rattle.swarm_model.specs.Finding.{task_of};
-ghost use Rattle.swarm_model.specs.Views.{last_of, shown_from, attempt_shown, run_of, exit_code_of, files_of, bot_name_of, view_of};
+ghost use Rattle.swarm_model.specs.Views.{last_of, shown_from, attempt_shown, run_of, exit_code_of, files_of, bot_name_of, view_of, bot_view_of};
 
 use crate::PoolQueries;
 use dimensions::{Seq, Text, TryCopy};
 use std::alloc::{AllocError, Global};
 use std::sync::ledger::Ledger;
-use swarm_model::{Attempt, Steps, TaskRow, TaskView};
+use swarm_model::{Attempt, BotRow, BotView, Steps, TaskRow, TaskView};
 use task_props::File;
 
 /// A run is named by its task and its try.
@@ -86,19 +86,19 @@ fn bot_name_of<P: PoolQueries>(
     }
 }
 
-/// The run whose outcome the task took.
-fn deduped_from<P: PoolQueries, L: Ledger>(
+/// The run of the task that has the number, where there is one.
+fn run_numbered<P: PoolQueries, L: Ledger>(
     pool: &P,
-    task: &TaskRow,
+    number: Option<u32>,
     steps: &mut Steps<L>,
 ) -> Option<(u32, u32)>
-    ensures { result ≡ option_and_then run_of (option_and_then (task_of (P.state pool.now)) task.now.source) }
+    ensures { result ≡ option_and_then run_of (option_and_then (task_of (P.state pool.now)) number) }
 {
-    match task.source {
+    match number {
         None => None,
         Some(number) => match pool.task_of(number, steps) {
             None => None,
-            Some(source) => run_of(source),
+            Some(task) => run_of(task),
         },
     }
 }
@@ -153,7 +153,7 @@ pub(crate) fn view_of<P: PoolQueries, L: Ledger>(
         completed_ts: task.ended,
         created_ts: task.created,
         current_task_slice: task.slice,
-        deduped_from: deduped_from(pool, task, steps),
+        deduped_from: run_numbered(pool, task.source, steps),
         dropped: dropped_of(task),
         duration_ms: duration_of(task),
         exit_code: exit_code_of(task),
@@ -166,5 +166,25 @@ pub(crate) fn view_of<P: PoolQueries, L: Ledger>(
         state: task.state,
         task_id: task.no,
         user: task.creator.try_copy(alloc)?,
+    })
+}
+
+/// What a reader is shown of a bot.
+pub(crate) fn bot_view_of<P: PoolQueries, L: Ledger>(
+    alloc: Global,
+    pool: &P,
+    bot: &BotRow,
+    steps: &mut Steps<L>,
+) -> Result<BotView, AllocError>
+    ensures { IfOk result (λ view. view ≡ bot_view_of (P.state pool.now) bot.now) }
+{
+    Ok(BotView {
+        bot_id: bot.name.try_copy(alloc)?,
+        dimensions: bot.dims.try_copy(alloc)?,
+        is_dead: bot.dead,
+        last_seen_ts: bot.contact,
+        quarantined: bot.quarantined.try_copy(alloc)?,
+        task_id: run_numbered(pool, bot.task, steps),
+        terminating: bot.terminating,
     })
 }

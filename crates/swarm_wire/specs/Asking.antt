@@ -1,9 +1,9 @@
 -- What the body of a request asks for.
-use Rattle.std.specs.Prelude.{◌≡◌, ◌≢◌, ℕ, List, [], length, nat_lt, Option, Some, None, Result, Ok, Err, if◌then◌else◌, IsTrue, IsSomeAnd, slice_get}
+use Rattle.std.specs.Prelude.{◌≡◌, ◌≢◌, ◌==◌, ℕ, List, [], length, nat_lt, Option, Some, None, Result, Ok, Err, if◌then◌else◌, IsTrue, IsSomeAnd, slice_get, codes}
 use Rattle.serde_json.specs.Data.{Data}
 use Rattle.task_props.specs.declared.prop_fault.PropFault.{PropFault}
 use Rattle.task_props.specs.declared.prop_fault.PropFault.TheVariants as prop_fault
-use Rattle.task_props.specs.declared.prop_rule.PropRule.TheVariants.{WrongType}
+use Rattle.task_props.specs.declared.prop_rule.PropRule.TheVariants.{Range, WrongType}
 use Rattle.task_props.specs.Checked.{pool_of_task}
 use Rattle.swarm_model.specs.declared.pool_settings.PoolSettings.{PoolSettings}
 use Rattle.swarm_model.specs.declared.pool_settings.Settings.{Settings}
@@ -15,17 +15,18 @@ use Rattle.swarm_wire.specs.declared.asked.Asked.{Asked}
 use Rattle.swarm_wire.specs.declared.asked.WireFault.{WireFault}
 use Rattle.swarm_wire.specs.declared.asked.WireFault.TheVariants as fault
 use Rattle.bot_bodies.specs.declared.pool_request.PoolRequest.{PoolRequest}
-use Rattle.swarm_wire.specs.declared.route.Route.{Route}
-use Rattle.swarm_wire.specs.declared.route.Route.TheVariants as route
+use Rattle.routes.specs.declared.route.Route.{Route}
+use Rattle.routes.specs.declared.route.Route.TheVariants as route
 use Rattle.json_fields.specs.Readings.{reading, ◌>>=◌}
 use Rattle.json_fields.specs.Fields.{is_object}
 use Rattle.swarm_wire.specs.Pools.{pool_place}
-use Rattle.json_fields.specs.Ids.{place_of_id, task_of_id, try_of_id}
+use Rattle.json_fields.specs.Ids.{place_of_number, task_of_number, place_of_id, task_of_id, try_of_id}
 use Rattle.task_bodies.specs.Tasks.{task_in, is_built}
 use Rattle.task_bodies.specs.Results.{id_in}
 use Rattle.task_bodies.specs.Cancels.{cancel_in}
+use Rattle.task_bodies.specs.Lists.{list_body_in}
 use Rattle.task_bodies.specs.Counts.{count_in}
-use Rattle.bot_bodies.specs.BotCalls.{handshake_in, poll_in, claim_in, event_in, terminate_in}
+use Rattle.bot_bodies.specs.BotCalls.{handshake_in, poll_in, claim_in, event_in, terminate_in, get_bot_in, list_bots_in}
 use Rattle.bot_bodies.specs.Reports.{report_in, is_bare, update_by}
 
 -- a request that carries no bytes, to the pool at a place
@@ -84,6 +85,18 @@ count_of pools d = do
   place ← pool_named pools fields.0
   Ok (asked place (ask.Count fields.1))
 
+-- the task of a cursor, whose place must be that of the pool
+unfoldable pub below_of : ℕ → Option ℕ → Result (Option ℕ) WireFault
+below_of place None = Ok None
+below_of place (Some cursor) = if place_of_number cursor == place then Ok (Some (task_of_number cursor)) else Err (fault.BadField (codes "cursor") Range)
+
+unfoldable pub list_of : List PoolSettings → Data → Result Asked WireFault
+list_of pools d = do
+  list ← or_bad_field (list_body_in d)
+  place ← pool_named pools list.pool
+  below ← below_of place list.cursor
+  Ok (asked place (ask.List list.state list.limit below))
+
 -- a request to the pool of its name
 unfoldable pub named_of : List PoolSettings → Result PoolRequest PropFault → Result Asked WireFault
 named_of pools reading = do
@@ -95,6 +108,7 @@ abbrev pub object_asks : List PoolSettings → Route → Data → Result Asked W
 object_asks pools route.NewTask d = new_of pools d
 object_asks pools route.CancelTask d = cancel_of pools d
 object_asks pools route.GetResult d = result_of pools d
+object_asks pools route.ListTasks d = list_of pools d
 object_asks pools route.CountTasks d = count_of pools d
 object_asks pools route.Handshake d = named_of pools (handshake_in d)
 object_asks pools route.Poll d = named_of pools (poll_in d)
@@ -102,6 +116,8 @@ object_asks pools route.Claim d = named_of pools (claim_in d)
 object_asks pools route.Event d = named_of pools (event_in d)
 object_asks pools route.TaskUpdate d = update_of pools d
 object_asks pools route.TerminateBot d = named_of pools (terminate_in d)
+object_asks pools route.ListBots d = named_of pools (list_bots_in d)
+object_asks pools route.GetBot d = named_of pools (get_bot_in d)
 
 -- what is no object breaks a rule of no field
 unfoldable pub value_asks : List PoolSettings → Route → Data → Result Asked WireFault

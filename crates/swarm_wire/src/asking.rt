@@ -1,22 +1,24 @@
 //! What was read of a body, asked of its pool.
-ghost use Rattle.std.specs.Prelude.{◌≡◌, ◌≤◌, IfOk, Result, length};
+ghost use Rattle.std.specs.Prelude.{◌≡◌, ◌≤◌, true, IfOk, Result, length};
+ghost use Rattle.std.specs.Option.{option_map_or};
 ghost use Rattle.serde_json.specs.View.{view};
 ghost use Rattle.task_props.specs.declared.prop_fault.PropFault.{PropFault};
 ghost use Rattle.json_fields.specs.Readings.{Reads};
+ghost use Rattle.swarm_model.specs.Fits.{is_task_number};
 ghost use Rattle.bot_bodies.specs.declared.pool_request.PoolRequest.{PoolRequest as SpecPoolRequest};
 ghost use Rattle.bot_bodies.specs.BotCalls.{FitsNamed};
-ghost use Rattle.swarm_wire.specs.Asking.{Asks, FitsPool, new_of, cancel_of, result_of, count_of, named_of, update_of};
+ghost use Rattle.swarm_wire.specs.Asking.{Asks, FitsPool, new_of, cancel_of, result_of, below_of, list_of, count_of, named_of, update_of};
 
 use crate::pools::{pool_at, pool_place};
 use crate::{Asked, WireFault};
 use bot_bodies::{PoolRequest, ending_of, is_bare, read_report};
 use dimensions::Seq;
-use json_fields::{task_of_id, try_of_id};
+use json_fields::{broken, place_of_number, task_of_id, task_of_number, try_of_id};
 use serde_json::Value;
 use std::alloc::Global;
 use swarm_model::{PoolSettings, Request, Unbuilt};
-use task_bodies::{is_built, read_cancel, read_count, read_task, read_task_id};
-use task_props::PropFault;
+use task_bodies::{is_built, read_cancel, read_count, read_list, read_task, read_task_id};
+use task_props::{PropFault, PropRule};
 
 /// The task in a body, asked of the pool of its dimensions.
 #[tactic(auto, unfolding(crate::specs::Asking::new_of))]
@@ -91,6 +93,48 @@ pub(crate) fn ask_result(
     })
 }
 
+/// The task of a cursor, whose place must be that of the pool.
+#[tactic(auto, unfolding(crate::specs::Asking::below_of))]
+fn task_below(alloc: Global, place: u32, cursor: Option<u32>) -> Result<Option<u32>, WireFault>
+    ensures asks { Asks result (below_of place cursor) }
+    ensures within { IfOk result (λ below. option_map_or is_task_number below true ≡ true) }
+{
+    let Some(cursor) = cursor else {
+        return Ok(None);
+    };
+    if place_of_number(cursor) != place {
+        return Err(WireFault::from(broken(alloc, "cursor", PropRule::Range)));
+    }
+    Ok(Some(task_of_number(cursor)))
+}
+
+/// A page of the tasks in a state, asked of the pool of a name.
+#[tactic(auto, unfolding(crate::specs::Asking::list_of))]
+pub(crate) fn ask_list(
+    alloc: Global,
+    pools: &[PoolSettings],
+    body: &Value,
+) -> Result<Asked, WireFault>
+    requires few { length pools.now ≤ 4 }
+    ensures asks { Asks result (list_of pools.now (view body.now)) }
+    ensures fits { IfOk result (λ asked. FitsPool pools.now asked) }
+{
+    let list = read_list(alloc, body)?;
+    let Some(place) = pool_place(pools, list.pool.as_str()) else {
+        return Err(WireFault::NoPool);
+    };
+    let below = task_below(alloc, place, list.cursor)?;
+    Ok(Asked {
+        place,
+        request: Request::List {
+            state: list.state,
+            limit: list.limit,
+            below,
+        },
+        bytes: Seq::new(alloc),
+    })
+}
+
 /// How many tasks are in a state, asked of the pool of a name.
 #[tactic(auto, unfolding(crate::specs::Asking::count_of))]
 pub(crate) fn ask_count(
@@ -113,7 +157,7 @@ pub(crate) fn ask_count(
     })
 }
 
-/// A request of a bot, asked of the pool that it names.
+/// A request of a bot or on bots, asked of the pool that it names.
 #[tactic(auto, unfolding(crate::specs::Asking::named_of))]
 pub(crate) fn ask_named(
     alloc: Global,

@@ -3,11 +3,15 @@ ghost use Rattle.serde_json.specs.View.{view};
 ghost use Rattle.swarm_model.specs.Fits.{fits};
 ghost use Rattle.swarm_wire.specs.Asking.{Asks, FitsPool, object_asks, value_asks, asked_of};
 
-use crate::asking::{ask_cancel, ask_count, ask_named, ask_new, ask_result, ask_update};
-use crate::{Asked, Route, WireFault};
-use bot_bodies::{read_bot_event, read_claim, read_handshake, read_poll, read_terminate};
+use crate::asking::{ask_cancel, ask_count, ask_list, ask_named, ask_new, ask_result, ask_update};
+use crate::{Asked, WireFault};
+use bot_bodies::{
+    read_bot_event, read_claim, read_get_bot, read_handshake, read_list_bots, read_poll,
+    read_terminate,
+};
 use dimensions::Text;
 use json_fields::read_body;
+use routes::Route;
 use serde_json::Value;
 use std::alloc::Global;
 use swarm_model::{PoolSettings, Settings};
@@ -27,6 +31,7 @@ fn ask_object(
         Route::NewTask => ask_new(alloc, pools, body),
         Route::CancelTask => ask_cancel(alloc, pools, body),
         Route::GetResult => ask_result(alloc, pools, body),
+        Route::ListTasks => ask_list(alloc, pools, body),
         Route::CountTasks => ask_count(alloc, pools, body),
         Route::Handshake => ask_named(alloc, pools, read_handshake(alloc, body)),
         Route::Poll => ask_named(alloc, pools, read_poll(alloc, body)),
@@ -34,6 +39,8 @@ fn ask_object(
         Route::Event => ask_named(alloc, pools, read_bot_event(alloc, body)),
         Route::TaskUpdate => ask_update(alloc, pools, body),
         Route::TerminateBot => ask_named(alloc, pools, read_terminate(alloc, body)),
+        Route::ListBots => ask_named(alloc, pools, read_list_bots(alloc, body)),
+        Route::GetBot => ask_named(alloc, pools, read_get_bot(alloc, body)),
     }
 }
 

@@ -1,34 +1,16 @@
 -- The body that asks how many tasks are in a state.
-use Rattle.std.specs.Prelude.{ℕ, List, Option, Some, None, if◌then◌else◌, Result, Ok, Err, codes}
+use Rattle.std.specs.Prelude.{ℕ, List, Option, Result, Ok, codes}
 use Rattle.serde_json.specs.Data.{Data}
-use Rattle.dimensions.specs.Alike.{same}
-use Rattle.task_props.specs.declared.prop_rule.PropRule.{PropRule}
-use Rattle.task_props.specs.declared.prop_rule.PropRule.TheVariants.{Grammar}
 use Rattle.task_props.specs.declared.prop_fault.PropFault.{PropFault}
 use Rattle.swarm_model.specs.declared.task_state.TaskState.{TaskState}
-use Rattle.json_fields.specs.Readings.{at, ◌>>=◌}
-use Rattle.json_fields.specs.Fields.{text_of, or_absent, present, required_text_at}
-use Rattle.swarm_model.specs.States.{state_named}
-
--- an absent state is any
-unfoldable pub state_text_in : Data → Result (List ℕ) PropRule
-state_text_in d = or_absent text_of (Ok (codes "ALL")) (present (codes "state") d)
-
-abbrev pub state_text_at : Data → Result (List ℕ) PropFault
-state_text_at d = at (codes "state") (state_text_in d)
-
-abbrev pub or_unnamed : Option TaskState → Result (Option TaskState) PropRule
-or_unnamed None = Err Grammar
-or_unnamed (Some state) = Ok (Some state)
-
--- the state of a name, or none for any
-unfoldable pub state_of : List ℕ → Result (Option TaskState) PropRule
-state_of name = if same name (codes "ALL") then Ok None else or_unnamed (state_named name)
+use Rattle.json_fields.specs.Readings.{◌>>=◌}
+use Rattle.json_fields.specs.Fields.{required_text_at}
+use Rattle.task_bodies.specs.States.{state_text_at, state_at}
 
 -- the name of the pool, and the state
 unfoldable pub count_in : Data → Result (List ℕ × Option TaskState) PropFault
 count_in d = do
   pool ← required_text_at (codes "pool") d
   name ← state_text_at d
-  state ← at (codes "state") (state_of name)
+  state ← state_at name
   Ok (pool, state)

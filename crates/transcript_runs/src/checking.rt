@@ -42,9 +42,12 @@ fn check_moments(
     transcript: &Transcript,
     piece: usize,
 ) -> Result<(), TranscriptError> {
-    let mut clock = ListClock::new(transcript.moments.as_slice());
+    let mut clock = ListClock {
+        moments: transcript.moments.as_slice(),
+        asked: 0,
+    };
     check_over(alloc, transcript, piece, &mut clock)?;
-    compare_moments(transcript, clock.asked())
+    compare_moments(transcript, clock.asked)
 }
 
 /// Runs a transcript over a clock that begins at its first moment and goes on by a step.
