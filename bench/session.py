@@ -56,7 +56,7 @@ PERMISSIONS = (
 # Longer than the requests of a run take, so that no NewTask settles anything.
 SLICE_SECS = 5
 # How often a page is asked for.
-PAGES = 300
+PAGES = 100
 
 
 def request(call, body):

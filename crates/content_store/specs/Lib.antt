@@ -1,0 +1,4 @@
+pub mod Contents
+pub mod Plain
+pub mod Slots
+pub mod Inside

@@ -1,11 +1,15 @@
-//! Where the blobs of a pool lie in its region of 64-byte units.
+//! Where the blobs of a pool lie: an allocator of runs of units, each at the least place at which
+//! it is free.
 //!
-//! An [`Extent`] is the place of one blob. The crate stands on std alone.
+//! A [`Region`] is seen as its units, the most extents that may be in use at once, and the extents
+//! in use, sorted by place (`specs/Plain.antt`). The place of a new one is `least_place`
+//! (`specs/Places.antt`), which asks only which units are taken, so it does not depend on how a
+//! region finds it. `new` takes all the memory; no other call takes any. What a unit holds is up
+//! to the layer above. The crate stands on std alone.
 #![tactic(auto)]
 
-/// A run of units, from `at` on.
-#[derive(Clone, Copy, Debug, PartialEq, Eq)]
-pub struct Extent {
-    pub at: u32,
-    pub units: u32,
-}
+mod extent;
+mod region;
+
+pub use extent::Extent;
+pub use region::Region;

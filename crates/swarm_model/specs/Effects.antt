@@ -5,6 +5,8 @@ use Rattle.std.specs.Option.{option_map, option_map_or, option_and_then}
 use Rattle.dimensions.specs.declared.text.Text.{Text}
 use Rattle.dimensions.specs.declared.bot_dims.BotDims.{BotDims}
 use Rattle.dimensions.specs.Alike.{same}
+use Rattle.region.specs.Places.{least_place}
+use Rattle.content_store.specs.Contents.{units_of}
 use Rattle.task_props.specs.declared.new_task.NewTask.{NewTask}
 use Rattle.swarm_model.specs.declared.task_state.TaskState.{TaskState}
 use Rattle.swarm_model.specs.declared.task_state.TaskState.TheVariants.{Pending, Running, TimedOut, BotDied, Canceled, Completed, Killed}
@@ -25,7 +27,6 @@ use Rattle.swarm_model.specs.declared.entry.Outcome.{Outcome}
 use Rattle.swarm_model.specs.declared.entry.Outcome.TheVariants as outcome
 use Rattle.swarm_model.specs.Finding.{is_state, task_of, bot_of, blob_of}
 use Rattle.swarm_model.specs.Numbers.{change_at}
-use Rattle.swarm_model.specs.Region.{least_place, units_of}
 
 -- a pool before its first entry
 abbrev pub opening : PoolSettings → PoolState

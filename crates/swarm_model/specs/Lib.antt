@@ -11,7 +11,6 @@ pub mod Pages
 pub mod Reuse
 pub mod Answers
 pub mod Entries
-pub mod Region
 pub mod Effects
 pub mod Deadlines
 pub mod History

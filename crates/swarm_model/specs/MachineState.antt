@@ -2,8 +2,8 @@
 use Rattle.std.specs.Prelude.{◌≡◌, ℕ, Bool, ⊤, IsTrue, List, ◌∷◌, Option, Some, None, IfSome, length, option_map, if◌then◌else◌}
 use Rattle.std.specs.List.{All, find}
 use Rattle.sha2.specs.Sha256.{sha256}
-use Rattle.content_store.specs.declared.Filled.{Filled}
-use Rattle.content_store.specs.declared.Filled.TheVariants.{Done, Differs, Unknown}
+use Rattle.content_store.specs.declared.filled.Filled.{Filled}
+use Rattle.content_store.specs.declared.filled.Filled.TheVariants.{Done, Differs, Unknown}
 use Rattle.dimensions.specs.Alike.{same}
 use Rattle.swarm_model.specs.declared.pool_state.PoolState.{PoolState}
 use Rattle.swarm_model.specs.declared.entry.Entry.{Entry}

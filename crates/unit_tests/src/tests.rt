@@ -12,6 +12,7 @@ mod new_tasks;
 mod pool_grants;
 mod request_heads;
 mod rows_of_tasks;
+mod stored_contents;
 
 fn texts(alloc: Global, list: &[&str]) -> Result<Seq<Text>, AllocError> {
     let mut texts = Vec::new(alloc);

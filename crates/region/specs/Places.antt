@@ -1,10 +1,7 @@
--- Where a blob lies in the pool's region of 64-byte units.
-use Rattle.std.specs.Prelude.{ℕ, zero, suc, Bool, true, false, ◌+◌, ◌-◌, ◌/◌, max, ◌&&◌, not, nat_lt, List, Option, Some, None, if◌then◌else◌}
+-- The least place at which so many units of a region are free.
+use Rattle.std.specs.Prelude.{ℕ, zero, suc, Bool, true, false, ◌+◌, ◌-◌, ◌&&◌, not, nat_lt, List, Option, Some, None, if◌then◌else◌}
 use Rattle.std.specs.List.{list_any}
-use Rattle.region.specs.declared.Extent.{Extent}
-
-abbrev pub units_of : ℕ → ℕ
-units_of size = max 1 ((size + 63) / 64)
+use Rattle.region.specs.declared.extent.Extent.{Extent}
 
 -- the extent shares a unit with the n units from a place on
 abbrev pub overlaps : ℕ → ℕ → Extent → Bool

@@ -1,0 +1,201 @@
+-- Slots that come and go keep what is said of all slots.
+use Rattle.std.proofs.Common.{◌≡◌, ℕ, suc, ◌+◌, ◌≤◌, ◌<◌, Bool, true, false, not, cond, List, [], ◌∷◌, ◌++◌, length, get_or, take, drop, map, Option, Some, None, refl, sym, ap, ◌∙◌, subst, arith}
+use Rattle.std.specs.Bool.{OnTrue}
+use Rattle.std.specs.Option.{option_map}
+use Rattle.std.specs.List.{count_by, insert, remove, All, Contains}
+use Rattle.std.specs.List.Sorted.{IsStrictlySortedBy}
+use Rattle.std.proofs.lemmas.List.{map-append, map-id, take-map, drop-map, length-map, get_or-map}
+use Rattle.std.proofs.lemmas.List.Kept.{IsStrictlySortedBy-filter}
+use Rattle.std.proofs.lemmas.List.Quantifiers.{all_pairs_remove}
+use Rattle.std.proofs.lemmas.List.Elements.{All-append, All-cons, All-take, All-drop}
+use Rattle.region.specs.declared.extent.Extent.{Extent}
+use Rattle.region.specs.Places.{least_place, is_free, overlaps}
+use Rattle.region.specs.Extents.{LieInOrder, extent_at, with_extent, without_extent, AreApart}
+use Rattle.region.specs.SameItems.{SameItems}
+use Rattle.region.specs.Plain.{RegionState}
+use Rattle.region.proofs.Overlaps.{insert-apart}
+use Rattle.content_store.specs.Contents.{Content, digest_cmp, units_of, extent_of, content_of, with_content, unfilled_content, without_content, same_digest}
+use Rattle.content_store.specs.Slots.{digest_of, extent_of_slot, content_in, part_of, IsAt, BelongsAt, AreLaidOut, IsThere, AreThere}
+use Rattle.region.proofs.SameItems.{insert-same, cons-same, same-trans, same-sym, remove-same, cancel-same}
+use Rattle.region.proofs.Gaps.{least_place-free, least_place-same}
+use Rattle.region.proofs.Apart.{with_extent-same, without_extent-same, there-same}
+use Rattle.content_store.specs.declared.slot.Slot.{Slot}
+use Rattle.content_store.proofs.ByDigest.{name_of, find_at, belongs_find, insert-sorted, remove_named, with_content-is}
+
+-- ---- lists under a map
+
+pub map-insert : {X Y : Type 0} (f : X → Y) (xs : List X) (i : ℕ) (x : X) → map f (insert xs i x) ≡ insert (map f xs) i (f x)
+map-insert f xs i x =
+    map-append f (take i xs) (x ∷ drop i xs) ∙ ap (λ (l : List _). l ++ f x ∷ map f (drop i xs)) (sym (take-map f i xs))
+    ∙ ap (λ (l : List _). take i (map f xs) ++ f x ∷ l) (sym (drop-map f i xs))
+
+pub map-remove : {X Y : Type 0} (f : X → Y) (xs : List X) (i : ℕ) → map f (remove xs i) ≡ remove (map f xs) i
+map-remove f xs i =
+    map-append f (take i xs) (drop (suc i) xs) ∙ ap (λ (l : List _). l ++ map f (drop (suc i) xs)) (sym (take-map f i xs))
+    ∙ ap (λ (l : List _). take i (map f xs) ++ l) (sym (drop-map f (suc i) xs))
+
+pub names_in : (bytes : List ℕ) (slots : List Slot) → map name_of (map (content_in bytes) slots) ≡ map digest_of slots
+names_in bytes [] = refl
+names_in bytes (slot ∷ slots) = ap (λ (l : List (List ℕ)). slot.digest ∷ l) (names_in bytes slots)
+
+pub extents_in : (bytes : List ℕ) (slots : List Slot) → map extent_of (map (content_in bytes) slots) ≡ map extent_of_slot slots
+extents_in bytes [] = refl
+extents_in bytes (slot ∷ slots) = ap (λ (l : List Extent). extent_of_slot slot ∷ l) (extents_in bytes slots)
+
+-- an extent that is found, by its parts
+pub found_parts : (n : ℕ) (o : Option ℕ) (e : Extent) → Some e ≡ option_map (extent_at n) o → (o ≡ Some e.at) × (e ≡ extent_at n e.at)
+found_parts n None e is = absurd (cc)
+found_parts n (Some at) e is =
+    let same : e ≡ extent_at n at = cc in
+    let place : at ≡ e.at = ap (λ (x : Extent). x.at) (sym same) in
+    (ap (λ (k : ℕ). Some k) place, same ∙ ap (λ (k : ℕ). extent_at n k) place)
+
+-- ---- a slot more
+
+module _ {X : Type 0} (P : X → Type 0) where
+  pub All-inserted : (xs : List X) (i : ℕ) (x : X) → P x → All P xs → All P (insert xs i x)
+  All-inserted xs i x one all = All-append P (take i xs) (x ∷ drop i xs) (All-take P i xs all) (All-cons P x (drop i xs) one (All-drop P i xs all))
+
+  pub All-removed : (xs : List X) (i : ℕ) → All P xs → All P (remove xs i)
+  All-removed xs i all = All-append P (take i xs) (drop (suc i) xs) (All-take P i xs all) (All-drop P (suc i) xs all)
+
+module _ (layout : RegionState) (slots : List Slot) (i : ℕ) (slot : Slot) (laid : AreLaidOut layout slots) (belongs : BelongsAt (map digest_of slots) slot.digest i)
+    (least : least_place layout.live layout.units (units_of slot.size) ≡ Some slot.at) where
+  within : i ≤ length slots
+  within = omega (arith, belongs.within, length-map slots digest_of)
+
+  free : (slot.at + units_of slot.size ≤ layout.units) × (is_free (map extent_of_slot slots) (units_of slot.size) slot.at ≡ true)
+  free = least_place-free (map extent_of_slot slots) layout.units (units_of slot.size) slot.at (least_place-same (map extent_of_slot slots) layout.live layout.units (units_of slot.size) laid.extents ∙ least)
+
+  pub added-laid : LieInOrder 0 layout.units (with_extent (extent_of_slot slot) layout.live) →
+      AreLaidOut (record layout { live = with_extent (extent_of_slot slot) layout.live }) (insert slots i slot)
+  added-laid lie =
+      let extents : List Extent = map extent_of_slot slots in
+      let e : Extent = extent_of_slot slot in
+      let low : i ≤ length extents = omega (arith, within, length-map slots extent_of_slot) in
+      record {
+        sorted = subst (λ (l : List (List ℕ)). IsStrictlySortedBy digest_cmp l) (sym (map-insert digest_of slots i slot)) (insert-sorted slot.digest (map digest_of slots) i laid.sorted belongs);
+        extents = subst (λ (l : List Extent). SameItems l (with_extent e layout.live)) (sym (map-insert extent_of_slot slots i slot))
+            (same-trans (insert extents i e) (e ∷ extents) (with_extent e layout.live) (insert-same extents i e)
+            (same-trans (e ∷ extents) (e ∷ layout.live) (with_extent e layout.live) (cons-same e extents layout.live laid.extents)
+            (same-sym (with_extent e layout.live) (e ∷ layout.live) (with_extent-same e layout.live))));
+        apart = subst (λ (l : List Extent). AreApart l) (sym (map-insert extent_of_slot slots i slot)) (insert-apart extents i e low laid.apart free.1);
+        inside = All-inserted (λ s. s.at + units_of s.size ≤ layout.units) slots i slot free.0 laid.inside;
+        in_order = lie;
+      }
+
+  pub added-holds : slot.is_filled ≡ false → (bytes : List ℕ) →
+      map (content_in bytes) (insert slots i slot) ≡ with_content (unfilled_content slot.digest slot.size (extent_of_slot slot)) (map (content_in bytes) slots)
+  added-holds empty bytes =
+      let held = map (content_in bytes) slots in
+      let content : content_in bytes slot ≡ unfilled_content slot.digest slot.size (extent_of_slot slot) =
+      ap (λ (t : Bool). let c : Content = record { digest = slot.digest; size = slot.size; extent = extent_of_slot slot; bytes = cond t (Some (part_of bytes slot)) None } in c) empty in
+      map-insert (content_in bytes) slots i slot
+      ∙ ap (λ (c : Content). insert held i c) content
+      ∙ with_content-is held i (unfilled_content slot.digest slot.size (extent_of_slot slot)) (subst (λ (l : List (List ℕ)). BelongsAt l slot.digest i) (sym (names_in bytes slots)) belongs)
+
+  pub added-there : slot.is_filled ≡ false → (bytes : List ℕ) → AreThere bytes slots → AreThere bytes (insert slots i slot)
+  added-there empty bytes there =
+      All-inserted (λ s. OnTrue s.is_filled (IsThere bytes s)) slots i slot (subst (λ (t : Bool). OnTrue t (IsThere bytes slot)) (sym empty) tt) there
+
+-- ---- what is not held, and what is
+
+pub not_held : (bytes : List ℕ) (slots : List Slot) (name : List ℕ) (i : ℕ) → BelongsAt (map digest_of slots) name i → content_of (map (content_in bytes) slots) name ≡ None
+not_held bytes slots name i belongs =
+    belongs_find name_of name (map (content_in bytes) slots) i (subst (λ (l : List (List ℕ)). BelongsAt l name i) (sym (names_in bytes slots)) belongs)
+
+pub held_at : (bytes : List ℕ) (slots : List Slot) (name : List ℕ) (i : ℕ) (d : Slot) → IsStrictlySortedBy digest_cmp (map digest_of slots) → IsAt (map digest_of slots) name i →
+    content_of (map (content_in bytes) slots) name ≡ Some (content_in bytes (get_or slots i d))
+held_at bytes slots name i d sorted at =
+    let held = map (content_in bytes) slots in
+    let names = names_in bytes slots in
+    let low : i < length slots = omega (arith, at.within, length-map slots digest_of) in
+    find_at name_of name held i (content_in bytes d) (subst (λ (l : List (List ℕ)). IsStrictlySortedBy digest_cmp l) (sym names) sorted)
+    (omega (arith, low, length-map held name_of, length-map slots (content_in bytes)))
+    (ap (λ (l : List (List ℕ)). get_or l i []) names ∙ at.is)
+    ∙ ap (λ (c : Content). Some c) (get_or-map (content_in bytes) slots i d (content_in bytes d) low)
+
+-- where a content finds its place asks the region's list alone
+pub place_same : (bytes : List ℕ) (layout : RegionState) (slots : List Slot) (n : ℕ) → AreLaidOut layout slots →
+    least_place (map extent_of (map (content_in bytes) slots)) layout.units n ≡ least_place layout.live layout.units n
+place_same bytes layout slots n laid =
+    ap (λ (l : List Extent). least_place l layout.units n) (extents_in bytes slots) ∙ least_place-same (map extent_of_slot slots) layout.live layout.units n laid.extents
+
+-- ---- a slot less
+
+remove-sorted : (keys : List (List ℕ)) (i : ℕ) → i < length keys → IsStrictlySortedBy digest_cmp keys → IsStrictlySortedBy digest_cmp (remove keys i)
+remove-sorted keys i low sorted =
+    let name : List ℕ = get_or keys i [] in
+    let all : keys ≡ map (λ (key : List ℕ). key) keys = sym (map-id keys) in
+    let gone = remove_named (λ (key : List ℕ). key) name keys i (subst (λ (l : List (List ℕ)). IsStrictlySortedBy digest_cmp l) all sorted)
+    (subst (λ (l : List (List ℕ)). i < length l) all low) (ap (λ (l : List (List ℕ)). get_or l i []) (sym all)) in
+    subst (λ (l : List (List ℕ)). IsStrictlySortedBy digest_cmp l) (sym gone) (IsStrictlySortedBy-filter digest_cmp (λ key. not (same_digest key name)) keys sorted)
+
+module _ (layout : RegionState) (slots : List Slot) (i : ℕ) (d : Slot) (laid : AreLaidOut layout slots) (low : i < length slots) where
+  abbrev gone : Extent
+  gone = extent_of_slot (get_or slots i d)
+
+  at_gone : get_or (map extent_of_slot slots) i gone ≡ gone
+  at_gone = get_or-map extent_of_slot slots i d gone low
+
+  there : Contains (map extent_of_slot slots) gone
+  there = (i, omega (arith, low, length-map slots extent_of_slot), at_gone)
+
+  pub removed-live : Contains layout.live gone
+  removed-live = there-same (map extent_of_slot slots) layout.live gone laid.extents there
+
+  pub removed-laid : LieInOrder 0 layout.units (without_extent gone layout.live) →
+      AreLaidOut (record layout { live = without_extent gone layout.live }) (remove slots i)
+  removed-laid lie =
+      let extents : List Extent = map extent_of_slot slots in
+      let far : i < length extents = omega (arith, low, length-map slots extent_of_slot) in
+      let left : SameItems extents (gone ∷ remove extents i) = subst (λ (e : Extent). SameItems extents (e ∷ remove extents i)) at_gone (remove-same extents i gone far) in
+      let right : SameItems layout.live (gone ∷ without_extent gone layout.live) = without_extent-same layout.live layout.units gone laid.in_order removed-live in
+      record {
+        sorted = subst (λ (l : List (List ℕ)). IsStrictlySortedBy digest_cmp l) (sym (map-remove digest_of slots i)) (remove-sorted (map digest_of slots) i (omega (arith, low, length-map slots digest_of)) laid.sorted);
+        extents = subst (λ (l : List Extent). SameItems l (without_extent gone layout.live)) (sym (map-remove extent_of_slot slots i))
+            (cancel-same gone (remove extents i) (without_extent gone layout.live)
+            (same-trans (gone ∷ remove extents i) extents (gone ∷ without_extent gone layout.live) (same-sym extents (gone ∷ remove extents i) left)
+            (same-trans extents layout.live (gone ∷ without_extent gone layout.live) laid.extents right)));
+        apart = subst (λ (l : List Extent). AreApart l) (sym (map-remove extent_of_slot slots i)) (all_pairs_remove (λ a b. overlaps a.at a.units b ≡ false) extents i far laid.apart);
+        inside = All-removed (λ s. s.at + units_of s.size ≤ layout.units) slots i laid.inside;
+        in_order = lie;
+      }
+
+pub removed-holds : (bytes : List ℕ) (slots : List Slot) (name : List ℕ) (i : ℕ) → IsStrictlySortedBy digest_cmp (map digest_of slots) → IsAt (map digest_of slots) name i →
+    map (content_in bytes) (remove slots i) ≡ without_content name (map (content_in bytes) slots)
+removed-holds bytes slots name i sorted at =
+    let held = map (content_in bytes) slots in
+    let names = names_in bytes slots in
+    map-remove (content_in bytes) slots i
+    ∙ remove_named name_of name held i (subst (λ (l : List (List ℕ)). IsStrictlySortedBy digest_cmp l) (sym names) sorted)
+    (omega (arith, at.within, ap (λ (l : List (List ℕ)). length l) names)) (ap (λ (l : List (List ℕ)). get_or l i []) names ∙ at.is)
+
+-- what is not held is not taken out
+pub kept-holds : (bytes : List ℕ) (slots : List Slot) (name : List ℕ) (i : ℕ) → BelongsAt (map digest_of slots) name i →
+    map (content_in bytes) slots ≡ without_content name (map (content_in bytes) slots)
+kept-holds bytes slots name i belongs = sym (none_out name (map (content_in bytes) slots) (not_held bytes slots name i belongs))
+  where
+    none_out : (name : List ℕ) (held : List Content) → content_of held name ≡ None → without_content name held ≡ held
+    none_out name [] none = refl
+    none_out name (c ∷ held) none = by_test (same_digest c.digest name) none (none_out name held)
+      where
+        by_test : (t : Bool) → cond t (Some c) (content_of held name) ≡ None → (content_of held name ≡ None → without_content name held ≡ held) → cond (not t) (c ∷ without_content name held) (without_content name held) ≡ c ∷ held
+        by_test true none rest = absurd (cc)
+        by_test false none rest = ap (λ (l : List Content). c ∷ l) (rest none)
+
+-- where nothing is held yet
+pub empty-laid : (layout : RegionState) (slots : List Slot) → LieInOrder 0 layout.units layout.live → layout.live ≡ [] → slots ≡ [] → AreLaidOut layout slots
+unfolding IsStrictlySortedBy
+empty-laid layout slots lie none empty =
+    let nothing : SameItems (map extent_of_slot []) layout.live = λ test. ap (λ (l : List Extent). count_by test l) (sym none) in
+    subst (λ (l : List Slot). AreLaidOut layout l) (sym empty) (record {
+      sorted = tt;
+      extents = nothing;
+      apart = λ i j d less low. absurd (omega arith);
+      inside = λ k d low. absurd (omega arith);
+      in_order = lie;
+    })
+
+pub empty-there : (bytes : List ℕ) (slots : List Slot) → slots ≡ [] → AreThere bytes slots
+empty-there bytes slots empty = subst (λ (l : List Slot). AreThere bytes l) (sym empty) (λ k d low. absurd (omega arith))

@@ -1,0 +1,66 @@
+-- Contents by their digests, sorted by them.
+use Rattle.std.specs.Prelude.{ℕ, Bool, false, ◌+◌, ◌/◌, max, not, nat_eq, List, [], ◌∷◌, Option, None, Some, is_some, if◌then◌else◌}
+use Rattle.std.specs.List.{find, filter}
+use Rattle.std.specs.Option.{option_map_or, option_and_then}
+use Rattle.std.specs.Ordering.{nat_cmp, is_lt}
+use Rattle.std.specs.Cmp.Lexicographic.{slice_cmp, pointwise}
+use Rattle.std.specs.declared.cmp.Ordering.{Ordering}
+use Rattle.region.specs.declared.extent.Extent.{Extent}
+
+-- a name that is held, its digest: how many bytes it stands for, the extent where they lie, and the bytes once they came
+pub record Content : Type 0 where
+  pub digest : List ℕ
+  pub size : ℕ
+  pub extent : Extent
+  pub bytes : Option (List ℕ)
+
+-- how many units of 64 bytes a content takes, at least one
+abbrev pub units_of : ℕ → ℕ
+units_of size = max 1 ((size + 63) / 64)
+
+abbrev pub extent_of : Content → Extent
+extent_of content = content.extent
+
+-- ---- by digest
+
+abbrev pub same_digest : List ℕ → List ℕ → Bool
+same_digest a b = pointwise nat_eq a b
+
+-- digests by their bytes
+abbrev pub digest_cmp : List ℕ → List ℕ → Ordering
+digest_cmp a b = slice_cmp nat_cmp a b
+
+abbrev pub is_named : List ℕ → Content → Bool
+is_named digest content = same_digest content.digest digest
+
+abbrev pub content_of : List Content → List ℕ → Option Content
+content_of held digest = find (is_named digest) held
+
+abbrev pub is_held : List Content → List ℕ → Bool
+is_held held digest = is_some (content_of held digest)
+
+abbrev pub is_held_with_size : List Content → List ℕ → ℕ → Bool
+is_held_with_size held digest size = option_map_or (λ content. nat_eq content.size size) (content_of held digest) false
+
+-- the bytes that are held under a name
+abbrev pub bytes_of : List Content → List ℕ → Option (List ℕ)
+bytes_of held digest = option_and_then (λ content. content.bytes) (content_of held digest)
+
+-- ---- a content more, one less, and one whose bytes came
+
+-- a content whose bytes have not come
+abbrev pub unfilled_content : List ℕ → ℕ → Extent → Content
+unfilled_content digest size extent = record { digest = digest; size = size; extent = extent; bytes = None }
+
+-- a content among those sorted by digest, in its place
+abbrev pub with_content : Content → List Content → List Content
+with_content content [] = content ∷ []
+with_content content (first ∷ others) =
+    if is_lt (digest_cmp content.digest first.digest) then content ∷ first ∷ others else first ∷ with_content content others
+
+abbrev pub without_content : List ℕ → List Content → List Content
+without_content digest held = filter (λ content. not (is_named digest content)) held
+
+-- the content with these bytes, where it has this name
+abbrev pub filled_with : List ℕ → List ℕ → Content → Content
+filled_with digest bytes content = if is_named digest content then record content { bytes = Some bytes } else content

@@ -1,0 +1,70 @@
+//! Tests of `region` and `content_store`. The expected places are worked out by hand;
+//! the digests are those of the two examples of SHA-256 in FIPS 180-4.
+
+use content_store::{ContentStore, Digest, Filled, Held};
+use region::{Extent, Region};
+use std::test::Fail;
+
+const SHORT: &str = "abc";
+
+const SHORT_DIGEST: Digest = [
+    0xba, 0x78, 0x16, 0xbf, 0x8f, 0x01, 0xcf, 0xea, 0x41, 0x41, 0x40, 0xde, 0x5d, 0xae, 0x22, 0x23,
+    0xb0, 0x03, 0x61, 0xa3, 0x96, 0x17, 0x7a, 0x9c, 0xb4, 0x10, 0xff, 0x61, 0xf2, 0x00, 0x15, 0xad,
+];
+
+/// 56 bytes.
+const LONG: &str = "abcdbcdecdefdefgefghfghighijhijkijkljklmklmnlmnomnopnopq";
+
+const LONG_DIGEST: Digest = [
+    0x24, 0x8d, 0x6a, 0x61, 0xd2, 0x06, 0x38, 0xb8, 0xe5, 0xc0, 0x26, 0x93, 0x0c, 0x3e, 0x60, 0x39,
+    0xa3, 0x3c, 0xe4, 0x59, 0x64, 0xff, 0x21, 0x67, 0xf6, 0xec, 0xed, 0xd4, 0x19, 0xdb, 0x06, 0xc1,
+];
+
+fn extent(at: u32, units: u32) -> Extent {
+    Extent { at, units }
+}
+
+#[test]
+fn the_least_place_is_taken(rt: HostRuntime) -> Result<(), Fail> {
+    let mut region = Region::new(rt.alloc(), 4, 8)?;
+    assert_eq!(rt; region.find(5), None);
+    assert_eq!(rt; region.place(1), Some(extent(0, 1)));
+    match region.place(2) {
+        None => assert!(rt; false, "no place"),
+        Some(middle) => {
+            assert_eq!(rt; middle, extent(1, 2));
+            region.give_back(middle);
+        }
+    }
+    assert_eq!(rt; region.find(4), None);
+    assert_eq!(rt; region.find(3), Some(extent(1, 3)));
+    assert_eq!(rt; region.place(1), Some(extent(1, 1)));
+    assert_eq!(rt; region.place(2), Some(extent(2, 2)));
+    assert_eq!(rt; region.place(1), None);
+    Ok(())
+}
+
+#[test]
+fn a_content_is_held_under_its_digest(rt: HostRuntime) -> Result<(), Fail> {
+    let mut store = ContentStore::new(rt.alloc(), 1, 1)?;
+    assert_eq!(rt; store.hold(&LONG_DIGEST, 65), Held::NoRoom);
+    assert_eq!(rt; store.probe(&SHORT_DIGEST, 3), Held::Placed(extent(0, 1)));
+    assert_eq!(rt; store.hold(&SHORT_DIGEST, 3), Held::Placed(extent(0, 1)));
+    assert_eq!(rt; store.hold(&SHORT_DIGEST, 3), Held::Present);
+    assert_eq!(rt; store.hold(&LONG_DIGEST, 56), Held::NoNames);
+
+    assert_eq!(rt;
+        store.fill(&SHORT_DIGEST, LONG.as_bytes()),
+        Filled::Differs(LONG_DIGEST)
+    );
+    assert_eq!(rt; store.fill(&LONG_DIGEST, LONG.as_bytes()), Filled::Unknown);
+    assert!(rt; store.get(&SHORT_DIGEST).is_none());
+    assert_eq!(rt; store.fill(&SHORT_DIGEST, SHORT.as_bytes()), Filled::Done);
+    assert!(rt; store.get(&SHORT_DIGEST) == Some(SHORT.as_bytes()));
+
+    assert!(rt; store.remove(&SHORT_DIGEST));
+    assert!(rt; !store.remove(&SHORT_DIGEST));
+    assert!(rt; store.get(&SHORT_DIGEST).is_none());
+    assert_eq!(rt; store.hold(&LONG_DIGEST, 56), Held::Placed(extent(0, 1)));
+    Ok(())
+}
