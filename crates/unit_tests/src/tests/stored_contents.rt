@@ -1,6 +1,7 @@
-//! Tests of `region` and `content_store`. The expected places are worked out by hand;
+//! Tests of `region`, `content_store` and `blob_rows`. The expected places are worked out by hand;
 //! the digests are those of the two examples of SHA-256 in FIPS 180-4.
 
+use blob_rows::{BlobRow, Blobs};
 use content_store::{ContentStore, Digest, Filled, Held};
 use region::{Extent, Region};
 use std::test::Fail;
@@ -66,5 +67,40 @@ fn a_content_is_held_under_its_digest(rt: HostRuntime) -> Result<(), Fail> {
     assert!(rt; !store.remove(&SHORT_DIGEST));
     assert!(rt; store.get(&SHORT_DIGEST).is_none());
     assert_eq!(rt; store.hold(&LONG_DIGEST, 56), Held::Placed(extent(0, 1)));
+    Ok(())
+}
+
+#[test]
+fn a_blob_has_a_row_and_its_content(rt: HostRuntime) -> Result<(), Fail> {
+    let mut blobs = Blobs::new(rt.alloc(), 1, 4)?;
+    blobs.put(1000, &SHORT_DIGEST, 3);
+    assert_eq!(rt; blobs.probe(&SHORT_DIGEST, 3), Held::Present);
+    assert_eq!(rt; blobs.probe(&LONG_DIGEST, 56), Held::NoRoom);
+    assert_eq!(rt; blobs.fill(&SHORT_DIGEST, SHORT.as_bytes()), Filled::Done);
+    assert!(rt; blobs.bytes(&SHORT_DIGEST) == Some(SHORT.as_bytes()));
+
+    blobs.put(1600, &SHORT_DIGEST, 3);
+    let renewed = BlobRow {
+        no: 1,
+        digest: SHORT_DIGEST,
+        size: 3,
+        extent: extent(0, 1),
+        deadline: 1600,
+    };
+    assert!(rt; blobs.rows() == [renewed].as_slice());
+    assert!(rt; blobs.blob_of(&SHORT_DIGEST) == Some(&renewed));
+
+    blobs.remove(1);
+    assert!(rt; blobs.bytes(&SHORT_DIGEST).is_none());
+    blobs.put(1700, &LONG_DIGEST, 56);
+    let next = BlobRow {
+        no: 2,
+        digest: LONG_DIGEST,
+        size: 56,
+        extent: extent(0, 1),
+        deadline: 1700,
+    };
+    assert!(rt; blobs.blob_numbered(1).is_none());
+    assert!(rt; blobs.blob_numbered(2) == Some(&next));
     Ok(())
 }
