@@ -310,4 +310,5 @@ def main():
         measure_settling(program, rows)
 
 
-main()
+if __name__ == "__main__":
+    main()

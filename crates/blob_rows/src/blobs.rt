@@ -1,8 +1,8 @@
-ghost use Rattle.std.specs.Prelude.{◌≡◌, ◌+◌, ◌<◌, ◌≤◌, ◌^◌, [], map, length, None, IfOk, IfSome};
+ghost use Rattle.std.specs.Prelude.{◌≡◌, ◌+◌, ◌<◌, ◌≤◌, ◌^◌, [], map, length, None, IfOk, IfSome, IsTrue};
 ghost use Rattle.std.specs.List.{filter, All};
 ghost use Rattle.std.specs.Option.{option_map, option_copied};
 ghost use Rattle.sha2.specs.Sha256.{sha256};
-ghost use Rattle.content_store.specs.Contents.{bytes_of};
+ghost use Rattle.content_store.specs.Contents.{bytes_of, is_held_with_size};
 ghost use Rattle.content_store.specs.Plain.{hold_result, held_after_hold, fill_result, held_after_fill};
 ghost use Rattle.blob_rows.specs.Rows.{blob_of, blob_numbered, is_other, longer_kept, put, put_result};
 ghost use Rattle.blob_rows.specs.Plain.{AreStored, held_without, rows_in};
@@ -134,10 +134,22 @@ impl Blobs {
         self.store.fill(digest, bytes)
     }
 
+    /// The same, where it is known that the digest is that of the bytes: they are not hashed.
+    pub fn fill_known(&mut self, digest: &Digest, bytes: &[u8]) -> Filled
+        requires named { sha256 bytes.now ≡ digest.now }
+        ensures told { result ≡ fill_result self.old.store.held digest.now bytes.now }
+        ensures holds { self.new ≡ record self.old {
+          store = record self.old.store { held = held_after_fill result digest.now bytes.now self.old.store.held };
+        } }
+    {
+        self.store.fill_known(digest, bytes)
+    }
+
     /// The bytes of a row, once they came.
     pub fn bytes(&self, digest: &Digest) -> Option<&[u8]>
         ensures lends { option_map (λ b. b.now) result ≡ bytes_of self.now.store.held digest.now }
         ensures named { IfSome result (λ b. sha256 b.now ≡ digest.now) }
+        ensures sized { IfSome result (λ b. IsTrue (is_held_with_size self.now.store.held digest.now (length b.now))) }
     {
         self.store.get(digest)
     }

@@ -5,8 +5,7 @@
 //! with the size and at the extent of its row (`AreStored` of `specs/Plain.antt`). What a call does
 //! to the rows is said of the rows alone (`specs/Rows.antt`): a machine over them needs to know
 //! nothing of the store, and finds a row by a scan or by an index of its own. `new` takes all the
-//! memory; no other call takes any. The crate stands on `content_store`, and is meant for every
-//! machine; none calls it yet.
+//! memory; no other call takes any. The crate stands on `content_store`.
 #![tactic(auto)]
 
 mod blob_row;

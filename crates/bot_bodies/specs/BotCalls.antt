@@ -1,5 +1,5 @@
 -- The bodies of the calls of bots and on bots: all fields are read before the other rules are tried.
-use Rattle.std.specs.Prelude.{IsTrue, Result, Ok, codes}
+use Rattle.std.specs.Prelude.{[], IsTrue, Result, Ok, codes}
 use Rattle.serde_json.specs.Data.{Data}
 use Rattle.dimensions.specs.Alike.{same}
 use Rattle.dimensions.specs.BotRules.{pool_of_bot}
@@ -7,6 +7,7 @@ use Rattle.task_props.specs.declared.prop_fault.PropFault.{PropFault}
 use Rattle.swarm_model.specs.declared.pool_settings.PoolSettings.{PoolSettings}
 use Rattle.swarm_model.specs.declared.request.Request.TheVariants as ask
 use Rattle.swarm_model.specs.Fits.{fits}
+use Rattle.swarm_model.specs.Bytes.{Carries}
 use Rattle.bot_bodies.specs.declared.pool_request.PoolRequest.{PoolRequest}
 use Rattle.json_fields.specs.Readings.{at, ◌>>=◌}
 use Rattle.json_fields.specs.Fields.{text_at, required_text_at, number_at}
@@ -82,3 +83,7 @@ list_bots_in d = do
 -- a pool of its name may be asked it
 abbrev pub FitsNamed : PoolRequest → Type 0
 FitsNamed a = (pool : PoolSettings) → IsTrue (same pool.name a.pool) → IsTrue (fits pool a.request)
+
+-- it comes with no bytes
+abbrev pub IsBare : PoolRequest → Type 0
+IsBare a = Carries a.request []

@@ -5,7 +5,7 @@ use Rattle.dimensions.specs.Rules.{has_length_to, is_key_byte}
 use Rattle.task_props.specs.declared.prop_rule.PropRule.{PropRule}
 use Rattle.task_props.specs.declared.prop_rule.PropRule.TheVariants.{Count, Grammar}
 use Rattle.task_props.specs.declared.prop_fault.PropFault.{PropFault}
-use Rattle.task_props.specs.Checked.{is_empty}
+use Rattle.dimensions.specs.Rules.{is_empty}
 use Rattle.json_fields.specs.Readings.{at}
 
 -- 1 to 64 ASCII letters, digits, '-', '_' and '.'

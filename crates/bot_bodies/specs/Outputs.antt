@@ -1,16 +1,19 @@
 -- A piece of the output of a run.
-use Rattle.std.specs.Prelude.{ℕ, ℤ, ◌-◌, ◌==◌, nat_le, List, length, if◌then◌else◌, Result, Ok, Err, codes}
+use Rattle.std.specs.Prelude.{ℕ, ℤ, ◌-◌, ◌==◌, nat_le, List, length, Option, Some, None, if◌then◌else◌, Result, Ok, Err, codes}
 use Rattle.base64.specs.declared.decode.DecodeError.{DecodeError}
 use Rattle.base64.specs.Engines.{standard}
 use Rattle.base64.specs.GeneralPurpose.{decode_of}
+use Rattle.sha2.specs.Sha256.{sha256}
 use Rattle.serde_json.specs.Data.{Data}
 use Rattle.task_props.specs.declared.prop_rule.PropRule.{PropRule}
 use Rattle.task_props.specs.declared.prop_rule.PropRule.TheVariants.{Count, Grammar}
 use Rattle.task_props.specs.declared.prop_fault.PropFault.{PropFault}
+use Rattle.swarm_model.specs.declared.attempt.Chunk.{Chunk}
 use Rattle.json_fields.specs.Readings.{at, ◌>>=◌}
 use Rattle.json_fields.specs.Fields.{text_at, number_at}
-use Rattle.bot_bodies.specs.declared.outputs.RawOutput.{RawOutput}
 use Rattle.json_fields.specs.Ranges.{whole_in}
+use Rattle.bot_bodies.specs.declared.outputs.RawOutput.{RawOutput}
+use Rattle.bot_bodies.specs.declared.outputs.Output.{Output}
 
 unfoldable pub raw_output_in : Data → Result RawOutput PropFault
 raw_output_in d = do
@@ -30,8 +33,12 @@ bytes_of text = few_bytes (decode_of standard text)
 unfoldable pub start_of : List ℕ → ℤ → Result ℕ PropRule
 start_of bytes start = if length bytes == 0 then Ok 0 else whole_in 0 (67108864 - length bytes) start
 
-unfoldable pub output_of : RawOutput → Result (List ℕ) PropFault
+-- the chunk that begins there, where there are bytes
+abbrev pub chunk_of : ℕ → List ℕ → Option Chunk
+chunk_of start bytes = if length bytes == 0 then None else Some (record { start = start; size = length bytes; digest = sha256 bytes })
+
+unfoldable pub output_of : RawOutput → Result Output PropFault
 output_of raw = do
   bytes ← at (codes "output") (bytes_of raw.text)
-  place ← at (codes "output_chunk_start") (start_of bytes raw.start)
-  Ok bytes
+  start ← at (codes "output_chunk_start") (start_of bytes raw.start)
+  Ok (record { chunk = chunk_of start bytes; bytes = bytes })

@@ -1,5 +1,5 @@
 -- The report of a bot on its run.
-use Rattle.std.specs.Prelude.{ℤ, ◌^◌, ◌==◌, ◌&&◌, Bool, length, Option, None, Result, Ok, codes}
+use Rattle.std.specs.Prelude.{ℤ, ◌^◌, Option, Result, Ok, codes}
 use Rattle.std.specs.Option.{option_map}
 use Rattle.serde_json.specs.Data.{Data}
 use Rattle.task_props.specs.declared.prop_fault.PropFault.{PropFault}
@@ -8,13 +8,13 @@ use Rattle.swarm_model.specs.declared.request.Request.{Request}
 use Rattle.swarm_model.specs.declared.request.Request.TheVariants as ask
 use Rattle.json_fields.specs.Readings.{at, ◌>>=◌}
 use Rattle.json_fields.specs.Fields.{required_text_at, number_at, optional_number_at, flag_at}
+use Rattle.json_fields.specs.Ranges.{whole_at}
+use Rattle.json_fields.specs.Ids.{run_of, task_of_id, try_of_id}
 use Rattle.bot_bodies.specs.declared.reports.RawExit.{RawExit}
 use Rattle.bot_bodies.specs.declared.reports.RawEnd.{RawEnd}
 use Rattle.bot_bodies.specs.declared.reports.RawReport.{RawReport}
 use Rattle.bot_bodies.specs.declared.reports.End.{End}
 use Rattle.bot_bodies.specs.declared.reports.Report.{Report}
-use Rattle.json_fields.specs.Ranges.{whole_at}
-use Rattle.json_fields.specs.Ids.{run_of, task_of_id, try_of_id}
 use Rattle.bot_bodies.specs.Names.{name_at}
 use Rattle.bot_bodies.specs.ExitCodes.{code_of}
 use Rattle.bot_bodies.specs.Outputs.{raw_output_in, output_of}
@@ -57,26 +57,6 @@ end_of raw = do
   files ← files_of raw.files
   Ok (record { exit_code = code; duration_ms = duration; hard_timeout = raw.exit.hard_timeout; io_timeout = raw.exit.io_timeout; dropped = dropped; files = files })
 
-unfoldable pub report_of : RawReport → Result Report PropFault
-report_of raw = do
-  bot ← name_at (codes "bot_id") raw.bot
-  run ← at (codes "task_id") (run_of raw.run)
-  output ← output_of raw.output
-  end ← end_of raw.end
-  Ok (record { bot = bot; run = run; output = output; end = end })
-
--- all fields are read before the other rules are tried
-unfoldable pub report_in : Data → Result Report PropFault
-report_in d = do
-  raw ← raw_report_in d
-  report_of raw
-
--- ---- what it asks for
-
--- no output and no files
-abbrev pub is_bare : Report → Bool
-is_bare report = (length report.output == 0) && (length report.end.files == 0)
-
 abbrev pub last_with : End → ℤ → Last
 last_with end code = record {
   exit_code = code;
@@ -87,9 +67,25 @@ last_with end code = record {
   files = end.files;
 }
 
--- the run has ended where there is an exit code
-abbrev pub ending_of : End → Option Last
-ending_of end = option_map (last_with end) end.exit_code
+-- the run has ended where there is an exit code; what else is said of its end counts only then
+abbrev pub last_of : End → Option Last
+last_of end = option_map (last_with end) end.exit_code
+
+unfoldable pub report_of : RawReport → Result Report PropFault
+report_of raw = do
+  bot ← name_at (codes "bot_id") raw.bot
+  run ← at (codes "task_id") (run_of raw.run)
+  output ← output_of raw.output
+  end ← end_of raw.end
+  Ok (record { bot = bot; run = run; output = output; last = last_of end })
+
+-- all fields are read before the other rules are tried
+unfoldable pub report_in : Data → Result Report PropFault
+report_in d = do
+  raw ← raw_report_in d
+  report_of raw
+
+-- ---- what it asks for
 
 abbrev pub update_by : Report → Request
-update_by report = ask.Update report.bot (task_of_id report.run) (try_of_id report.run) None (ending_of report.end)
+update_by report = ask.Update report.bot (task_of_id report.run) (try_of_id report.run) report.output.chunk report.last

@@ -2,7 +2,7 @@
 ghost use Rattle.std.specs.Prelude.{◌≡◌, IfOk};
 ghost use Rattle.serde_json.specs.View.{view};
 ghost use Rattle.json_fields.specs.Readings.{Reads};
-ghost use Rattle.bot_bodies.specs.BotCalls.{handshake_in, poll_in, claim_in, event_in, terminate_in, get_bot_in, list_bots_in, FitsNamed};
+ghost use Rattle.bot_bodies.specs.BotCalls.{handshake_in, poll_in, claim_in, event_in, terminate_in, get_bot_in, list_bots_in, FitsNamed, IsBare};
 
 use crate::PoolRequest;
 use crate::bot_fields::{check_bot_info, read_bot_info, read_event, read_message};
@@ -19,6 +19,7 @@ use task_props::PropFault;
 pub fn read_handshake(alloc: Global, body: &Value) -> Result<PoolRequest, PropFault>
     ensures exact { Reads result (handshake_in (view body.now)) }
     ensures fits { IfOk result FitsNamed }
+    ensures bare { IfOk result IsBare }
 {
     let name = read_required_text(alloc, body, "bot_id")?;
     let text = read_required_text(alloc, body, "session")?;
@@ -41,6 +42,7 @@ pub fn read_handshake(alloc: Global, body: &Value) -> Result<PoolRequest, PropFa
 pub fn read_poll(alloc: Global, body: &Value) -> Result<PoolRequest, PropFault>
     ensures exact { Reads result (poll_in (view body.now)) }
     ensures fits { IfOk result FitsNamed }
+    ensures bare { IfOk result IsBare }
 {
     let name = read_required_text(alloc, body, "bot_id")?;
     let raw = read_bot_info(alloc, body)?;
@@ -60,6 +62,7 @@ pub fn read_poll(alloc: Global, body: &Value) -> Result<PoolRequest, PropFault>
 pub fn read_claim(alloc: Global, body: &Value) -> Result<PoolRequest, PropFault>
     ensures exact { Reads result (claim_in (view body.now)) }
     ensures fits { IfOk result FitsNamed }
+    ensures bare { IfOk result IsBare }
 {
     let pool = read_required_text(alloc, body, "pool")?;
     let name = read_required_text(alloc, body, "bot_id")?;
@@ -76,6 +79,7 @@ pub fn read_claim(alloc: Global, body: &Value) -> Result<PoolRequest, PropFault>
 pub fn read_bot_event(alloc: Global, body: &Value) -> Result<PoolRequest, PropFault>
     ensures exact { Reads result (event_in (view body.now)) }
     ensures fits { IfOk result FitsNamed }
+    ensures bare { IfOk result IsBare }
 {
     let pool = read_required_text(alloc, body, "pool")?;
     let name = read_required_text(alloc, body, "bot_id")?;
@@ -94,6 +98,7 @@ pub fn read_bot_event(alloc: Global, body: &Value) -> Result<PoolRequest, PropFa
 pub fn read_terminate(alloc: Global, body: &Value) -> Result<PoolRequest, PropFault>
     ensures exact { Reads result (terminate_in (view body.now)) }
     ensures fits { IfOk result FitsNamed }
+    ensures bare { IfOk result IsBare }
 {
     let pool = read_required_text(alloc, body, "pool")?;
     let name = read_required_text(alloc, body, "bot_id")?;
@@ -108,6 +113,7 @@ pub fn read_terminate(alloc: Global, body: &Value) -> Result<PoolRequest, PropFa
 pub fn read_get_bot(alloc: Global, body: &Value) -> Result<PoolRequest, PropFault>
     ensures exact { Reads result (get_bot_in (view body.now)) }
     ensures fits { IfOk result FitsNamed }
+    ensures bare { IfOk result IsBare }
 {
     let pool = read_required_text(alloc, body, "pool")?;
     let name = read_required_text(alloc, body, "bot_id")?;
@@ -122,6 +128,7 @@ pub fn read_get_bot(alloc: Global, body: &Value) -> Result<PoolRequest, PropFaul
 pub fn read_list_bots(alloc: Global, body: &Value) -> Result<PoolRequest, PropFault>
     ensures exact { Reads result (list_bots_in (view body.now)) }
     ensures fits { IfOk result FitsNamed }
+    ensures bare { IfOk result IsBare }
 {
     let pool = read_required_text(alloc, body, "pool")?;
     let number = read_number(alloc, body, "limit")?;

@@ -1,27 +1,20 @@
 //! The files that a bot reports.
-ghost use Rattle.std.specs.Prelude.{◌≡◌, codes};
+ghost use Rattle.std.specs.Prelude.{◌≡◌, ◌≤◌, true, IfOk, length, codes};
+ghost use Rattle.std.specs.List.{list_all};
 ghost use Rattle.serde_json.specs.View.{view};
-ghost use Rattle.json_fields.specs.Readings.{Gives, Reads, at, each_from};
-ghost use Rattle.bot_bodies.specs.Files.{file_in, files_in, path_of, digest_of as spec_digest_of, file_of, file_at, files_of};
+ghost use Rattle.task_props.specs.Sorted.{is_file, is_path};
+ghost use Rattle.json_fields.specs.Readings.{Reads, at};
+ghost use Rattle.bot_bodies.specs.Files.{file_in, files_in, path_of, file_of, files_of};
 
 use dimensions::{Seq, Text};
-use hex::FromHex;
 use json_fields::{
-    ReadFields, are_hex_digits, below, below_place, broken, read_number, read_optional_objects,
+    CheckItem, ReadFields, broken, check_items, read_digest_at, read_number, read_optional_objects,
     read_required_text, read_text, read_whole,
 };
 use serde_json::Value;
 use std::alloc::Global;
-use task_checks::path_rule;
-use task_props::{Digest, File, PropFault, PropRule};
-
-/// A file, as it was read.
-#[derive(Drop)]
-pub(crate) struct RawFile {
-    pub path: Text,
-    pub digest: Text,
-    pub size: i128,
-}
+use task_checks::{RawFile, path_rule};
+use task_props::{File, PropFault};
 
 /// A file.
 struct FileFields;
@@ -49,7 +42,8 @@ pub(crate) fn read_raw_files(alloc: Global, body: &Value) -> Result<Seq<RawFile>
 }
 
 fn read_path(alloc: Global, path: &str) -> Result<Text, PropFault>
-    ensures { Reads result (at (codes "path") (path_of path.now)) }
+    ensures exact { Reads result (at (codes "path") (path_of path.now)) }
+    ensures path { IfOk result (λ path. is_path path ≡ true) }
 {
     match path_rule(path) {
         None => Ok(Text::from_str(alloc, path)?),
@@ -57,71 +51,36 @@ fn read_path(alloc: Global, path: &str) -> Result<Text, PropFault>
     }
 }
 
-#[tactic(auto, unfolding(crate::specs::Files::digest_of))]
-fn digest_of(text: &str) -> Result<Digest, PropRule>
-    ensures { Gives (λ digest. digest) result (spec_digest_of text.now) }
-{
-    if !are_hex_digits(text.as_bytes()) {
-        return Err(PropRule::Grammar);
-    }
-    match <[u8; 32] as FromHex>::from_hex(text) {
-        Ok(digest) => Ok(digest),
-        Err(_) => Err(PropRule::Grammar),
-    }
-}
+/// The rules of a file.
+struct FileRules;
 
-fn read_digest(alloc: Global, text: &str) -> Result<Digest, PropFault>
-    ensures { Reads result (at (codes "digest") (spec_digest_of text.now)) }
-{
-    match digest_of(text) {
-        Ok(digest) => Ok(digest),
-        Err(rule) => Err(broken(alloc, "digest", rule)),
-    }
-}
+impl CheckItem for FileRules {
+    type Raw = RawFile;
 
-#[tactic(auto, unfolding(crate::specs::Files::file_of))]
-fn read_file(alloc: Global, raw: &RawFile) -> Result<File, PropFault>
-    ensures { Reads result (file_of raw.now) }
-{
-    let path = read_path(alloc, raw.path.as_str())?;
-    let digest = read_digest(alloc, raw.digest.as_str())?;
-    let size = read_whole(alloc, "size", 0, 16_777_216, raw.size)?;
-    Ok(File {
-        path,
-        digest,
-        size: size as u32,
-    })
-}
+    type Value = File;
 
-fn read_file_at(alloc: Global, place: usize, raw: &RawFile) -> Result<File, PropFault>
-    ensures { Reads result (file_at place raw.now) }
-{
-    match read_file(alloc, raw) {
-        Ok(file) => Ok(file),
-        Err(fault) => Err(below_place(alloc, place, fault)),
-    }
-}
+    ghost checked = { file_of };
 
-fn read_each(alloc: Global, raws: &[RawFile]) -> Result<Seq<File>, PropFault>
-    ensures { Reads result (each_from file_at 0 raws.now) }
-{
-    let mut files = Vec::new(alloc);
-    for (place, raw) in raws.iter().enumerate() {
-        files.push(read_file_at(alloc, place, raw)?)?;
+    ghost fits = { is_file };
+
+    #[tactic(auto, using(crate::proofs::Fitting::file_fits), unfolding(crate::specs::Files::file_of))]
+    fn check_item(alloc: Global, raw: &RawFile) -> Result<File, PropFault> {
+        let path = read_path(alloc, raw.path.as_str())?;
+        let digest = read_digest_at(alloc, "digest", raw.digest.as_str())?;
+        let size = read_whole(alloc, "size", 0, 16_777_216, raw.size)?;
+        Ok(File {
+            path,
+            digest,
+            size: size as u32,
+        })
     }
-    Ok(Seq::from_vec(files))
 }
 
 /// The same files, checked.
-#[tactic(auto, unfolding(crate::specs::Files::files_of))]
 pub(crate) fn read_files(alloc: Global, raws: &[RawFile]) -> Result<Seq<File>, PropFault>
-    ensures { Reads result (files_of raws.now) }
+    ensures exact { Reads result (files_of raws.now) }
+    ensures fit { IfOk result (λ files. list_all is_file files ≡ true) }
+    ensures few { IfOk result (λ files. length files ≤ 64) }
 {
-    if raws.len() > 64 {
-        return Err(broken(alloc, "files", PropRule::Count));
-    }
-    match read_each(alloc, raws) {
-        Ok(files) => Ok(files),
-        Err(fault) => Err(below(alloc, "files", fault)),
-    }
+    check_items::<FileRules>(alloc, "files", 64, raws)
 }

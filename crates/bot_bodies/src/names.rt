@@ -2,7 +2,7 @@
 ghost use Rattle.std.specs.Prelude.{◌≡◌, ◌||◌, IfOk, true};
 ghost use Rattle.std.specs.List.{list_all};
 ghost use Rattle.dimensions.specs.Rules.{is_key_byte};
-ghost use Rattle.task_props.specs.Checked.{is_empty};
+ghost use Rattle.dimensions.specs.Rules.{is_empty};
 ghost use Rattle.swarm_model.specs.Fits.{is_name};
 ghost use Rattle.json_fields.specs.Readings.{Gives, Reads};
 ghost use Rattle.bot_bodies.specs.Names.{name_of as spec_name_of, name_at, optional_name_at};

@@ -1,17 +1,20 @@
 //! A bot's report on its run.
-ghost use Rattle.std.specs.Prelude.{◌≡◌, ◌≤◌, ◌%◌, ◌^◌, true, IfOk, length, codes};
+ghost use Rattle.std.specs.Prelude.{◌≡◌, ◌≤◌, ◌%◌, ◌^◌, true, IfOk, IfSome, length, codes};
+ghost use Rattle.std.specs.List.{list_all};
 ghost use Rattle.std.specs.Option.{option_map_or};
+ghost use Rattle.sha2.specs.Sha256.{sha256};
 ghost use Rattle.serde_json.specs.View.{view};
 ghost use Rattle.json_fields.specs.Readings.{Reads, at};
 ghost use Rattle.json_fields.specs.Fields.{required_text_at};
-ghost use Rattle.swarm_model.specs.Fits.{is_name, fits_last};
+ghost use Rattle.swarm_model.specs.Fits.{is_name, fits_chunk, fits_last};
+ghost use Rattle.task_props.specs.Sorted.{is_file};
 ghost use Rattle.bot_bodies.specs.ExitCodes.{code_of as spec_code_of};
-ghost use Rattle.bot_bodies.specs.Reports.{raw_exit_in, raw_end_in, raw_report_in, end_of, report_of, report_in, is_bare as spec_is_bare, ending_of as spec_last_of};
+ghost use Rattle.bot_bodies.specs.Reports.{raw_exit_in, raw_end_in, raw_report_in, end_of, last_of as spec_last_of, report_of, report_in};
 
 use crate::exit_codes::code_of;
-use crate::files::{RawFile, read_files, read_raw_files};
+use crate::files::{read_files, read_raw_files};
 use crate::names::read_name;
-use crate::outputs::{RawOutput, read_output, read_raw_output};
+use crate::outputs::{Output, RawOutput, read_output, read_raw_output};
 use dimensions::{Seq, Text};
 use json_fields::{
     broken, read_flag, read_number, read_optional_number, read_required_text, read_run, read_whole,
@@ -19,6 +22,7 @@ use json_fields::{
 use serde_json::Value;
 use std::alloc::Global;
 use swarm_model::Last;
+use task_checks::RawFile;
 use task_props::{File, PropFault};
 
 /// How a run ended, as it was read.
@@ -49,7 +53,7 @@ pub(crate) struct RawReport {
 
 /// The end of a run, checked. The run has ended where there is an exit code.
 #[derive(Drop)]
-pub struct End {
+pub(crate) struct End {
     pub exit_code: Option<i32>,
     pub duration_ms: u64,
     pub hard_timeout: bool,
@@ -63,8 +67,9 @@ pub struct End {
 pub struct Report {
     pub bot: Text,
     pub run: u32,
-    pub output: Seq<u8>,
-    pub end: End,
+    pub output: Output,
+    /// The end of the run, where it has ended.
+    pub last: Option<Last>,
 }
 
 #[tactic(auto, unfolding(crate::specs::Reports::raw_exit_in))]
@@ -137,6 +142,8 @@ fn read_end(alloc: Global, raw: RawEnd) -> Result<End, PropFault>
     ensures exact { Reads result (end_of raw) }
     ensures duration { IfOk result (λ end. end.duration_ms ≤ 2 ^ 40) }
     ensures dropped { IfOk result (λ end. end.dropped ≤ 2 ^ 53) }
+    ensures files { IfOk result (λ end. list_all is_file end.files ≡ true) }
+    ensures few { IfOk result (λ end. length end.files ≤ 64) }
 {
     let exit_code = read_code(alloc, raw.exit.exit_code)?;
     let duration_ms = read_whole(alloc, "duration_ms", 0, 1 << 40, raw.exit.duration_ms)?;
@@ -152,51 +159,12 @@ fn read_end(alloc: Global, raw: RawEnd) -> Result<End, PropFault>
     })
 }
 
-#[tactic(auto, unfolding(crate::specs::Reports::report_of))]
-fn check_report(alloc: Global, raw: RawReport) -> Result<Report, PropFault>
-    ensures exact { Reads result (report_of raw) }
-    ensures named { IfOk result (λ report. is_name report.bot ≡ true) }
-    ensures try_no { IfOk result (λ report. report.run % 16 ≡ 1) }
-    ensures duration { IfOk result (λ report. report.end.duration_ms ≤ 2 ^ 40) }
-    ensures dropped { IfOk result (λ report. report.end.dropped ≤ 2 ^ 53) }
-{
-    let bot = read_name(alloc, "bot_id", raw.bot.as_str())?;
-    let run = read_run(alloc, raw.run.as_str())?;
-    let output = read_output(alloc, &raw.output)?;
-    let end = read_end(alloc, raw.end)?;
-    Ok(Report {
-        bot,
-        run,
-        output,
-        end,
-    })
-}
-
-/// The report in a body.
-#[tactic(auto, unfolding(crate::specs::Reports::report_in))]
-pub fn read_report(alloc: Global, body: &Value) -> Result<Report, PropFault>
-    ensures exact { Reads result (report_in (view body.now)) }
-    ensures named { IfOk result (λ report. is_name report.bot ≡ true) }
-    ensures try_no { IfOk result (λ report. report.run % 16 ≡ 1) }
-    ensures duration { IfOk result (λ report. report.end.duration_ms ≤ 2 ^ 40) }
-    ensures dropped { IfOk result (λ report. report.end.dropped ≤ 2 ^ 53) }
-{
-    let raw = read_raw_report(alloc, body)?;
-    check_report(alloc, raw)
-}
-
-/// Whether a report has no output and no files.
-pub fn is_bare(report: &Report) -> bool
-    ensures { result ≡ spec_is_bare report.now }
-{
-    report.output.as_slice().is_empty() && report.end.files.as_slice().is_empty()
-}
-
 /// How the run ended, where it has.
-pub fn ending_of(end: End) -> Option<Last>
+fn last_of(end: End) -> Option<Last>
     requires duration { end.duration_ms ≤ 2 ^ 40 }
     requires dropped { end.dropped ≤ 2 ^ 53 }
-    requires no_files { length end.files ≡ 0 }
+    requires files { list_all is_file end.files ≡ true }
+    requires few { length end.files ≤ 64 }
     ensures is { result ≡ spec_last_of end }
     ensures fits { option_map_or fits_last result true ≡ true }
 {
@@ -209,4 +177,41 @@ pub fn ending_of(end: End) -> Option<Last>
         dropped: end.dropped,
         files: end.files,
     })
+}
+
+#[tactic(auto, unfolding(crate::specs::Reports::report_of))]
+fn check_report(alloc: Global, raw: RawReport) -> Result<Report, PropFault>
+    ensures exact { Reads result (report_of raw) }
+    ensures named { IfOk result (λ report. is_name report.bot ≡ true) }
+    ensures try_no { IfOk result (λ report. report.run % 16 ≡ 1) }
+    ensures chunk { IfOk result (λ report. option_map_or fits_chunk report.output.chunk true ≡ true) }
+    ensures last { IfOk result (λ report. option_map_or fits_last report.last true ≡ true) }
+    ensures digest { IfOk result (λ report. IfSome report.output.chunk (λ chunk. chunk.digest ≡ sha256 report.output.bytes)) }
+    ensures size { IfOk result (λ report. IfSome report.output.chunk (λ chunk. chunk.size ≡ length report.output.bytes)) }
+{
+    let bot = read_name(alloc, "bot_id", raw.bot.as_str())?;
+    let run = read_run(alloc, raw.run.as_str())?;
+    let output = read_output(alloc, &raw.output)?;
+    let end = read_end(alloc, raw.end)?;
+    Ok(Report {
+        bot,
+        run,
+        output,
+        last: last_of(end),
+    })
+}
+
+/// The report in a body.
+#[tactic(auto, unfolding(crate::specs::Reports::report_in))]
+pub fn read_report(alloc: Global, body: &Value) -> Result<Report, PropFault>
+    ensures exact { Reads result (report_in (view body.now)) }
+    ensures named { IfOk result (λ report. is_name report.bot ≡ true) }
+    ensures try_no { IfOk result (λ report. report.run % 16 ≡ 1) }
+    ensures chunk { IfOk result (λ report. option_map_or fits_chunk report.output.chunk true ≡ true) }
+    ensures last { IfOk result (λ report. option_map_or fits_last report.last true ≡ true) }
+    ensures digest { IfOk result (λ report. IfSome report.output.chunk (λ chunk. chunk.digest ≡ sha256 report.output.bytes)) }
+    ensures size { IfOk result (λ report. IfSome report.output.chunk (λ chunk. chunk.size ≡ length report.output.bytes)) }
+{
+    let raw = read_raw_report(alloc, body)?;
+    check_report(alloc, raw)
 }

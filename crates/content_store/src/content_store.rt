@@ -92,6 +92,21 @@ impl ContentStore {
         )
     }
 
+    /// The same, where it is known that the name is the digest of the bytes: they are not hashed.
+    pub fn fill_known(&mut self, digest: &Digest, bytes: &[u8]) -> Filled
+        requires named { sha256 bytes.now ≡ digest.now }
+        ensures told { result ≡ fill_result self.old.held digest.now bytes.now }
+        ensures holds { self.new ≡ record self.old { held = held_after_fill result digest.now bytes.now self.old.held } }
+    {
+        filling::fill_known(
+            &self.region,
+            &mut self.slots,
+            &mut self.bytes,
+            digest,
+            bytes,
+        )
+    }
+
     /// The bytes of a held name, once they came.
     pub fn get(&self, digest: &Digest) -> Option<&[u8]>
         ensures lends { option_map (λ b. b.now) result ≡ bytes_of self.now.held digest.now }

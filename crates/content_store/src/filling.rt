@@ -75,6 +75,38 @@ fn fill_at(
     mark_in(slots, index);
 }
 
+/// Brings the bytes of a name that is known to be their digest, where they are of its size.
+pub(crate) fn fill_known(
+    region: &Region,
+    slots: &mut Vec<Slot>,
+    bytes: &mut Vec<u8>,
+    digest: &Digest,
+    content: &[u8],
+) -> Filled
+    requires laid_out { AreLaidOut region.now slots.old.items }
+    requires there { AreThere bytes.old.items slots.old.items }
+    requires room { region.now.units * 64 ≤ vec_capacity bytes.old }
+    requires named { sha256 content.now ≡ digest.now }
+    ensures told { result ≡ fill_result (map (content_in bytes.old.items) slots.old.items) digest.now content.now }
+    ensures holds { map (content_in bytes.new.items) slots.new.items ≡
+        held_after_fill result digest.now content.now (map (content_in bytes.old.items) slots.old.items) }
+    ensures laid_out { AreLaidOut region.now slots.new.items }
+    ensures there { AreThere bytes.new.items slots.new.items }
+    ensures bytes_room { vec_capacity bytes.old ≤ vec_capacity bytes.new }
+    ensures slots_room { vec_capacity slots.new ≡ vec_capacity slots.old }
+{
+    match place_of(slots.as_slice(), digest) {
+        Err(_) => Filled::Unknown,
+        Ok(index) => {
+            if slots[index].size as usize != content.len() {
+                return Filled::Unknown;
+            }
+            fill_at(region, slots, bytes, index, digest, content);
+            Filled::Done
+        }
+    }
+}
+
 /// Brings the bytes of a name, where they are those of the name and of its size.
 pub(crate) fn fill(
     region: &Region,
@@ -98,16 +130,7 @@ pub(crate) fn fill(
     if actual != *digest {
         return Filled::Differs(actual);
     }
-    match place_of(slots.as_slice(), digest) {
-        Err(_) => Filled::Unknown,
-        Ok(index) => {
-            if slots[index].size as usize != content.len() {
-                return Filled::Unknown;
-            }
-            fill_at(region, slots, bytes, index, digest, content);
-            Filled::Done
-        }
-    }
+    fill_known(region, slots, bytes, digest, content)
 }
 
 /// The bytes of a slot, once they are there.

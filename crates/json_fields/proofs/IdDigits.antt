@@ -11,7 +11,8 @@ use Rattle.std.proofs.lemmas.Int.Digits.{digits_value-lt}
 use Rattle.std.proofs.Math.Nat.{pow-le-pow_right}
 use Rattle.std.proofs.lemmas.Str.Parse.{without_leading_plus_none}
 use Rattle.std.proofs.lemmas.Str.{digit_value_digit}
-use Rattle.json_fields.specs.Ids.{is_hex_digit, has_id_form}
+use Rattle.task_props.specs.Digests.{is_hex_digit}
+use Rattle.json_fields.specs.Ids.{has_id_form}
 
 digit_range : (c : ℕ) → is_ascii_digit c ≡ true → IsInRange 48 57 c
 digit_range c h = (grind (arith, h), grind (arith, h))

@@ -1,10 +1,10 @@
 -- The ids of tasks and of their runs.
-use Rattle.std.specs.Prelude.{ℕ, ◌+◌, ◌-◌, ◌*◌, ◌/◌, ◌%◌, ◌==◌, ◌&&◌, ◌||◌, nat_le, not, Bool, false, List, ◌++◌, length, slice_index, if◌then◌else◌, Result, Ok, Err, codes}
+use Rattle.std.specs.Prelude.{ℕ, ◌+◌, ◌-◌, ◌*◌, ◌/◌, ◌%◌, ◌==◌, ◌&&◌, nat_le, not, Bool, false, List, ◌++◌, length, slice_index, if◌then◌else◌, Result, Ok, Err, codes}
 use Rattle.std.specs.List.{list_all}
-use Rattle.std.specs.Char.{is_ascii_digit}
 use Rattle.std.specs.Str.Parse.{digits_value}
 use Rattle.std.specs.Fmt.{digits}
 use Rattle.task_props.specs.declared.prop_rule.PropRule.{PropRule}
+use Rattle.task_props.specs.Digests.{is_hex_digit}
 use Rattle.task_props.specs.declared.prop_rule.PropRule.TheVariants.{Grammar}
 
 -- ---- shown
@@ -42,11 +42,7 @@ task_of_id id = task_of_number (id / 16)
 
 -- ---- read
 
--- a hexadecimal digit in lower case
-abbrev pub is_hex_digit : ℕ → Bool
-is_hex_digit c = is_ascii_digit c || (nat_le 97 c && nat_le c 102)
-
--- 2 to 7 such digits, the first not 0
+-- 2 to 7 hexadecimal digits in lower case, the first not 0
 abbrev pub has_id_form : List ℕ → Bool
 has_id_form s = (nat_le 2 (length s) && nat_le (length s) 7) && (list_all is_hex_digit s && not (slice_index s 0 == 48))
 

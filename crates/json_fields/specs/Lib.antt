@@ -4,3 +4,5 @@ pub mod Fields
 pub mod Ranges
 pub mod Pages
 pub mod Ids
+pub mod Digests
+pub mod Checks

@@ -3,11 +3,11 @@ ghost use Rattle.std.specs.Prelude.{◌≡◌, ◌≤◌, ◌<◌, ◌+◌, ◌*
 ghost use Rattle.std.specs.List.{list_all};
 ghost use Rattle.std.specs.Str.Parse.{digits_value};
 ghost use Rattle.json_fields.specs.Readings.{Gives, Reads, at};
-ghost use Rattle.json_fields.specs.Ids.{shown_number as spec_shown_number, task_id as spec_task_id, run_id as spec_run_id, place_of_number as spec_place_of_number, task_of_number as spec_task_of_number, place_of_id as spec_place_of_id, task_of_id as spec_task_of_id, try_of_id as spec_try_of_id, is_hex_digit as spec_is_hex_digit, has_id_form as spec_has_id_form, id_of as spec_id_of, run_of as spec_run_of};
+ghost use Rattle.json_fields.specs.Ids.{shown_number as spec_shown_number, task_id as spec_task_id, run_id as spec_run_id, place_of_number as spec_place_of_number, task_of_number as spec_task_of_number, place_of_id as spec_place_of_id, task_of_id as spec_task_of_id, try_of_id as spec_try_of_id, has_id_form as spec_has_id_form, id_of as spec_id_of, run_of as spec_run_of};
 
 use crate::faults::broken;
 use std::alloc::{AllocError, Global};
-use task_props::{PropFault, PropRule};
+use task_props::{PropFault, PropRule, are_hex_digits};
 
 /// A task of the pool at a place, as one number.
 pub fn shown_number(place: u32, task: u32) -> u64
@@ -36,19 +36,6 @@ pub fn run_id(alloc: Global, place: u32, run: (u32, u32)) -> Result<String, Allo
     let (task, try_no) = run;
     let number = shown_number(place, task);
     format!(in alloc; "{number:x}{try_no:x}")
-}
-
-fn is_hex_digit(byte: u8) -> bool
-    ensures { result ≡ spec_is_hex_digit byte }
-{
-    byte.is_ascii_digit() || (byte >= b'a' && byte <= b'f')
-}
-
-/// Whether a text has hexadecimal digits alone, in lower case.
-pub fn are_hex_digits(text: &[u8]) -> bool
-    ensures { result ≡ list_all spec_is_hex_digit text.now }
-{
-    text.iter().all(|byte| is_hex_digit(*byte))
 }
 
 fn has_id_form(text: &[u8]) -> bool

@@ -17,12 +17,15 @@
 //! place and the task alone has the law [`number_tells_its_parts`].
 //!
 //! Of what a field may hold beyond its type, this crate has what the bodies of clients and of bots
-//! share: [`read_whole`], for a number within a range (`specs/Ranges.antt`), and [`read_limit`], for
-//! how many rows a page shows (`specs/Pages.antt`). It stands on the rules of `task_props`, on the
-//! texts and lists of `dimensions`, and on `serde_json`.
+//! share: [`read_whole`], for a number within a range (`specs/Ranges.antt`), [`read_limit`], for
+//! how many rows a page shows (`specs/Pages.antt`), and [`read_digest_at`], for the digest of a
+//! content (`specs/Digests.antt`). It stands on the rules of `task_props`, on the texts and lists of
+//! `dimensions`, and on `serde_json`.
 #![tactic(auto)]
 
 mod body;
+mod checks;
+mod digests;
 mod faults;
 mod fields;
 mod ids;
@@ -33,14 +36,16 @@ mod pages;
 mod ranges;
 
 pub use body::read_body;
+pub use checks::{CheckItem, check_items};
+pub use digests::read_digest_at;
 pub use faults::{below, below_place, broken, broken_at};
 pub use fields::{
     list_in, present, read_flag, read_number, read_object, read_optional_number,
     read_required_text, read_text, values_of,
 };
 pub use ids::{
-    are_hex_digits, id_tells_its_parts, number_tells_its_parts, place_of_id, place_of_number,
-    read_id, read_run, run_id, shown_number, task_id, task_of_id, task_of_number, try_of_id,
+    id_tells_its_parts, number_tells_its_parts, place_of_id, place_of_number, read_id, read_run,
+    run_id, shown_number, task_id, task_of_id, task_of_number, try_of_id,
 };
 pub use keys::unknown_key;
 pub use lists::{ReadFields, read_objects, read_optional_objects, read_optional_texts, read_texts};

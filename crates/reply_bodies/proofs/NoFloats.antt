@@ -13,7 +13,7 @@ use Rattle.swarm_model.specs.declared.rule.Rule.TheVariants as rule
 use Rattle.swarm_model.specs.declared.reply.Reply.{Reply}
 use Rattle.swarm_model.specs.declared.reply.Reply.TheVariants as reply
 use Rattle.json_values.specs.Values.{whole, signed, or_null}
-use Rattle.reply_bodies.specs.Items.{pair_data, bot_pair_data, cache_data, file_data}
+use Rattle.reply_bodies.specs.Items.{pair_data, bot_pair_data, cache_data, file_data, blob_data}
 use Rattle.reply_bodies.specs.Views.{run_data, last_members, task_members, task_data, bot_members, bot_data}
 use Rattle.reply_bodies.specs.Commands.{last_properties, properties_members, run_members}
 use Rattle.reply_bodies.specs.Refusals.{refusal_members}
@@ -38,12 +38,17 @@ refusal_is_plain place (rule.BotBusy task try_no) = refl
 refusal_is_plain place (rule.ClaimOver task try_no state) = refl
 refusal_is_plain place (rule.NotClaimant bot) = refl
 refusal_is_plain place (rule.AttemptOver state) = refl
+refusal_is_plain place (rule.OutputGap length) = refl
+refusal_is_plain place (rule.OutputOverlap start) = refl
+refusal_is_plain place (rule.BlobMissing digest) = refl
+refusal_is_plain place (rule.DigestDiffers actual) = refl
+refusal_is_plain place (rule.StoreFull names size) = refl
 refusal_is_plain place (rule.PoolTasksFull limit) = refl
 refusal_is_plain place (rule.PoolBotsFull limit) = refl
 refusal_is_plain place rule.LogFull = refl
 refusal_is_plain place (rule.FrontAhead length) = refl
 refusal_is_plain place rule.WantOfMemory = refl
-refusal_is_plain place (rule.NotBuilt what) = refl
+refusal_is_plain place (rule.OutputGone digest) = refl
 
 or_null_is_plain : {A : Type 0} (show : A → Data) → ((a : A) → has_float (show a) ≡ false) → (o : Option A) → has_float (or_null show o) ≡ false
 or_null_is_plain show h None = refl
@@ -115,24 +120,28 @@ run_is_plain : (place : ℕ) (run : ℕ × ℕ) (slice tolerance : ℕ) (propert
 unfolding run_members
 run_is_plain place run slice tolerance properties = rw (properties_are_plain properties) refl
 
-reply_are_plain : (place : ℕ) (r : Reply) → members_have_float (reply_members place r) ≡ false
-reply_are_plain place (reply.New task state) = refl
-reply_are_plain place (reply.Canceled canceled was_running) = refl
-reply_are_plain place (reply.Result task) = task_is_plain place task
-reply_are_plain place (reply.Tasks items cursor) = rw (or_null_is_plain (number_data place) (λ _. refl) cursor, tasks_are_plain place items) refl
-reply_are_plain place (reply.Count count) = refl
-reply_are_plain place (reply.Shaken bot) = refl
-reply_are_plain place (reply.Sleep secs) = refl
-reply_are_plain place reply.ClaimHint = refl
-reply_are_plain place reply.Terminate = refl
-reply_are_plain place (reply.Run task try_no slice tolerance properties) = run_is_plain place (task, try_no) slice tolerance properties
-reply_are_plain place reply.Skip = refl
-reply_are_plain place reply.Noted = refl
-reply_are_plain place (reply.Updated must_stop) = refl
-reply_are_plain place reply.Terminating = refl
-reply_are_plain place (reply.Bots items cursor) = rw (or_null_is_plain string (λ _. refl) cursor, bots_are_plain place items) refl
-reply_are_plain place (reply.Bot bot) = bot_is_plain place bot
-reply_are_plain place (reply.No why) = refusal_is_plain place why
+reply_are_plain : (place : ℕ) (r : Reply) (pieces : List (List ℕ)) → members_have_float (reply_members place r pieces) ≡ false
+reply_are_plain place (reply.New task state) pieces = refl
+reply_are_plain place (reply.Canceled canceled was_running) pieces = refl
+reply_are_plain place (reply.Result task) pieces = task_is_plain place task
+reply_are_plain place (reply.Stdout state parts) pieces = refl
+reply_are_plain place (reply.Tasks items cursor) pieces = rw (or_null_is_plain (number_data place) (λ _. refl) cursor, tasks_are_plain place items) refl
+reply_are_plain place (reply.Count count) pieces = refl
+reply_are_plain place (reply.Shaken bot) pieces = refl
+reply_are_plain place (reply.Sleep secs) pieces = refl
+reply_are_plain place reply.ClaimHint pieces = refl
+reply_are_plain place reply.Terminate pieces = refl
+reply_are_plain place (reply.Run task try_no slice tolerance properties) pieces = run_is_plain place (task, try_no) slice tolerance properties
+reply_are_plain place reply.Skip pieces = refl
+reply_are_plain place reply.Noted pieces = refl
+reply_are_plain place (reply.Updated must_stop) pieces = refl
+reply_are_plain place reply.Terminating pieces = refl
+reply_are_plain place (reply.Bots items cursor) pieces = rw (or_null_is_plain string (λ _. refl) cursor, bots_are_plain place items) refl
+reply_are_plain place (reply.Bot bot) pieces = bot_is_plain place bot
+reply_are_plain place (reply.Put fresh) pieces = refl
+reply_are_plain place (reply.Blob digest size) pieces = refl
+reply_are_plain place (reply.Missing blobs) pieces = rw (plain_items blob_data (λ _. refl) blobs) refl
+reply_are_plain place (reply.No why) pieces = refusal_is_plain place why
 
-pub reply_is_plain : (place : ℕ) (r : Reply) → has_float (object (reply_members place r)) ≡ false
-reply_is_plain place r = reply_are_plain place r
+pub reply_is_plain : (place : ℕ) (r : Reply) (pieces : List (List ℕ)) → has_float (object (reply_members place r pieces)) ≡ false
+reply_is_plain place r pieces = reply_are_plain place r pieces

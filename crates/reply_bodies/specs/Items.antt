@@ -24,3 +24,7 @@ file_data file =
     (member (codes "digest") (string (encode_lower file.digest))
     (member (codes "path") (string file.path)
     (member (codes "size") (whole file.size) no_members)))
+
+-- a blob, by its digest and its size
+abbrev pub blob_data : List ℕ × ℕ → Data
+blob_data blob = object (member (codes "digest") (string (encode_lower blob.0)) (member (codes "size") (whole blob.1) no_members))

@@ -1,10 +1,9 @@
 -- The table of refusals: the status and the code of each, and what else it tells.
 use Rattle.std.specs.Prelude.{ℕ, List, codes}
+use Rattle.hex.specs.Hex.{encode_lower}
 use Rattle.serde_json.specs.Data.{Data, string, Members, member, no_members, put}
 use Rattle.json_values.specs.Values.{whole}
 use Rattle.task_props.specs.RuleNames.{rule_name}
-use Rattle.swarm_model.specs.declared.rule.Unbuilt.{Unbuilt}
-use Rattle.swarm_model.specs.declared.rule.Unbuilt.TheVariants as unbuilt
 use Rattle.swarm_model.specs.declared.rule.Unfit.{Unfit}
 use Rattle.swarm_model.specs.declared.rule.Unfit.TheVariants as unfit
 use Rattle.swarm_model.specs.declared.rule.Rule.{Rule}
@@ -34,16 +33,17 @@ status_and_code (rule.BotBusy task try_no) = (409, codes "bot_busy")
 status_and_code (rule.ClaimOver task try_no state) = (409, codes "claim_over")
 status_and_code (rule.NotClaimant bot) = (403, codes "not_claimant")
 status_and_code (rule.AttemptOver state) = (409, codes "attempt_over")
+status_and_code (rule.OutputGap length) = (409, codes "output_gap")
+status_and_code (rule.OutputOverlap start) = (409, codes "output_overlap")
+status_and_code (rule.BlobMissing digest) = (409, codes "blob_missing")
+status_and_code (rule.DigestDiffers actual) = (400, codes "digest_differs")
+status_and_code (rule.StoreFull names size) = (507, codes "store_full")
 status_and_code (rule.PoolTasksFull limit) = (503, codes "pool_tasks_full")
 status_and_code (rule.PoolBotsFull limit) = (503, codes "pool_bots_full")
 status_and_code rule.LogFull = (503, codes "log_full")
 status_and_code (rule.FrontAhead length) = (409, codes "front_ahead")
 status_and_code rule.WantOfMemory = (503, codes "want_of_memory")
-status_and_code (rule.NotBuilt what) = (501, codes "not_built")
-
-abbrev pub unbuilt_name : Unbuilt → List ℕ
-unbuilt_name unbuilt.Task = codes "task"
-unbuilt_name unbuilt.Update = codes "update"
+status_and_code (rule.OutputGone digest) = (410, codes "output_gone")
 
 abbrev pub unfit_name : Unfit → List ℕ
 unfit_name unfit.Dead = codes "dead"
@@ -68,10 +68,15 @@ told_members place (rule.BotBusy task try_no) = one (codes "run") (run_data plac
 told_members place (rule.ClaimOver task try_no state) = two (codes "run") (run_data place (task, try_no)) (codes "state") (string (state_name state))
 told_members place (rule.NotClaimant bot) = one (codes "bot") (string bot)
 told_members place (rule.AttemptOver state) = one (codes "state") (string (state_name state))
+told_members place (rule.OutputGap length) = one (codes "length") (whole length)
+told_members place (rule.OutputOverlap start) = one (codes "start") (whole start)
+told_members place (rule.BlobMissing digest) = one (codes "digest") (string (encode_lower digest))
+told_members place (rule.DigestDiffers actual) = one (codes "actual") (string (encode_lower actual))
+told_members place (rule.StoreFull names size) = two (codes "names") (whole names) (codes "size") (whole size)
 told_members place (rule.PoolTasksFull limit) = one (codes "limit") (whole limit)
 told_members place (rule.PoolBotsFull limit) = one (codes "limit") (whole limit)
 told_members place (rule.FrontAhead length) = one (codes "length") (whole length)
-told_members place (rule.NotBuilt what) = one (codes "what") (string (unbuilt_name what))
+told_members place (rule.OutputGone digest) = one (codes "digest") (string (encode_lower digest))
 told_members place why = no_members
 
 -- the members of a refusal: its code, and what else it tells

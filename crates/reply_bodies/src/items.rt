@@ -1,13 +1,15 @@
 //! The items of lists.
 ghost use Rattle.std.specs.Prelude.{◌≡◌, IfOk};
-ghost use Rattle.serde_json.specs.Data.{string};
-ghost use Rattle.reply_bodies.specs.Items.{pair_data, bot_pair_data, cache_data, file_data};
+ghost use Rattle.hex.specs.Hex.{encode_lower};
+ghost use Rattle.serde_json.specs.Data.{string, put};
+ghost use Rattle.serde_json.specs.View.{members_view};
+ghost use Rattle.reply_bodies.specs.Items.{pair_data, bot_pair_data, cache_data, file_data, blob_data};
 
 use dimensions::{Seq, Text};
 use json_values::{ShowItem, with_list, with_text, with_whole};
 use serde_json::{Map, Value};
 use std::alloc::{AllocError, Global};
-use task_props::{Cache, File};
+use task_props::{Cache, Digest, File};
 
 /// Texts.
 pub(crate) struct Texts;
@@ -23,6 +25,22 @@ pub(crate) struct Caches;
 
 /// Files, each by its path, its digest and its size.
 pub(crate) struct Files;
+
+/// Blobs, each by its digest and its size.
+pub(crate) struct Blobs;
+
+/// One more member, a digest as a hexadecimal text.
+pub(crate) fn with_digest(
+    alloc: Global,
+    members: Map<String, Value>,
+    key: &str,
+    digest: &Digest,
+) -> Result<Map<String, Value>, AllocError>
+    ensures { IfOk result (λ more. members_view more.entries ≡ put key.now (string (encode_lower digest.now)) (members_view members.entries)) }
+{
+    let text = hex::encode(alloc, digest.as_slice())?;
+    with_text(alloc, members, key, text.as_str())
+}
 
 impl ShowItem for Texts {
     type Item = Text;
@@ -77,10 +95,21 @@ impl ShowItem for Files {
     ghost value_of = { λ _. file_data };
 
     fn show(&self, alloc: Global, file: &File) -> Result<Value, AllocError> {
-        let digest = hex::encode(alloc, file.digest.as_slice())?;
         let members = with_whole(alloc, Map::new(alloc), "size", u64::from(file.size))?;
         let members = with_text(alloc, members, "path", file.path.as_str())?;
-        let members = with_text(alloc, members, "digest", digest.as_str())?;
+        let members = with_digest(alloc, members, "digest", &file.digest)?;
+        Ok(Value::Object(members))
+    }
+}
+
+impl ShowItem for Blobs {
+    type Item = (Digest, u32);
+
+    ghost value_of = { λ _. blob_data };
+
+    fn show(&self, alloc: Global, blob: &(Digest, u32)) -> Result<Value, AllocError> {
+        let members = with_whole(alloc, Map::new(alloc), "size", u64::from(blob.1))?;
+        let members = with_digest(alloc, members, "digest", &blob.0)?;
         Ok(Value::Object(members))
     }
 }

@@ -1,18 +1,21 @@
 //! Refusals: the status and the code of each, and what else it tells.
 ghost use Rattle.std.specs.Prelude.{◌≡◌, ◌<◌, IfOk, codes};
 ghost use Rattle.http.specs.StatusCode.{IsStatusCode};
+ghost use Rattle.hex.specs.Hex.{encode_lower};
 ghost use Rattle.serde_json.specs.Data.{string};
 ghost use Rattle.serde_json.specs.View.{members_view};
 ghost use Rattle.json_values.specs.Values.{whole};
 ghost use Rattle.swarm_model.specs.declared.rule.Rule.TheVariants.{ClaimOver};
 ghost use Rattle.swarm_model.specs.Permissions.{permission_name};
-ghost use Rattle.reply_bodies.specs.Refusals.{status_and_code as spec_status_and_code, unbuilt_name as spec_unbuilt_name, unfit_name as spec_unfit_name, one, two, told_members as spec_told_members, refusal_members as spec_refusal_members};
+ghost use Rattle.reply_bodies.specs.Refusals.{status_and_code as spec_status_and_code, unfit_name as spec_unfit_name, one, two, told_members as spec_told_members, refusal_members as spec_refusal_members};
 
+use crate::items::with_digest;
 use crate::views::{with_run_id, with_task_id};
 use json_values::{with_text, with_whole};
 use serde_json::{Map, Value};
 use std::alloc::{AllocError, Global};
-use swarm_model::{Permission, Rule, TaskState, Unbuilt, Unfit};
+use swarm_model::{Permission, Rule, TaskState, Unfit};
+use task_props::Digest;
 
 /// The status of a refusal, and its code.
 pub(crate) fn status_and_code(why: &Rule) -> (u16, &'static str)
@@ -39,21 +42,17 @@ pub(crate) fn status_and_code(why: &Rule) -> (u16, &'static str)
         Rule::ClaimOver { .. } => (409, "claim_over"),
         Rule::NotClaimant { .. } => (403, "not_claimant"),
         Rule::AttemptOver { .. } => (409, "attempt_over"),
+        Rule::OutputGap { .. } => (409, "output_gap"),
+        Rule::OutputOverlap { .. } => (409, "output_overlap"),
+        Rule::BlobMissing { .. } => (409, "blob_missing"),
+        Rule::DigestDiffers { .. } => (400, "digest_differs"),
+        Rule::StoreFull { .. } => (507, "store_full"),
         Rule::PoolTasksFull { .. } => (503, "pool_tasks_full"),
         Rule::PoolBotsFull { .. } => (503, "pool_bots_full"),
         Rule::LogFull => (503, "log_full"),
         Rule::FrontAhead { .. } => (409, "front_ahead"),
         Rule::WantOfMemory => (503, "want_of_memory"),
-        Rule::NotBuilt { .. } => (501, "not_built"),
-    }
-}
-
-fn unbuilt_name(what: Unbuilt) -> &'static str
-    ensures { result.now ≡ spec_unbuilt_name what }
-{
-    match what {
-        Unbuilt::Task => "task",
-        Unbuilt::Update => "update",
+        Rule::OutputGone { .. } => (410, "output_gone"),
     }
 }
 
@@ -87,6 +86,20 @@ pub(crate) fn one_whole(
     ensures { IfOk result (λ members. members_view members.entries ≡ one key.now (whole number)) }
 {
     with_whole(alloc, Map::new(alloc), key, number)
+}
+
+/// One member, a digest as a hexadecimal text.
+fn one_digest(alloc: Global, key: &str, digest: &Digest) -> Result<Map<String, Value>, AllocError>
+    ensures { IfOk result (λ members. members_view members.entries ≡ one key.now (string (encode_lower digest.now))) }
+{
+    with_digest(alloc, Map::new(alloc), key, digest)
+}
+
+fn full_members(alloc: Global, names: u32, size: u32) -> Result<Map<String, Value>, AllocError>
+    ensures { IfOk result (λ members. members_view members.entries ≡ two (codes "names") (whole names) (codes "size") (whole size)) }
+{
+    let members = one_whole(alloc, "size", u64::from(size))?;
+    with_whole(alloc, members, "names", u64::from(names))
 }
 
 fn field_members(alloc: Global, field: &str, rule: &str) -> Result<Map<String, Value>, AllocError>
@@ -143,7 +156,13 @@ fn told_members(alloc: Global, place: u32, why: &Rule) -> Result<Map<String, Val
         Rule::NotClaimant { bot } => one_text(alloc, "bot", bot.as_str()),
         Rule::AttemptOver { state } => one_text(alloc, "state", state.name()),
         Rule::FrontAhead { length } => one_whole(alloc, "length", *length),
-        Rule::NotBuilt { what } => one_text(alloc, "what", unbuilt_name(*what)),
+        Rule::OutputGap { length } => one_whole(alloc, "length", u64::from(*length)),
+        Rule::OutputOverlap { start } => one_whole(alloc, "start", u64::from(*start)),
+        Rule::BlobMissing { digest } | Rule::OutputGone { digest } => {
+            one_digest(alloc, "digest", digest)
+        }
+        Rule::DigestDiffers { actual } => one_digest(alloc, "actual", actual),
+        Rule::StoreFull { names, size } => full_members(alloc, *names, *size),
         Rule::BadHead
         | Rule::LengthRequired
         | Rule::NoRoute

@@ -3,15 +3,16 @@ ghost use Rattle.std.specs.Prelude.{◌≡◌};
 ghost use Rattle.std.specs.List.{list_all, list_any};
 ghost use Rattle.dimensions.specs.Order.{is_rising_by};
 ghost use Rattle.task_props.specs.ItemRules.{has_path as spec_has_path};
-ghost use Rattle.task_props.specs.Checked.{is_env as spec_is_env, are_caches as spec_are_caches, are_outputs as spec_are_outputs, has_lists as spec_has_lists, has_times as spec_has_times, are_sound as spec_are_sound};
-ghost use Rattle.task_props.specs.Sorted.{is_pair as spec_is_pair, is_cache as spec_is_cache, is_path as spec_is_path, is_key_below, is_name_below, has_path_twice};
+ghost use Rattle.task_props.specs.Digests.{is_digest as spec_is_digest};
+ghost use Rattle.task_props.specs.Checked.{is_env as spec_is_env, are_caches as spec_are_caches, are_inputs as spec_are_inputs, are_outputs as spec_are_outputs, has_lists as spec_has_lists, has_times as spec_has_times, are_sound as spec_are_sound};
+ghost use Rattle.task_props.specs.Sorted.{is_pair as spec_is_pair, is_cache as spec_is_cache, is_file as spec_is_file, is_path as spec_is_path, is_key_below, is_name_below, is_path_below, has_path_twice};
 
 use dimensions::{Text, is_rising};
 use task_checks::{
-    broken_command, cache_name_rule, env_key_rule, env_value_rule, grace_rule, has_path, path_rule,
-    timeout_rule,
+    LARGEST_CONTENT, broken_command, cache_name_rule, env_key_rule, env_value_rule, grace_rule,
+    has_path, path_rule, timeout_rule,
 };
-use task_props::{Cache, Properties};
+use task_props::{Cache, File, Properties};
 
 fn is_pair(pair: &(Text, Text)) -> bool
     ensures { result ≡ spec_is_pair pair.now }
@@ -99,6 +100,45 @@ fn are_caches(caches: &[Cache]) -> bool
         && !has_path_again(caches)
 }
 
+fn is_digest(bytes: &[u8]) -> bool
+    ensures { result ≡ spec_is_digest bytes.now }
+{
+    bytes.len() == 32
+}
+
+fn is_file(file: &File) -> bool
+    ensures { result ≡ spec_is_file file.now }
+{
+    is_path(&file.path) && is_digest(file.digest.as_slice()) && file.size <= LARGEST_CONTENT
+}
+
+pub(crate) fn are_files(files: &[File]) -> bool
+    ensures { result ≡ list_all spec_is_file files.now }
+{
+    files.iter().all(|file| is_file(file))
+}
+
+/// Whether each path is below the next.
+#[tactic(auto, using(crate::proofs::Rising::is_rising_short))]
+fn has_rising_paths(files: &[File]) -> bool
+    ensures { result ≡ is_rising_by is_path_below files.now }
+{
+    let mut left = files;
+    while left.len() >= 2 {
+        if !left[0].path.cmp(&left[1].path).is_lt() {
+            return false;
+        }
+        left = &left[1..];
+    }
+    true
+}
+
+fn are_inputs(files: &[File]) -> bool
+    ensures { result ≡ spec_are_inputs files.now }
+{
+    files.len() <= 64 && are_files(files) && has_rising_paths(files)
+}
+
 fn are_paths(paths: &[Text]) -> bool
     ensures { result ≡ list_all spec_is_path paths.now }
 {
@@ -116,7 +156,7 @@ fn has_lists(properties: &Properties) -> bool
 {
     is_env(properties.env.as_slice())
         && are_caches(properties.caches.as_slice())
-        && properties.inputs.as_slice().is_empty()
+        && are_inputs(properties.inputs.as_slice())
         && are_outputs(properties.outputs.as_slice())
 }
 

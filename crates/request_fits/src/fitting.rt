@@ -1,15 +1,21 @@
-ghost use Rattle.std.specs.Prelude.{◌≡◌, ◌&&◌, true};
+ghost use Rattle.std.specs.Prelude.{◌≡◌, ◌&&◌, ◌==◌, nat_le, true};
 ghost use Rattle.std.specs.List.{list_all};
 ghost use Rattle.std.specs.Option.{option_map_or};
 ghost use Rattle.dimensions.specs.Alike.{same};
 ghost use Rattle.dimensions.specs.Rules.{is_key_byte};
 ghost use Rattle.task_props.specs.Checked.{is_checked as spec_is_checked, pool_of_task};
-ghost use Rattle.swarm_model.specs.Fits.{is_name, fits_bot, fits_message, is_task_number, fits_task, is_limit, fits_last, fits};
+ghost use Rattle.swarm_model.specs.Words.{is_between};
+ghost use Rattle.swarm_model.specs.Fits.{is_name, fits_bot, fits_message, is_task_number, fits_task, is_limit, fits_chunk, fits_last, is_blob_size, fits};
 
+use crate::checking::are_files;
 use crate::is_checked;
 use dimensions::{BotDims, Text};
-use swarm_model::{EventKind, Last, PoolSettings, Request};
-use task_props::NewTask;
+use swarm_model::{Chunk, EventKind, Last, PoolSettings, Request};
+use task_checks::LARGEST_CONTENT;
+use task_props::{Digest, NewTask};
+
+/// The bytes of the longest output.
+const LONGEST_OUTPUT: u64 = 67_108_864;
 
 fn fits_pool(settings: &PoolSettings, request: &NewTask) -> bool
     ensures { result ≡ (spec_is_checked request.now && same (pool_of_task request.now) settings.now.name) }
@@ -79,17 +85,58 @@ fn is_task_number_or_none(number: Option<u32>) -> bool
     }
 }
 
-fn fits_last(last: &Option<Last>) -> bool
+fn fits_chunk(chunk: &Chunk) -> bool
+    ensures { result ≡ fits_chunk chunk.now }
+{
+    1 <= chunk.size
+        && chunk.size <= 32_768
+        && u64::from(chunk.start) + u64::from(chunk.size) <= LONGEST_OUTPUT
+}
+
+fn fits_chunk_or_none(chunk: &Option<Chunk>) -> bool
+    ensures { result ≡ option_map_or fits_chunk chunk.now true }
+{
+    match chunk {
+        None => true,
+        Some(chunk) => fits_chunk(chunk),
+    }
+}
+
+fn fits_last(last: &Last) -> bool
+    ensures { result ≡ fits_last last.now }
+{
+    last.duration_ms <= 1 << 40
+        && last.dropped <= 1 << 53
+        && last.files.as_slice().len() <= 64
+        && are_files(last.files.as_slice())
+}
+
+fn fits_last_or_none(last: &Option<Last>) -> bool
     ensures { result ≡ option_map_or fits_last last.now true }
 {
     match last {
         None => true,
-        Some(last) => {
-            last.duration_ms <= 1 << 40
-                && last.dropped <= 1 << 53
-                && last.files.as_slice().is_empty()
-        }
+        Some(last) => fits_last(last),
     }
+}
+
+/// Whether a window of output begins within the longest one and has 1 to 65536 bytes.
+fn is_window(offset: u32, length: u32) -> bool
+    ensures { result ≡ (nat_le offset 67108864 && is_between 1 65536 length) }
+{
+    u64::from(offset) <= LONGEST_OUTPUT && 1 <= length && length <= 65_536
+}
+
+fn is_blob_size(size: u32) -> bool
+    ensures { result ≡ is_blob_size size }
+{
+    size <= LARGEST_CONTENT
+}
+
+fn have_blob_sizes(blobs: &[(Digest, u32)]) -> bool
+    ensures { result ≡ list_all (λ blob. is_blob_size blob.1) blobs.now }
+{
+    blobs.iter().all(|blob| is_blob_size(blob.1))
 }
 
 /// Whether the pool of these settings may be asked this. It takes no memory.
@@ -104,6 +151,12 @@ pub fn fits(settings: &PoolSettings, request: &Request) -> bool
             kill: _,
         } => fits_task(*task, *try_no),
         Request::Result { task, try_no } => fits_task(*task, *try_no),
+        Request::Stdout {
+            task,
+            try_no,
+            offset,
+            length,
+        } => fits_task(*task, *try_no) && is_window(*offset, *length),
         Request::List {
             state: _,
             limit,
@@ -139,13 +192,22 @@ pub fn fits(settings: &PoolSettings, request: &Request) -> bool
             is_name(bot.as_str())
                 && fits_task(*task, *try_no)
                 && *try_no == 1
-                && chunk.is_none()
-                && fits_last(last)
+                && fits_chunk_or_none(chunk)
+                && fits_last_or_none(last)
         }
         Request::Terminate { bot } => is_name(bot.as_str()),
         Request::Bots { limit, after } => {
             is_limit(*limit) && (after.as_str().is_empty() || is_name(after.as_str()))
         }
         Request::Bot { bot } => is_name(bot.as_str()),
+        Request::PutBlob {
+            named: _,
+            actual: _,
+            size,
+        } => is_blob_size(*size),
+        Request::GetBlob { digest: _ } => true,
+        Request::FindMissing { blobs } => {
+            blobs.as_slice().len() <= 512 && have_blob_sizes(blobs.as_slice())
+        }
     }
 }

@@ -1,9 +1,10 @@
-/// A call that is served. Each is a POST.
+/// A call that is served.
 #[derive(Clone, Copy, Debug, PartialEq, Eq)]
 pub enum Route {
     NewTask,
     CancelTask,
     GetResult,
+    GetStdout,
     ListTasks,
     CountTasks,
     GetBot,
@@ -14,4 +15,7 @@ pub enum Route {
     Claim,
     Event,
     TaskUpdate,
+    FindMissing,
+    PutBlob,
+    GetBlob,
 }

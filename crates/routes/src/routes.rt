@@ -1,52 +1,113 @@
-ghost use Rattle.std.specs.Prelude.{◌≡◌, IfOk, OnOk, List, ℕ, map};
-ghost use Rattle.std.specs.List.{fold};
-ghost use Rattle.routes.specs.Routes.{route_of};
+ghost use Rattle.std.specs.Prelude.{◌≡◌, IfOk, IfSome, OnOk, List, ℕ, map};
+ghost use Rattle.std.specs.List.{fold, list_any};
+ghost use Rattle.std.specs.Option.{option_map};
+ghost use Rattle.matchit.specs.Level.{IsText};
+ghost use Rattle.routes.specs.Routes.{is_question_mark, resource_in, resource_of, pool_part, digest_part};
 ghost use Rattle.routes.specs.Rows.{with_row, answer};
 
-use crate::Route;
+use crate::{Resource, Route};
 use matchit::{InsertError, Router};
 use std::alloc::{AllocError, Global};
 
-/// The targets and their calls.
-const ROUTES: &[(&str, Route)] = &[
-    ("/bot/claim", Route::Claim),
-    ("/bot/event", Route::Event),
-    ("/bot/handshake", Route::Handshake),
-    ("/bot/poll", Route::Poll),
-    ("/bot/task_update", Route::TaskUpdate),
-    ("/prpc/swarming.v2.Bots/GetBot", Route::GetBot),
-    ("/prpc/swarming.v2.Bots/ListBots", Route::ListBots),
-    ("/prpc/swarming.v2.Bots/TerminateBot", Route::TerminateBot),
-    ("/prpc/swarming.v2.Tasks/CancelTask", Route::CancelTask),
-    ("/prpc/swarming.v2.Tasks/CountTasks", Route::CountTasks),
-    ("/prpc/swarming.v2.Tasks/GetResult", Route::GetResult),
-    ("/prpc/swarming.v2.Tasks/ListTasks", Route::ListTasks),
-    ("/prpc/swarming.v2.Tasks/NewTask", Route::NewTask),
+/// The targets, and what stands at each.
+const ROUTES: &[(&str, Resource)] = &[
+    ("/blobs/{pool}", Resource::Call(Route::FindMissing)),
+    ("/blobs/{pool}/{digest}", Resource::Blob),
+    ("/bot/claim", Resource::Call(Route::Claim)),
+    ("/bot/event", Resource::Call(Route::Event)),
+    ("/bot/handshake", Resource::Call(Route::Handshake)),
+    ("/bot/poll", Resource::Call(Route::Poll)),
+    ("/bot/task_update", Resource::Call(Route::TaskUpdate)),
+    (
+        "/prpc/swarming.v2.Bots/GetBot",
+        Resource::Call(Route::GetBot),
+    ),
+    (
+        "/prpc/swarming.v2.Bots/ListBots",
+        Resource::Call(Route::ListBots),
+    ),
+    (
+        "/prpc/swarming.v2.Bots/TerminateBot",
+        Resource::Call(Route::TerminateBot),
+    ),
+    (
+        "/prpc/swarming.v2.Tasks/CancelTask",
+        Resource::Call(Route::CancelTask),
+    ),
+    (
+        "/prpc/swarming.v2.Tasks/CountTasks",
+        Resource::Call(Route::CountTasks),
+    ),
+    (
+        "/prpc/swarming.v2.Tasks/GetResult",
+        Resource::Call(Route::GetResult),
+    ),
+    (
+        "/prpc/swarming.v2.Tasks/GetStdout",
+        Resource::Call(Route::GetStdout),
+    ),
+    (
+        "/prpc/swarming.v2.Tasks/ListTasks",
+        Resource::Call(Route::ListTasks),
+    ),
+    (
+        "/prpc/swarming.v2.Tasks/NewTask",
+        Resource::Call(Route::NewTask),
+    ),
 ];
+
+/// What stands at a target, and the parts of the target that the caller chose. A part that the
+/// target doesn't have is empty.
+#[derive(Clone, Copy)]
+pub struct Found<'a> {
+    pub resource: Resource,
+    pub pool: &'a str,
+    pub digest: &'a str,
+}
 
 /// The router of the table.
 #[derive(Drop)]
 pub struct Routes {
-    router: Router<Route>,
-    ghost exact: { (target : List ℕ) → answer router target ≡ route_of target },
+    router: Router<Resource>,
+    ghost exact: { (target : List ℕ) → IsText target → answer router target ≡ resource_in target },
 }
 
 #[tactic(auto, unfolding(crate::specs::Rows::with_row))]
-fn insert_all(router: &mut Router<Route>, table: &[(&str, Route)]) -> Result<(), InsertError>
+fn insert_all(router: &mut Router<Resource>, table: &[(&str, Resource)]) -> Result<(), InsertError>
     ensures { OnOk result (router.new ≡ fold with_row router.old (map (λ row. (row.0.now, row.1)) table.now)) }
 {
-    for (target, route) in table {
-        router.insert(target, *route)?;
+    for (target, resource) in table {
+        router.insert(target, *resource)?;
     }
     Ok(())
 }
 
-fn build(alloc: Global) -> Result<Router<Route>, InsertError>
-    ensures { IfOk result (λ router. (target : List ℕ) → answer router target ≡ route_of target) }
+fn build(alloc: Global) -> Result<Router<Resource>, InsertError>
+    ensures { IfOk result (λ router. (target : List ℕ) → IsText target → answer router target ≡ resource_in target) }
 {
     let mut router = Router::new(alloc);
     insert_all(&mut router, ROUTES)?;
     Ok(router)
+}
+
+fn has_question_mark(target: &[u8]) -> bool
+    ensures { result ≡ list_any is_question_mark target.now }
+{
+    target.iter().any(|byte| *byte == b'?')
+}
+
+/// The name of the pool and the digest of the blob in a target.
+fn parts(target: &str) -> (&str, &str)
+    ensures pool { result.0.now ≡ pool_part target.now }
+    ensures digest { result.1.now ≡ digest_part target.now }
+{
+    let Some(path) = target.strip_prefix("/blobs/") else {
+        return ("", "");
+    };
+    match path.split_once('/') {
+        Some(parts) => parts,
+        None => (path, ""),
+    }
 }
 
 impl Routes {
@@ -63,13 +124,32 @@ impl Routes {
         }
     }
 
-    /// The call of a target, with no allocation.
-    pub fn find(&self, target: &str) -> Option<Route>
-        ensures { result ≡ route_of target.now }
+    // What stands at a target, whatever follows a question mark.
+    fn resource(&self, target: &str) -> Option<Resource>
+        ensures { result ≡ resource_in target.now }
     {
         match self.router.at(target) {
             Ok(found) => Some(*found.value),
             Err(_) => None,
         }
+    }
+
+    /// What stands at a target, with no allocation.
+    #[tactic(auto, unfolding(crate::specs::Routes::resource_of))]
+    pub fn find<'a>(&self, target: &'a str) -> Option<Found<'a>>
+        ensures resource { option_map (λ found. found.resource) result ≡ resource_of target.now }
+        ensures pool { IfSome result (λ found. found.pool.now ≡ pool_part target.now) }
+        ensures digest { IfSome result (λ found. found.digest.now ≡ digest_part target.now) }
+    {
+        if has_question_mark(target.as_bytes()) {
+            return None;
+        }
+        let resource = self.resource(target)?;
+        let (pool, digest) = parts(target);
+        Some(Found {
+            resource,
+            pool,
+            digest,
+        })
     }
 }

@@ -2,11 +2,11 @@
 ghost use Rattle.std.specs.Prelude.{◌≡◌};
 ghost use Rattle.std.specs.List.{fold};
 ghost use Rattle.std.specs.Option.{option_copied, option_map, option_to_list};
-ghost use Rattle.swarm_model.specs.Deadlines.{rank, is_earlier, earlier, sooner, slice_limit, slice_end, silence_limit};
+ghost use Rattle.swarm_model.specs.Deadlines.{rank, is_earlier, earlier, sooner, slice_limit, slice_end, silence_limit, blob_end};
 ghost use Rattle.row_changes.specs.Rows.{IsEarly, IsHeard};
 ghost use Rattle.row_changes.specs.Bots.{death_of};
 
-use swarm_model::{BotRow, Cause, Deadline, TaskRow, TaskState};
+use swarm_model::{BlobRow, BotRow, Cause, Deadline, TaskRow, TaskState};
 use task_props::Slice;
 
 fn rank(cause: Cause) -> u8
@@ -16,6 +16,7 @@ fn rank(cause: Cause) -> u8
         Cause::Slice => 1,
         Cause::Silence => 2,
         Cause::Bot => 3,
+        Cause::Blob => 4,
     }
 }
 
@@ -111,4 +112,15 @@ pub fn death_of(timeout: u32, bot: &BotRow) -> Option<Deadline>
         cause: Cause::Bot,
         number: bot.no,
     })
+}
+
+/// When a blob's life ends.
+pub fn blob_end(blob: &BlobRow) -> Deadline
+    ensures { result ≡ blob_end blob.now }
+{
+    Deadline {
+        moment: blob.deadline,
+        cause: Cause::Blob,
+        number: blob.no,
+    }
 }

@@ -1,19 +1,22 @@
 //! What an entry does to rows, once for every machine that keeps some.
 //!
 //! A [`Change`] is the effect of one entry on one row, and [`change_row`] makes it on the row of a
-//! number. [`change_bots`] does to all rows of bots what an entry does. What an entry moves into
-//! rows, [`TaskParts`] and [`BotParts`], can be made ready before. [`new_row`] and [`session_row`]
-//! are the rows that entries add, and [`sooner_of`] is the order of deadlines.
+//! number. [`change_bots`] does to all rows of bots what an entry does, and [`record_report`] to the
+//! row of a task what a bot's report does. What an entry moves into rows, [`TaskParts`] and
+//! [`BotParts`], can be made ready before, and so can the room for a chunk ([`make_fresh_room`]).
+//! [`new_row`] and [`session_row`] are the rows that entries add, and [`sooner_of`] is the order of
+//! deadlines.
 //!
-//! `specs/` says what is known of a row (`Rows`), what an entry moves (`Parts`) and what it does to
-//! the bots (`Bots`), in the words of `swarm_model`'s `Effects` and `Deadlines`. The crate stands on
-//! `swarm_model`.
+//! `specs/` says what is known of a row (`Rows`), what an entry moves (`Parts`), what it does to the
+//! bots (`Bots`) and what a chunk needs (`Output`), in the words of `swarm_model`'s `Effects` and
+//! `Deadlines`. The crate stands on `swarm_model`.
 #![tactic(auto)]
 
 mod bot_changes;
 mod bots;
 mod changing;
 mod deadlines;
+mod output;
 mod parts;
 mod queries;
 mod task_changes;
@@ -25,7 +28,8 @@ pub use bot_changes::{
 };
 pub use bots::change_bots;
 pub use changing::{Change, Row, change_row, place_of, row_of};
-pub use deadlines::{death_of, silence_limit, slice_end, sooner_of};
+pub use deadlines::{blob_end, death_of, silence_limit, slice_end, sooner_of};
+pub use output::{fresh_chunk, keep_chunk, make_fresh_room, record_report};
 pub use parts::{BotParts, TaskParts, split};
-pub use queries::{is_capable, is_claimed, is_sent, waits_for};
+pub use queries::{is_capable, is_claimed, is_sent, needs, waits_for};
 pub use task_changes::{Cancel, ExpireSlice, Finish, LoseRun, MarkKill, StartRun, new_row};

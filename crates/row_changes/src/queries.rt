@@ -1,14 +1,15 @@
 //! What a row tells of itself, and whether some row does.
-ghost use Rattle.std.specs.Prelude.{◌≡◌};
+ghost use Rattle.std.specs.Prelude.{◌≡◌, false};
 ghost use Rattle.std.specs.List.{list_any};
-ghost use Rattle.std.specs.Option.{option_copied};
+ghost use Rattle.std.specs.Option.{option_copied, option_map_or};
 ghost use Rattle.swarm_model.specs.Slices.{could_run, takes_slice, waits_for};
 ghost use Rattle.swarm_model.specs.Answers.{is_claim, is_claimed};
 ghost use Rattle.swarm_model.specs.Reuse.{is_sent};
+ghost use Rattle.swarm_model.specs.Uses.{is_file_of, has_input, is_chunk_of, has_chunk, needs};
 
 use dimensions::{BotDims, DimSet, Text};
-use swarm_model::{Attempt, BotRow, TaskRow, TaskState};
-use task_props::Slice;
+use swarm_model::{Attempt, BotRow, Chunk, TaskRow, TaskState};
+use task_props::{Digest, File, Slice};
 
 /// Whether some fit bot, busy or not, has the dimensions.
 pub fn is_capable(bots: &[BotRow], dims: &DimSet) -> bool
@@ -54,4 +55,55 @@ pub fn waits_for(dims: &BotDims, task: &TaskRow) -> bool
     ensures { result ≡ waits_for dims.now task.now }
 {
     task.has_state(TaskState::Pending) && takes_slice(dims, task.current_slice())
+}
+
+fn is_file_of(digest: &Digest, file: &File) -> bool
+    ensures { result ≡ is_file_of digest.now file.now }
+{
+    file.digest == *digest
+}
+
+fn has_input(digest: &Digest, slice: &Slice) -> bool
+    ensures { result ≡ has_input digest.now slice.now }
+{
+    let inputs = slice.properties.inputs.as_slice();
+    inputs.iter().any(|file| is_file_of(digest, file))
+}
+
+fn is_chunk_of(digest: &Digest, chunk: &Chunk) -> bool
+    ensures { result ≡ is_chunk_of digest.now chunk.now }
+{
+    chunk.digest == *digest
+}
+
+fn has_chunk(digest: &Digest, attempt: &Attempt) -> bool
+    ensures { result ≡ has_chunk digest.now attempt.now }
+{
+    let chunks = attempt.chunks.as_slice();
+    chunks.iter().any(|chunk| is_chunk_of(digest, chunk))
+}
+
+fn is_input(digest: &Digest, slices: &[Slice]) -> bool
+    ensures { result ≡ list_any (has_input digest.now) slices.now }
+{
+    slices.iter().any(|slice| has_input(digest, slice))
+}
+
+fn is_output(digest: &Digest, attempt: &Option<Attempt>) -> bool
+    ensures { result ≡ option_map_or (has_chunk digest.now) attempt.now false }
+{
+    match attempt {
+        Some(attempt) => has_chunk(digest, attempt),
+        None => false,
+    }
+}
+
+/// Whether the task waits or runs, and the blob of a digest is an input of it or a chunk of its
+/// output.
+pub fn needs(digest: &Digest, task: &TaskRow) -> bool
+    ensures { result ≡ needs digest.now task.now }
+{
+    !task.state.is_final()
+        && (is_input(digest, task.request.task_slices.as_slice())
+            || is_output(digest, &task.attempt))
 }

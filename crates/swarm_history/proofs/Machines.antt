@@ -1,11 +1,13 @@
 -- Calls of one machine among several.
 use Rattle.std.proofs.Common.{◌≡◌, ℕ, zero, suc, ◌+◌, ◌<◌, true, List, [], ◌∷◌, map, length, get_or, set, refl, arith, ap, sym, subst, ◌∙◌, Option, Result}
 use Rattle.std.specs.Prelude.{IsSomeAnd, slice_get}
+use Rattle.std.specs.List.{All}
+use Rattle.std.proofs.lemmas.List.Elements.{All-map, All-set}
 use Rattle.std.proofs.lemmas.List.{map-set, get_or-map, get_or-set_other, length-map}
 use Rattle.swarm_model.specs.declared.pool_settings.Settings.{Settings}
 use Rattle.swarm_model.specs.declared.pool_settings.PoolSettings.{PoolSettings}
 use Rattle.swarm_model.specs.declared.entry.Entry.{Entry}
-use Rattle.swarm_model.specs.MachineState.{MachineState}
+use Rattle.swarm_model.specs.MachineState.{MachineState, AreHeld}
 use Rattle.swarm_model.specs.Points.{Call, Growth}
 use Rattle.swarm_history.specs.declared.door.Answered.{Answered}
 use Rattle.swarm_history.specs.declared.door.CallFault.{CallFault}
@@ -82,6 +84,10 @@ new_door settings store machines stored are = rw (stored, are) (record {
   calls = refl;
 })
 
+-- a new machine has no blobs
+pub new_held : (pools : List PoolSettings) → All AreHeld (map new_machine pools)
+new_held pools = All-map AreHeld new_machine pools (λ place pool low at blob less. absurd (omega arith))
+
 -- The machines of a type, each of which keeps its state.
 module _ {M : Type 0} (kept : M → MachineState) where
   -- a pool's place is that of a machine
@@ -96,6 +102,19 @@ module _ {M : Type 0} (kept : M → MachineState) where
       → old ≡ get_or machines place old → IsSomeAnd (slice_get (pools_of (map kept machines)) place) Q → Q (kept old).pool.settings
   machine_of Q machines place old low is holds =
       of_machine Q (map kept machines) place (kept old) (at machines place old (within machines place low) is) holds
+
+  -- where the blobs of each machine have their bytes, those of the one at a place have theirs
+  pub held_at : (machines : List M) (place : ℕ) (old : M) → place < length (pools_of (map kept machines)) → old ≡ get_or machines place old
+      → All AreHeld (map kept machines) → AreHeld (kept old)
+  held_at machines place old low is held =
+      let inside = within machines place low in
+      subst AreHeld (sym (at machines place old inside is)) (held place (kept old) (omega (arith, inside, length-map machines kept)))
+
+  -- and where those of a changed machine have theirs, so have those of each
+  pub all_held : (machines : List M) (place : ℕ) (new : M) → All AreHeld (map kept machines) → AreHeld (kept new)
+      → All AreHeld (map kept (set machines place new))
+  all_held machines place new held one =
+      subst (All AreHeld) (sym (map-set kept machines place new)) (All-set AreHeld (map kept machines) place (kept new) one held)
 
   -- a call of the machine at the place is a call of the door
   pub own_call : (store : Option (List ℕ)) (machines : List M) (calls place : ℕ) (call : Call) (result : Result Answered CallFault) (old new : M)

@@ -1,5 +1,5 @@
 -- The points of a log that nobody shares.
-use Rattle.std.proofs.Common.{◌≡◌, ℕ, Bool, true, false, List, [], ◌++◌, length, refl, Option, Some, None, Ok, Err, subst, sym, ap, ◌∙◌, append-nil}
+use Rattle.std.proofs.Common.{◌≡◌, ℕ, Bool, true, false, List, [], ◌++◌, length, refl, Option, Some, None, Result, Ok, Err, IfOk, IfErr, subst, sym, ap, ◌∙◌, append-nil}
 use Rattle.std.specs.Prelude.{IsSomeAnd}
 use Rattle.std.specs.Bool.{OnTrue}
 use Rattle.std.specs.Option.{option_or, option_to_list}
@@ -13,7 +13,7 @@ use Rattle.swarm_model.specs.declared.rule.Rule.TheVariants as rule
 use Rattle.swarm_model.specs.Deadlines.{due_entry}
 use Rattle.swarm_model.specs.Effects.{opening, after}
 use Rattle.swarm_model.specs.History.{replay, IsLegal, moment_of}
-use Rattle.swarm_model.specs.Points.{is_ahead, Call, answer_to, LacksRoom, next_entry}
+use Rattle.swarm_model.specs.Points.{is_ahead, Call, Growth, answer_to, LacksRoom, next_entry}
 use Rattle.swarm_model.specs.MachineState.{MachineState, IsHistory}
 use Rattle.swarm_model.specs.Soundness.{IsSound}
 use Rattle.swarm_laws.proofs.Sound.{sound_always}
@@ -22,7 +22,7 @@ use Rattle.swarm_history.specs.declared.door.Answered.{Answered}
 use Rattle.swarm_history.specs.declared.door.CallFault.{CallFault}
 use Rattle.swarm_history.specs.Doors.{ArePieces, is_log_full, IsPoolCall}
 use Rattle.swarm_history.proofs.Refusals.{refused_adds_nothing}
-use Rattle.swarm_history.specs.Settling.{Settles, Responds, IsOwnPoint, IsOwnStop}
+use Rattle.swarm_history.specs.Settling.{Settles, Responds, Shows, IsOwnPoint, IsOwnStop}
 
 -- what a machine keeps is sound
 pub sound_history : (kept : MachineState) → IsHistory kept → IsSound kept.pool
@@ -124,3 +124,11 @@ answered_call p front pieces = record {
 pub stopped_call : {pool : PoolSettings} {alone : Bool} {call : Call} {old new : List Entry} {fault : CallFault}
     → (p : IsOwnStop (opening pool) call old new (is_log_full fault)) → IsPoolCall pool alone call old new p.growth (Err fault)
 stopped_call p = record { ends = p.stop; no_others = λ _. p.no_others }
+
+-- a call that was served, or that stopped
+pub served_call : {pool : PoolSettings} {call : Call} {old : List Entry} (new : MachineState) (result : Result Answered CallFault)
+    → IfOk result (λ answered. IsOwnPoint (opening pool) call old new.log answered.reply) → IfOk result (Shows new)
+    → IfErr result (λ fault. IsOwnStop (opening pool) call old new.log (is_log_full fault))
+    → (growth : Growth) × IsPoolCall pool true call old new.log growth result
+served_call new (Ok answered) point shows stop = (point.growth, answered_call point shows.front shows.pieces)
+served_call new (Err fault) point shows stop = (stop.growth, stopped_call stop)

@@ -1,8 +1,11 @@
 -- What a door tells, and what a call does to it.
-use Rattle.std.specs.Prelude.{◌≡◌, ◌≢◌, ℕ, Bool, true, false, ◌+◌, ◌≤◌, List, [], length, slice_get, None, Result, Ok, Err, IsSomeAnd, IsTrue}
+use Rattle.std.specs.Prelude.{◌≡◌, ◌≢◌, ℕ, Bool, true, false, ◌+◌, ◌≤◌, List, [], ◌∷◌, length, slice_get, None, Result, Ok, Err, IsSomeAnd, IsTrue}
+use Rattle.std.specs.List.{AllZip}
+use Rattle.sha2.specs.Sha256.{sha256}
 use Rattle.swarm_model.specs.declared.pool_settings.Settings.{Settings}
 use Rattle.swarm_model.specs.declared.pool_settings.PoolSettings.{PoolSettings}
 use Rattle.swarm_model.specs.declared.entry.Entry.{Entry}
+use Rattle.swarm_model.specs.declared.reply.Part.{Part}
 use Rattle.swarm_model.specs.declared.reply.Reply.{Reply}
 use Rattle.swarm_model.specs.declared.reply.Reply.TheVariants as reply
 use Rattle.swarm_model.specs.declared.rule.Rule.{Rule}
@@ -34,8 +37,14 @@ pub record DoorState : Type 0 where
 abbrev pub Elsewhere : ℕ → Logs → Logs → Type 0
 Elsewhere place old new = (p : ℕ) → p ≢ place → new p ≡ old p
 
--- no reply names a blob yet, so none has bytes of one
+-- bytes of the part's digest, as many as the part needs
+abbrev pub IsPieceOf : Part → List ℕ → Type 0
+IsPieceOf part piece = (sha256 piece ≡ part.digest) × (part.to ≤ length piece)
+
+-- the bytes of the blobs that a reply names, in their order
 abbrev pub ArePieces : Reply → List (List ℕ) → Type 0
+ArePieces (reply.Stdout state parts) pieces = AllZip IsPieceOf parts pieces
+ArePieces (reply.Blob digest size) pieces = (piece : List ℕ) × (pieces ≡ piece ∷ []) × (sha256 piece ≡ digest) × (length piece ≡ size)
 ArePieces answered pieces = pieces ≡ []
 
 abbrev pub is_log_full : CallFault → Bool

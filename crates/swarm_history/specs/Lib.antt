@@ -1,3 +1,4 @@
 pub mod Doors
 pub mod Machines
+pub mod Pieces
 pub mod Settling

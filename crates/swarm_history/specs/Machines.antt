@@ -1,13 +1,14 @@
 -- Machines, one for each pool, in the order of the pools.
 use Rattle.std.specs.Prelude.{ℕ, true, List, [], map, Option, None, slice_index_or}
 use Rattle.swarm_model.specs.declared.pool_settings.PoolSettings.{PoolSettings}
+use Rattle.swarm_model.specs.Bytes.{nothing_held}
 use Rattle.swarm_model.specs.Effects.{opening}
 use Rattle.swarm_model.specs.MachineState.{MachineState}
 use Rattle.swarm_history.specs.Doors.{Logs, DoorState}
 
 -- a machine that has added nothing
 abbrev pub new_machine : PoolSettings → MachineState
-new_machine settings = record { pool = opening settings; log = []; ready = None; held = [] }
+new_machine settings = record { pool = opening settings; log = []; ready = None; held = nothing_held }
 
 -- the settings of each machine's pool
 abbrev pub pools_of : List MachineState → List PoolSettings

@@ -1,5 +1,5 @@
 -- How a log grows in one call.
-use Rattle.std.specs.Prelude.{◌≡◌, ℕ, Bool, ◌≤◌, List, [], ◌∷◌, ◌++◌}
+use Rattle.std.specs.Prelude.{◌≡◌, ℕ, Bool, ◌≤◌, List, [], ◌∷◌, ◌++◌, length}
 use Rattle.std.specs.Option.{option_to_list}
 use Rattle.std.specs.List.{AllByRecursion}
 use Rattle.swarm_model.specs.declared.pool_state.PoolState.{PoolState}
@@ -9,11 +9,14 @@ use Rattle.swarm_model.specs.declared.reply.Reply.{Reply}
 use Rattle.swarm_model.specs.Answers.{answer}
 use Rattle.swarm_model.specs.MachineState.{MachineState, IsHistory}
 use Rattle.swarm_model.specs.Points.{Call, Growth, IsSettled, IsPoint, IsStopped}
+use Rattle.swarm_history.specs.declared.door.Answered.{Answered}
+use Rattle.swarm_history.specs.Doors.{ArePieces}
 
 -- nothing is added
 pub record Stays (old new : MachineState) : Type 0 where
   pub pool : new.pool ≡ old.pool
   pub log : new.log ≡ old.log
+  pub held : new.held ≡ old.held
 
 -- one entry is added
 pub record Adds (old new : MachineState) (entry : Entry) : Type 0 where
@@ -37,6 +40,11 @@ pub record Responds (pass : ℕ) (who : List ℕ) (moment : ℕ) (request : Requ
   pub log : new.log ≡ old.log ++ option_to_list (answer old.pool who moment pass request).entry
   pub settings : new.pool.settings ≡ old.pool.settings
   pub history : IsHistory new
+
+-- an answer tells the length of the log, and has the bytes of the blobs that its reply names
+pub record Shows (kept : MachineState) (answered : Answered) : Type 0 where
+  pub front : answered.front ≡ length kept.log
+  pub pieces : ArePieces answered.reply answered.pieces
 
 -- a point before which no other wrote
 pub record IsOwnPoint (start : PoolState) (call : Call) (old new : List Entry) (answered : Reply) : Type 0 where

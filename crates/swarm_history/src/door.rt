@@ -1,4 +1,5 @@
 ghost use Rattle.std.specs.Prelude.{◌<◌, ◌^◌, length, slice_get, IsTrue, IsSomeAnd};
+ghost use Rattle.swarm_model.specs.Bytes.{Carries};
 ghost use Rattle.swarm_model.specs.Fits.{fits};
 ghost use Rattle.swarm_history.specs.Doors.{DoorState, IsCall};
 
@@ -42,6 +43,7 @@ pub trait Door {
     ) -> Result<Answered, CallFault>
         requires place { place < length (state self.old).settings.pools }
         requires fits { IsSomeAnd (slice_get (state self.old).settings.pools place) (λ pool. IsTrue (fits pool request.now)) }
+        requires carries { Carries request.now bytes.now }
         requires calls { (state self.old).calls < 2 ^ 40 }
         ensures { IsCall (state self.old) (state self.new) place
             (record { pass = (state self.old).writer.numbers place; caller = who.now; moment = moment; after = after; request = request.now }) result };

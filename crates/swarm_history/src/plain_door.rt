@@ -1,6 +1,8 @@
 ghost use Rattle.std.specs.Prelude.{◌≡◌, map, true, IsTrue, IfOk};
-ghost use Rattle.std.specs.List.{list_all};
+ghost use Rattle.std.specs.List.{All, list_all};
+ghost use Rattle.swarm_model.specs.Bytes.{Carries};
 ghost use Rattle.swarm_model.specs.Fits.{fits};
+ghost use Rattle.swarm_model.specs.MachineState.{AreHeld};
 ghost use Rattle.swarm_model.specs.Points.{Growth};
 ghost use Rattle.swarm_model.specs.Settings.{keeps_rules, are_settings};
 ghost use Rattle.swarm_history.specs.Doors.{IsPoolCall, IsNewDoor};
@@ -8,7 +10,7 @@ ghost use Rattle.swarm_history.specs.Machines.{new_machine, own_door};
 
 use crate::serving::serve;
 use crate::{Answered, CallFault, Door};
-use dimensions::{Seq, Text, TryCopy};
+use dimensions::{Text, TryCopy};
 use std::alloc::{AllocError, Global};
 use swarm_model::{Machine, PoolSettings, Request, Settings};
 
@@ -21,6 +23,7 @@ pub struct PlainDoor<M: Machine + Drop> {
     /// In the order of the pools.
     machines: Vec<M>,
     calls: u64,
+    ghost held: { All AreHeld (map M.kept machines.items) },
 }
 
 /// A new machine for each pool, in their order.
@@ -47,19 +50,18 @@ fn call_machine<M: Machine>(
     after: Option<u64>,
     who: &Text,
     request: &Request,
+    bytes: &[u8],
 ) -> Result<Answered, CallFault>
-    requires { IsTrue (fits (M.kept machine.old).pool.settings request.now) }
+    requires fits { IsTrue (fits (M.kept machine.old).pool.settings request.now) }
+    requires carries { Carries request.now bytes.now }
+    requires held { AreHeld (M.kept machine.old) }
+    ensures held { AreHeld (M.kept machine.new) }
     ensures settings { (M.kept machine.new).pool.settings ≡ (M.kept machine.old).pool.settings }
     ensures done { (growth : Growth) × IsPoolCall (M.kept machine.old).pool.settings true
         (record { pass = 0; caller = who.now; moment = moment; after = after; request = request.now })
         (M.kept machine.old).log (M.kept machine.new).log growth result }
 {
-    let reply = serve(machine, 0, moment, after, who, request)?;
-    Ok(Answered {
-        front: machine.length(),
-        reply,
-        pieces: Seq::new(alloc),
-    })
+    serve(alloc, machine, 0, moment, after, who, request, bytes)
 }
 
 impl<M: Machine + Drop> PlainDoor<M> {
@@ -89,10 +91,10 @@ impl<M: Machine + Drop> Door for PlainDoor<M> {
         after: Option<u64>,
         who: &Text,
         request: &Request,
-        _bytes: &[u8],
+        bytes: &[u8],
     ) -> Result<Answered, CallFault> {
         self.calls += 1;
         let machine = &mut self.machines[place as usize];
-        call_machine(self.alloc, machine, moment, after, who, request)
+        call_machine(self.alloc, machine, moment, after, who, request, bytes)
     }
 }

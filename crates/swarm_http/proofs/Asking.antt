@@ -1,15 +1,14 @@
 -- What a request means, as far as it was looked at.
-use Rattle.std.proofs.Common.{◌≡◌, ℕ, true, false, List, refl, ap, ◌∙◌, Option, Some, None, Result, Ok, Err, subst}
+use Rattle.std.proofs.Common.{◌≡◌, ℕ, List, refl, ap, ◌∙◌, Option, Some, None, Result, Ok, Err, subst}
 use Rattle.httparse.specs.Grammar.{RequestHead}
-use Rattle.request_head.specs.declared.method.Method.{Method}
-use Rattle.request_head.specs.declared.method.Method.TheVariants.{Get, Post, Put, Other}
 use Rattle.request_head.specs.HeadFields.{method_of, caller_of, after_of}
 use Rattle.swarm_model.specs.declared.pool_settings.Settings.{Settings}
 use Rattle.swarm_model.specs.declared.rule.Rule.{Rule}
 use Rattle.swarm_model.specs.declared.rule.Rule.TheVariants as rule
 use Rattle.routes.specs.declared.route.Route.{Route}
-use Rattle.routes.specs.Routes.{route_of}
+use Rattle.routes.specs.Routes.{resource_of}
 use Rattle.swarm_wire.specs.declared.asked.Asked.{Asked}
+use Rattle.swarm_wire.specs.declared.parts.Parts.{Parts}
 use Rattle.swarm_wire.specs.Asking.{asked_of}
 use Rattle.swarm_history.specs.declared.door.Answered.{Answered}
 use Rattle.swarm_history.specs.declared.door.CallFault.{CallFault}
@@ -18,46 +17,33 @@ use Rattle.request_head.specs.declared.after.After.{After}
 use Rattle.std.specs.Prelude.{IsSomeAnd, slice_get}
 use Rattle.swarm_http.specs.declared.reply.ReplyBytes.{ReplyBytes}
 use Rattle.swarm_http.specs.Permissions.{permitted}
-use Rattle.swarm_http.specs.Requests.{CallerRequest, then, routed, with_front, caller_request_of, permitted_request, request_of, is_post, front_of}
+use Rattle.swarm_http.specs.Requests.{CallerRequest, then, routed, with_front, caller_request_of, permitted_request, request_of, parts_of, front_of}
 use Rattle.swarm_http.specs.Outcomes.{DoorCall, called_place, call_of, rejected, no_body_memory, IsCalled}
 use Rattle.swarm_http.specs.Replies.{refusal}
 use Rattle.swarm_http.specs.Sends.{text_of}
 use Rattle.swarm_http.specs.Steps.{Answers, IsRejection, by_rule, by_memory}
 use Rattle.swarm_http.proofs.Serving.{HandsIn-nil}
 
-pub no_route : (settings : Settings) (head : RequestHead) (body : List ℕ) → route_of head.target ≡ None → request_of settings head body ≡ Err rule.NoRoute
-no_route settings head body e = rw e refl
+-- no route has the target, or not with this method
+pub route_refused : (settings : Settings) (head : RequestHead) (body : List ℕ) (why : Rule) → routed (resource_of head.target) (method_of head) ≡ Err why
+    → request_of settings head body ≡ Err why
+route_refused settings head body why e = rw e refl
 
-not_posted : (route : Route) (method : Method) → is_post method ≡ false → routed (Some route) method ≡ Err rule.BadMethod
-not_posted route Post e = absurd (cc)
-not_posted route Get e = refl
-not_posted route Put e = refl
-not_posted route Other e = refl
-
-posted : (route : Route) (method : Method) → is_post method ≡ true → routed (Some route) method ≡ Ok route
-posted route Post e = refl
-posted route Get e = absurd (cc)
-posted route Put e = absurd (cc)
-posted route Other e = absurd (cc)
-
-pub bad_method : (settings : Settings) (head : RequestHead) (body : List ℕ) (route : Route) → route_of head.target ≡ Some route → is_post (method_of head) ≡ false
-    → request_of settings head body ≡ Err rule.BadMethod
-bad_method settings head body route e m = rw (e, not_posted route (method_of head) m) refl
-
-pub no_caller : (settings : Settings) (head : RequestHead) (body : List ℕ) (route : Route) → route_of head.target ≡ Some route → is_post (method_of head) ≡ true
+pub no_caller : (settings : Settings) (head : RequestHead) (body : List ℕ) (route : Route) → routed (resource_of head.target) (method_of head) ≡ Ok route
     → caller_of head ≡ None → request_of settings head body ≡ Err rule.NoCaller
-no_caller settings head body route e m c = rw (e, posted route (method_of head) m, c) refl
+no_caller settings head body route e c = rw (e, c) refl
 
--- the body is what is left to look at
-pub body_left : (settings : Settings) (head : RequestHead) (body : List ℕ) (route : Route) (who : List ℕ) → route_of head.target ≡ Some route → is_post (method_of head) ≡ true
-    → caller_of head ≡ Some who → request_of settings head body ≡ then (with_front (after_of head) (asked_of settings route body)) (permitted_request settings who)
-body_left settings head body route who e m c = rw (e, posted route (method_of head) m, c) refl
+-- the target and the body are what is left to look at
+pub body_left : (settings : Settings) (head : RequestHead) (body : List ℕ) (route : Route) (who : List ℕ) → routed (resource_of head.target) (method_of head) ≡ Ok route
+    → caller_of head ≡ Some who → request_of settings head body ≡ then (with_front (after_of head) (asked_of settings route (parts_of head.target) body)) (permitted_request settings who)
+body_left settings head body route who e c = rw (e, c) refl
 
--- a body that asks something
-pub body_asks : (settings : Settings) (head : RequestHead) (body items : List ℕ) (route : Route) (who : List ℕ) (after : After) (asked : Asked) → route_of head.target ≡ Some route → is_post (method_of head) ≡ true
-    → caller_of head ≡ Some who → after ≡ after_of head → items ≡ body → with_front after (asked_of settings route items) ≡ Ok asked → request_of settings head body ≡ permitted_request settings who asked
-body_asks settings head body items route who after asked e m c same is asks =
-    body_left settings head body route who e m c ∙ ap (λ (r : Result Asked Rule). then r (permitted_request settings who)) (rw (same, is) at asks)
+-- a target and a body that ask something
+pub body_asks : (settings : Settings) (head : RequestHead) (body items : List ℕ) (route : Route) (parts : Parts) (who : List ℕ) (after : After) (asked : Asked)
+    → routed (resource_of head.target) (method_of head) ≡ Ok route → caller_of head ≡ Some who → after ≡ after_of head → parts ≡ parts_of head.target → items ≡ body
+    → with_front after (asked_of settings route parts items) ≡ Ok asked → request_of settings head body ≡ permitted_request settings who asked
+body_asks settings head body items route parts who after asked e c same named is asks =
+    body_left settings head body route who e c ∙ ap (λ (r : Result Asked Rule). then r (permitted_request settings who)) (rw (same, named, is) at asks)
 
 -- a request that its pool permits
 pub asks_permitted : (settings : Settings) (who : List ℕ) (asked : Asked) → permitted settings who asked ≡ Ok asked → permitted_request settings who asked ≡ caller_request_of who asked

@@ -1,4 +1,5 @@
 pub mod Sending
+pub mod Blobs
 pub mod Texts
 pub mod Requests
 pub mod Serving

@@ -1,7 +1,7 @@
 -- The head at the front of what is pending, and what stands behind it.
-use Rattle.std.specs.Prelude.{◌⊎◌, if◌then◌else◌, not, nat_le, nat_eq, codes}
+use Rattle.std.specs.Prelude.{◌⊎◌, if◌then◌else◌, not, nat_le, nat_eq, codes, IfSome, IsTrue}
 use Rattle.std.specs.List.{starts_with}
-use Rattle.std.proofs.Common.{inl, inr, refl, Bool, true, false, ◌≡◌, ℕ, ◌+◌, ◌-◌, ◌<◌, ◌≤◌, None, List, [], ◌++◌, length, take, arith, sym, ap, ◌∙◌, subst, append_assoc, append-nil, Some}
+use Rattle.std.proofs.Common.{inl, inr, refl, Bool, true, false, ◌≡◌, ℕ, ◌+◌, ◌-◌, ◌<◌, ◌≤◌, None, List, [], ◌++◌, length, take, arith, sym, ap, ◌∙◌, subst, append_assoc, append-nil, Option, Some, leb-true}
 use Rattle.std.proofs.lemmas.List.{get_or-take, length-take-le}
 use Rattle.httparse.specs.Grammar.{RequestHead}
 use Rattle.memchr.specs.Find.{OccursAt}
@@ -113,6 +113,37 @@ limit_is h limit e =
     (refusal_limit (is_broken (length_told (fields_of h))) (wants_length (method_named h.method) (length_told (fields_of h)) (not (lacks (codes "transfer-encoding") (fields_of h))))
     (nat_le (value_or_zero (length_told (fields_of h))) (limit_at h.target)) (limit_at h.target) limit e)
     (one_of_limits (starts_with nat_eq h.target (codes "/blobs/")))
+
+fits_limit : (broken wants fits : Bool) (at : ℕ)
+    → (if broken then Some bad else (if wants then Some length_required else (if fits then None else Some (too_large at)))) ≡ None → IsTrue fits
+fits_limit true wants fits at e = absurd (cc)
+fits_limit false true fits at e = absurd (cc)
+fits_limit false false true at e = refl
+fits_limit false false false at e = absurd (cc)
+
+below_limit : (n limit : ℕ) → IsLimit limit → n ≤ limit → n ≤ 16777216
+below_limit n limit (inl e) le = omega (arith, e)
+below_limit n limit (inr e) le = omega (arith, e)
+
+-- the size that a head tells, where it isn't refused
+accepted_size : (h : RequestHead) → head_refusal h ≡ None → size_of h ≤ 16777216
+unfolding head_refusal size_of
+accepted_size h e =
+    let size = value_or_zero (length_told (fields_of h)) in
+    below_limit size (limit_at h.target) (one_of_limits (starts_with nat_eq h.target (codes "/blobs/")))
+    (leb-true size (limit_at h.target)
+    (fits_limit (is_broken (length_told (fields_of h))) (wants_length (method_named h.method) (length_told (fields_of h)) (not (lacks (codes "transfer-encoding") (fields_of h))))
+    (nat_le size (limit_at h.target)) (limit_at h.target) e))
+
+held_short : {A : Type 0} (bytes : A → List ℕ) (held : Option A) (body : List ℕ) → IfSome held (λ v. bytes v ≡ body) → length body ≤ 16777216 → IfSome held (λ v. length (bytes v) ≤ 16777216)
+held_short bytes None body is short = tt
+held_short bytes (Some v) body is short = subst (λ l. length l ≤ 16777216) (sym is) short
+
+-- a body that is held is as long as a body may be
+pub short_body : {s t : LinkState} {old new : List ℕ} {received : Received} → Takes s t old new (taken.Asks received) → IfSome received.body (λ v. length v.items ≤ 16777216)
+short_body {received = received} x =
+    let r = x.outcome.0 in
+    held_short (λ v. v.items) received.body r.body r.held.body_is (subst (λ n. n ≤ 16777216) r.size (accepted_size r.head r.says.accepted))
 
 -- the head that is pending is refused, with nothing read
 pub refused_here : {s : LinkState} {pending : List ℕ} {why : Refusal} → IsRefused pending (rule_of why) → Takes s s pending pending (taken.Refuses why)

@@ -61,3 +61,32 @@ flushed {s = s} {u = u} {q = q} p all well f = record {
   faults = subst (λ n. CountsFault q n u.write_faults) well f.faults;
   outcome = on_ok q refl;
 }
+
+-- one text was written, and then of another one
+pub both_sent : {T U E F : Type 0} {s t u : LinkState} {a b : List ℕ} {r : Result T E} {q : Result U F}
+    → (p : Sends s t a r) → p.back ≡ [] → t.write_faults ≡ s.write_faults → Sends t u b q → Sends s u (a ++ b) q
+both_sent {u = u} {b = b} {q = q} p all well f =
+    let x = p.written in
+    let y = f.written in
+    record {
+      back = f.back;
+      written = record {
+        sent = x.sent ++ y.sent;
+        moves = Moves-trans x.moves y.moves;
+        input = SameInput-trans x.input y.input;
+        whole = ap (λ l. l ++ b) (x.whole ∙ ap (λ l. x.sent ++ l) all ∙ append-nil x.sent) ∙ ap (λ l. x.sent ++ l) y.whole ∙ sym (append_assoc x.sent y.sent f.back);
+      };
+      faults = subst (λ n. CountsFault q n u.write_faults) well f.faults;
+      outcome = f.outcome;
+    }
+
+-- a text was not written whole, nor any of what stands behind it
+pub front_cut : {T U E : Type 0} {e : E} {s t : LinkState} {a : List ℕ} (b : List ℕ) → Sends {T = T} s t a (Err e) → Sends {T = U} s t (a ++ b) (Err e)
+front_cut b p =
+    let x = p.written in
+    record {
+      back = p.back ++ b;
+      written = record { sent = x.sent; moves = x.moves; input = x.input; whole = ap (λ l. l ++ b) x.whole ∙ append_assoc x.sent p.back b };
+      faults = p.faults;
+      outcome = tt;
+    }

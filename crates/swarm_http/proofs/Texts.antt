@@ -4,7 +4,6 @@ use Rattle.std.specs.Prelude.{codes, decimal}
 use Rattle.std.specs.Fmt.{digits}
 use Rattle.json.specs.Print.{escape_byte}
 use Rattle.swarm_model.specs.declared.rule.Rule.TheVariants as rule
-use Rattle.swarm_model.specs.declared.rule.Unbuilt.TheVariants as unbuilt
 use Rattle.reply_bodies.specs.Bodies.{body_of}
 use Rattle.swarm_model.specs.declared.reply.Reply.TheVariants as reply
 use Rattle.swarm_http.specs.Requests.{broken_front}
@@ -53,14 +52,6 @@ no_pool = refl
 pub no_task : refusal None rule.NoTask ≡ codes "HTTP/1.1 404 Not Found\r\nContent-Length: 18\r\nContent-Type: application/json\r\n\r\n{\"code\":\"no_task\"}"
 unfolding refusal shown reply_text head_with body_of digits escape_byte
 no_task = refl
-
-pub task_not_built : refusal None (rule.NotBuilt unbuilt.Task) ≡ codes "HTTP/1.1 501 Not Implemented\r\nContent-Length: 34\r\nContent-Type: application/json\r\n\r\n{\"code\":\"not_built\",\"what\":\"task\"}"
-unfolding refusal shown reply_text head_with body_of digits escape_byte
-task_not_built = refl
-
-pub update_not_built : refusal None (rule.NotBuilt unbuilt.Update) ≡ codes "HTTP/1.1 501 Not Implemented\r\nContent-Length: 36\r\nContent-Type: application/json\r\n\r\n{\"code\":\"not_built\",\"what\":\"update\"}"
-unfolding refusal shown reply_text head_with body_of digits escape_byte
-update_not_built = refl
 
 pub log_full : refusal None rule.LogFull ≡ codes "HTTP/1.1 503 Service Unavailable\r\nContent-Length: 19\r\nContent-Type: application/json\r\n\r\n{\"code\":\"log_full\"}"
 unfolding refusal shown reply_text head_with body_of digits escape_byte

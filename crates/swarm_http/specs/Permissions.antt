@@ -11,11 +11,12 @@ use Rattle.swarm_model.specs.declared.rule.Rule.TheVariants as rule
 use Rattle.swarm_model.specs.Settings.{permits}
 use Rattle.swarm_wire.specs.declared.asked.Asked.{Asked}
 
--- the permission that a request needs before its pool is asked; whether a task may be canceled or its result seen, the pool decides
+-- the permission that a request needs before its pool is asked; whether a task may be canceled, or its result or output seen, the pool decides
 abbrev pub permission_of : Request → Option Permission
 permission_of (ask.New task) = Some permission.CreateTask
 permission_of (ask.Cancel task try_no kill) = None
 permission_of (ask.Result task try_no) = None
+permission_of (ask.Stdout task try_no offset length) = None
 permission_of (ask.List state limit below) = Some permission.ListTasks
 permission_of (ask.Count state) = Some permission.ListTasks
 permission_of (ask.Bots limit after) = Some permission.ListBots
@@ -26,6 +27,9 @@ permission_of (ask.Claim bot claim) = Some permission.RunBot
 permission_of (ask.Event bot kind message) = Some permission.RunBot
 permission_of (ask.Update bot task try_no chunk last) = Some permission.RunBot
 permission_of (ask.Terminate bot) = Some permission.TerminateBot
+permission_of (ask.PutBlob named actual size) = Some permission.UseBlobs
+permission_of (ask.GetBlob digest) = Some permission.UseBlobs
+permission_of (ask.FindMissing blobs) = Some permission.UseBlobs
 
 -- what is asked, unless it needs a permission that its pool doesn't give the caller
 abbrev pub unless_denied : List ℕ → Option Permission → Option PoolSettings → Asked → Result Asked Rule

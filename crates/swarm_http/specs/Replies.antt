@@ -4,7 +4,7 @@ use Rattle.http.specs.StatusCode.{reason_phrase}
 use Rattle.swarm_model.specs.declared.reply.Reply.{Reply}
 use Rattle.swarm_model.specs.declared.reply.Reply.TheVariants as reply
 use Rattle.swarm_model.specs.declared.rule.Rule.{Rule}
-use Rattle.reply_bodies.specs.Bodies.{body_of, status_of}
+use Rattle.reply_bodies.specs.Bodies.{body_of, content_type_of, status_of}
 
 -- the phrase that stands beside a status
 abbrev pub phrase_of : ℕ → List ℕ
@@ -15,19 +15,19 @@ abbrev pub front_line : Option ℕ → List ℕ → List ℕ
 front_line None rest = rest
 front_line (Some front) rest = codes "X-Swarming-Front: " ++ (decimal front ++ (codes "\r\n" ++ rest))
 
--- the head of a reply: its status and phrase, the size of its body, and its front
-unfoldable pub head_with : ℕ → List ℕ → ℕ → Option ℕ → List ℕ
-head_with status phrase size front =
+-- the head of a reply: its status and phrase, the size and the media type of its body, and its front
+unfoldable pub head_with : ℕ → List ℕ → ℕ → List ℕ → Option ℕ → List ℕ
+head_with status phrase size media_type front =
     codes "HTTP/1.1 " ++ (decimal status ++ (codes " " ++ (phrase ++ (codes "\r\nContent-Length: " ++ (decimal size
-    ++ (codes "\r\nContent-Type: application/json\r\n" ++ front_line front (codes "\r\n")))))))
+    ++ (codes "\r\nContent-Type: " ++ (media_type ++ (codes "\r\n" ++ front_line front (codes "\r\n")))))))))
 
--- a reply with this status, this front and this body
-unfoldable pub reply_text : ℕ → Option ℕ → List ℕ → List ℕ
-reply_text status front body = head_with status (phrase_of status) (length body) front ++ body
+-- a reply with this status, this front, and this body of a media type
+unfoldable pub reply_text : ℕ → List ℕ → Option ℕ → List ℕ → List ℕ
+reply_text status media_type front body = head_with status (phrase_of status) (length body) media_type front ++ body
 
 -- a reply of the pool at a place, with the bytes of the blobs that it names
 unfoldable pub shown : ℕ → Option ℕ → Reply → List (List ℕ) → List ℕ
-shown place front reply pieces = reply_text (status_of reply) front (body_of place reply pieces)
+shown place front reply pieces = reply_text (status_of reply) (content_type_of reply) front (body_of place reply pieces)
 
 -- the reply of a refusal that names no task and no bot
 unfoldable pub refusal : Option ℕ → Rule → List ℕ

@@ -1,5 +1,5 @@
 -- What a request asks, or why it is refused before any pool is asked.
-use Rattle.std.specs.Prelude.{ℕ, Bool, true, false, List, Option, Some, None, Result, Ok, Err, codes}
+use Rattle.std.specs.Prelude.{ℕ, List, Option, Some, None, Result, Ok, Err, codes}
 use Rattle.httparse.specs.Grammar.{RequestHead}
 use Rattle.request_head.specs.declared.method.Method.{Method}
 use Rattle.request_head.specs.declared.method.Method.TheVariants.{Get, Post, Put, Other}
@@ -10,9 +10,13 @@ use Rattle.task_props.specs.declared.prop_rule.PropRule.TheVariants.{Grammar}
 use Rattle.swarm_model.specs.declared.pool_settings.Settings.{Settings}
 use Rattle.swarm_model.specs.declared.rule.Rule.{Rule}
 use Rattle.swarm_model.specs.declared.rule.Rule.TheVariants as rule
+use Rattle.routes.specs.declared.resource.Resource.{Resource}
+use Rattle.routes.specs.declared.resource.Resource.TheVariants.{Call, Blob}
 use Rattle.routes.specs.declared.route.Route.{Route}
-use Rattle.routes.specs.Routes.{route_of}
+use Rattle.routes.specs.declared.route.Route.TheVariants as route
+use Rattle.routes.specs.Routes.{resource_of, pool_part, digest_part}
 use Rattle.swarm_wire.specs.declared.asked.Asked.{Asked}
+use Rattle.swarm_wire.specs.declared.parts.Parts.{Parts}
 use Rattle.swarm_wire.specs.declared.asked.WireFault.{WireFault}
 use Rattle.swarm_wire.specs.declared.asked.WireFault.TheVariants as fault
 use Rattle.swarm_wire.specs.Asking.{asked_of}
@@ -23,20 +27,21 @@ abbrev pub then : {A B : Type 0} → Result A Rule → (A → Result B Rule) →
 then (Ok value) next = next value
 then (Err why) next = Err why
 
--- every route is one of POST
-abbrev pub is_post : Method → Bool
-is_post Post = true
-is_post Get = false
-is_post Put = false
-is_post Other = false
-
--- the route of the target, by its method
-abbrev pub routed : Option Route → Method → Result Route Rule
+-- the route of what stands at the target, by its method: a call is a POST, and a blob is put by PUT and fetched by GET
+abbrev pub routed : Option Resource → Method → Result Route Rule
 routed None method = Err rule.NoRoute
-routed (Some route) Post = Ok route
-routed (Some route) Get = Err rule.BadMethod
-routed (Some route) Put = Err rule.BadMethod
-routed (Some route) Other = Err rule.BadMethod
+routed (Some (Call call)) Post = Ok call
+routed (Some (Call call)) Get = Err rule.BadMethod
+routed (Some (Call call)) Put = Err rule.BadMethod
+routed (Some (Call call)) Other = Err rule.BadMethod
+routed (Some Blob) Post = Err rule.BadMethod
+routed (Some Blob) Get = Ok route.GetBlob
+routed (Some Blob) Put = Ok route.PutBlob
+routed (Some Blob) Other = Err rule.BadMethod
+
+-- the pool and the digest that the target names
+abbrev pub parts_of : List ℕ → Parts
+parts_of target = record { pool = pool_part target; digest = digest_part target }
 
 abbrev pub called_by : Option (List ℕ) → Result (List ℕ) Rule
 called_by None = Err rule.NoCaller
@@ -46,7 +51,7 @@ called_by (Some who) = Ok who
 abbrev pub broken_front : Rule
 broken_front = rule.BadField (codes "X-Swarming-After") Grammar
 
--- a malformed X-Swarming-After is reported before no_pool, no_task and not_built
+-- a malformed X-Swarming-After is reported before no_pool and no_task
 abbrev pub unless_front_broken : After → Result Asked Rule → Result Asked Rule
 unless_front_broken Absent asked = asked
 unless_front_broken (Front front) asked = asked
@@ -60,7 +65,6 @@ with_front after (Err fault.BadJson) = Err rule.BadJson
 with_front after (Err (fault.BadField field broken)) = Err (rule.BadField field broken)
 with_front after (Err fault.NoPool) = unless_front_broken after (Err rule.NoPool)
 with_front after (Err fault.NoTask) = unless_front_broken after (Err rule.NoTask)
-with_front after (Err (fault.NotBuilt what)) = unless_front_broken after (Err (rule.NotBuilt what))
 
 -- the length of the log that the caller has seen
 abbrev pub front_of : After → Option ℕ
@@ -80,9 +84,9 @@ caller_request_of who asked = Ok (record { who = who; asked = asked })
 abbrev pub permitted_request : Settings → List ℕ → Asked → Result CallerRequest Rule
 permitted_request settings who asked = then (permitted settings who asked) (caller_request_of who)
 
--- the request that a head and a body mean, or the first refusal of route, method, caller, body, X-Swarming-After and permission, in this order
+-- the request that a head and a body mean, or the first refusal of route, method, caller, target and body, X-Swarming-After and permission, in this order
 abbrev pub request_of : Settings → RequestHead → List ℕ → Result CallerRequest Rule
 request_of settings head body =
-    then (routed (route_of head.target) (method_of head)) (λ route.
+    then (routed (resource_of head.target) (method_of head)) (λ route.
     then (called_by (caller_of head)) (λ who.
-    then (with_front (after_of head) (asked_of settings route body)) (permitted_request settings who)))
+    then (with_front (after_of head) (asked_of settings route (parts_of head.target) body)) (permitted_request settings who)))

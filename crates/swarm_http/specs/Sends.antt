@@ -4,9 +4,8 @@ use Rattle.sw_base.specs.Faults.{CountsFault}
 use Rattle.sw_base.specs.Link.{LinkState, Moves, SameInput}
 use Rattle.swarm_model.specs.declared.rule.Rule.{Rule}
 use Rattle.swarm_model.specs.declared.rule.Rule.TheVariants as rule
-use Rattle.swarm_model.specs.declared.rule.Unbuilt.TheVariants as unbuilt
 use Rattle.swarm_http.specs.declared.reply.Refusal.{Refusal}
-use Rattle.swarm_http.specs.declared.reply.Refusal.TheVariants.{BadHead, LengthRequired, BodyTooLarge, BlobTooLarge, NoRoute, BadMethod, BadJson, FrontBroken, NoCaller, NoPool, NoTask, TaskNotBuilt, UpdateNotBuilt, LogFull, WantOfMemory}
+use Rattle.swarm_http.specs.declared.reply.Refusal.TheVariants.{BadHead, LengthRequired, BodyTooLarge, BlobTooLarge, NoRoute, BadMethod, BadJson, FrontBroken, NoCaller, NoPool, NoTask, LogFull, WantOfMemory}
 use Rattle.swarm_http.specs.declared.reply.ReplyBytes.{ReplyBytes}
 use Rattle.swarm_http.specs.declared.reply.ReplyBytes.TheVariants as shown
 use Rattle.swarm_http.specs.Requests.{broken_front}
@@ -39,8 +38,6 @@ rule_of FrontBroken = broken_front
 rule_of NoCaller = rule.NoCaller
 rule_of NoPool = rule.NoPool
 rule_of NoTask = rule.NoTask
-rule_of TaskNotBuilt = rule.NotBuilt unbuilt.Task
-rule_of UpdateNotBuilt = rule.NotBuilt unbuilt.Update
 rule_of LogFull = rule.LogFull
 rule_of WantOfMemory = rule.WantOfMemory
 
@@ -48,4 +45,5 @@ rule_of WantOfMemory = rule.WantOfMemory
 abbrev pub text_of : ReplyBytes → List ℕ
 text_of (shown.Refused why) = refusal None (rule_of why)
 text_of (shown.Whole text) = text.items
+text_of (shown.Blob head content) = head.items ++ content
 text_of (shown.WantOfMemoryAt front) = refusal (Some front) rule.WantOfMemory

@@ -7,13 +7,14 @@ use Rattle.swarm_http.specs.declared.ended.Ended.{Ended}
 use Rattle.swarm_http.specs.declared.ended.Ended.TheVariants.{Closed, LastAsked, CutShort, BadHead, Retired, ReadFault, WriteFault, Memory}
 use Rattle.httparse.specs.Grammar.{RequestHead}
 use Rattle.request_head.specs.HeadFields.{method_of, size_of, closes_of, caller_of, after_of}
-use Rattle.routes.specs.Routes.{route_of}
+use Rattle.routes.specs.Routes.{resource_of}
 use Rattle.swarm_http.specs.declared.request.Caller.{Caller}
 use Rattle.swarm_http.specs.declared.request.Caller.TheVariants.{Unnamed, Named, NoMemory}
 use Rattle.swarm_http.specs.declared.request.RequestLine.{RequestLine}
 use Rattle.swarm_http.specs.declared.request.Received.{Received}
 use Rattle.swarm_http.specs.declared.request.Incoming.{Incoming}
 use Rattle.swarm_http.specs.declared.request.Incoming.TheVariants as taken
+use Rattle.swarm_http.specs.Requests.{parts_of}
 use Rattle.swarm_http.specs.Exchange.{HeadSays}
 use Rattle.swarm_http.specs.Answered.{IsPart, IsRefused}
 use Rattle.swarm_http.specs.Sends.{rule_of}
@@ -39,9 +40,10 @@ IsCaller Unnamed who = who ≡ None
 IsCaller (Named text) who = who ≡ Some text
 IsCaller NoMemory who = ⊤
 
--- what is held of a head is what it says
+-- what is held of a head is what it says, the parts of its target where there was memory for them
 pub record IsRequestLine (line : RequestLine) (head : RequestHead) : Type 0 where
-  pub route : line.route ≡ route_of head.target
+  pub resource : line.resource ≡ resource_of head.target
+  pub parts : IfSome line.parts (λ parts. parts ≡ parts_of head.target)
   pub method : line.method ≡ method_of head
   pub who : IsCaller line.who (caller_of head)
   pub after : line.after ≡ after_of head

@@ -1,14 +1,14 @@
 //! Answering a request.
-ghost use Rattle.std.specs.Prelude.{◌≡◌, ◌≢◌, ◌<◌, ◌^◌, ℕ, List, Result, Ok, Err, IsTrue, IsSomeAnd, IfOk, IfErr, length, slice_get};
+ghost use Rattle.std.specs.Prelude.{◌≡◌, ◌≢◌, ◌<◌, ◌≤◌, ◌^◌, ℕ, List, Result, Ok, Err, IsTrue, IsSomeAnd, IfOk, IfErr, IfSome, length, slice_get};
 ghost use Rattle.httparse.specs.Grammar.{RequestHead};
 ghost use Rattle.request_head.specs.HeadFields.{after_of};
-ghost use Rattle.swarm_model.specs.declared.rule.Rule.TheVariants as Rule;
+ghost use Rattle.swarm_model.specs.Bytes.{Carries};
 ghost use Rattle.swarm_model.specs.Fits.{fits};
 ghost use Rattle.swarm_model.specs.Settings.{are_settings};
 ghost use Rattle.swarm_wire.specs.declared.asked.Asked.{Asked};
 ghost use Rattle.swarm_wire.specs.declared.asked.WireFault.{WireFault};
 ghost use Rattle.swarm_wire.specs.Asking.{asked_of};
-ghost use Rattle.swarm_http.specs.Requests.{front_of, unless_front_broken, with_front, caller_request_of, permitted_request, request_of, is_post};
+ghost use Rattle.swarm_http.specs.Requests.{front_of, unless_front_broken, with_front, caller_request_of, permitted_request, request_of, routed};
 ghost use Rattle.swarm_http.specs.Outcomes.{stop_rule};
 ghost use Rattle.swarm_http.specs.Sends.{rule_of};
 ghost use Rattle.swarm_http.specs.Takes.{IsHeld};
@@ -20,12 +20,12 @@ use crate::reply::{Refusal, ReplyBytes, field_refusal, whole_reply};
 use crate::request::{Caller, Received, RequestLine};
 use dimensions::Text;
 use request_head::{After, Method};
-use routes::Route;
+use routes::{Resource, Route};
 use std::alloc::Global;
 use sw_base::Clock;
 use swarm_history::{CallFault, Door};
-use swarm_model::{Settings, Unbuilt};
-use swarm_wire::{Asked, WireFault, read_request};
+use swarm_model::Settings;
+use swarm_wire::{Asked, Parts, WireFault, read_request};
 
 fn stop_refusal(why: CallFault) -> Refusal
     ensures { rule_of result ≡ stop_rule why }
@@ -36,12 +36,17 @@ fn stop_refusal(why: CallFault) -> Refusal
     }
 }
 
-fn is_post(method: Method) -> bool
-    ensures { result ≡ is_post method }
+// The route of what stands at a target, by the method of the request.
+fn routed(resource: Option<Resource>, method: Method) -> Result<Route, Refusal>
+    ensures route { IfOk result (λ route. routed resource method ≡ Ok route) }
+    ensures refused { IfErr result (λ why. routed resource method ≡ Err (rule_of why)) }
 {
-    match method {
-        Method::Post => true,
-        Method::Get | Method::Put | Method::Other => false,
+    match (resource, method) {
+        (None, _) => Err(Refusal::NoRoute),
+        (Some(Resource::Call(route)), Method::Post) => Ok(route),
+        (Some(Resource::Blob), Method::Put) => Ok(Route::PutBlob),
+        (Some(Resource::Blob), Method::Get) => Ok(Route::GetBlob),
+        (Some(_), _) => Err(Refusal::BadMethod),
     }
 }
 
@@ -65,6 +70,7 @@ fn call_door<D: Door, C: Clock>(
     requires low { asked.now.place < 4 }
     requires place { asked.now.place < length (D.state door.old).settings.pools }
     requires fits { IsSomeAnd (slice_get (D.state door.old).settings.pools asked.now.place) (λ pool. IsTrue (fits pool asked.now.request)) }
+    requires carries { Carries asked.now.request asked.now.bytes }
     requires calls { (D.state door.old).calls < 2 ^ 40 }
     ensures answers { (head : RequestHead) (body : List ℕ) → after ≡ after_of head → request_of (D.state door.old).settings head body ≡ caller_request_of who.now asked.now →
         Answers head body (C.ahead clock.old) (C.ahead clock.new) (D.state door.old) (D.state door.new) result }
@@ -79,36 +85,25 @@ fn call_door<D: Door, C: Clock>(
         &asked.request,
         asked.bytes.as_slice(),
     ) {
-        Ok(answered) => match whole_reply(
-            alloc,
-            asked.place,
-            Some(answered.front),
-            &answered.reply,
-            &answered.pieces,
-        ) {
-            Ok(shown) => shown,
-            Err(_) => ReplyBytes::WantOfMemoryAt(answered.front),
-        },
+        Ok(answered) => {
+            let pieces = answered.pieces;
+            let front = Some(answered.front);
+            match whole_reply(alloc, asked.place, front, &answered.reply, pieces) {
+                Ok(shown) => shown,
+                Err(_) => ReplyBytes::WantOfMemoryAt(answered.front),
+            }
+        }
         Err(why) => ReplyBytes::Refused(stop_refusal(why)),
     }
 }
 
-// A malformed X-Swarming-After is reported before no_pool, no_task and not_built.
+// A malformed X-Swarming-After is reported before no_pool and no_task.
 fn unless_front_broken(after: After, why: Refusal) -> Refusal
     ensures { unless_front_broken after (Err (rule_of why)) ≡ Err (rule_of result) }
 {
     match after {
         After::Broken => Refusal::FrontBroken,
         After::Absent | After::Front(_) => why,
-    }
-}
-
-fn not_built(what: Unbuilt) -> Refusal
-    ensures { rule_of result ≡ Rule.NotBuilt what }
-{
-    match what {
-        Unbuilt::Task => Refusal::TaskNotBuilt,
-        Unbuilt::Update => Refusal::UpdateNotBuilt,
     }
 }
 
@@ -124,29 +119,28 @@ fn shown_fault(alloc: Global, after: After, fault: WireFault) -> ReplyBytes
         },
         WireFault::NoPool => ReplyBytes::Refused(unless_front_broken(after, Refusal::NoPool)),
         WireFault::NoTask => ReplyBytes::Refused(unless_front_broken(after, Refusal::NoTask)),
-        WireFault::NotBuilt { what } => ReplyBytes::Refused(unless_front_broken(
-            after,
-            not_built(what),
-        )),
     }
 }
 
-// What a body asks for, or its refusal.
+// What a request asks for, or its refusal.
 #[tactic(auto, using(crate::proofs::Pools::few_pools))]
 fn read_asked(
     alloc: Global,
     settings: &Settings,
     route: Route,
+    parts: &Parts,
     after: After,
-    body: &[u8],
+    body: Vec<u8>,
 ) -> Result<Asked, ReplyBytes>
     requires rules { IsTrue (are_settings settings.now) }
-    ensures asks { IfOk result (λ asked. with_front after (asked_of settings.now route body.now) ≡ Ok asked) }
-    ensures refused { IfErr result (λ shown. IsRejection shown (with_front after (asked_of settings.now route body.now))) }
+    requires short { length body.items ≤ 16777216 }
+    ensures asks { IfOk result (λ asked. with_front after (asked_of settings.now route parts.now body.items) ≡ Ok asked) }
+    ensures refused { IfErr result (λ shown. IsRejection shown (with_front after (asked_of settings.now route parts.now body.items))) }
+    ensures carries { IfOk result (λ asked. Carries asked.request asked.bytes) }
     ensures fits { IfOk result (λ asked. IsSomeAnd (slice_get settings.now.pools asked.place) (λ pool. IsTrue (fits pool asked.request))) }
     ensures place { IfOk result (λ asked. asked.place < 4) }
 {
-    match read_request(alloc, settings, route, body) {
+    match read_request(alloc, settings, route, parts, body) {
         Ok(asked) => match after {
             After::Broken => Err(ReplyBytes::Refused(Refusal::FrontBroken)),
             After::Absent | After::Front(_) => Ok(asked),
@@ -168,6 +162,7 @@ fn ask_pool<D: Door, C: Clock>(
     requires settings { (D.state door.old).settings ≡ settings.now }
     requires low { asked.now.place < 4 }
     requires fits { IsSomeAnd (slice_get settings.now.pools asked.now.place) (λ pool. IsTrue (fits pool asked.now.request)) }
+    requires carries { Carries asked.now.request asked.now.bytes }
     requires calls { (D.state door.old).calls < 2 ^ 40 }
     ensures answers { (head : RequestHead) (body : List ℕ) → after ≡ after_of head → request_of settings.now head body ≡ permitted_request settings.now who.now asked.now →
         Answers head body (C.ahead clock.old) (C.ahead clock.new) (D.state door.old) (D.state door.new) result }
@@ -189,6 +184,7 @@ pub fn answer_request<D: Door, C: Clock>(
 ) -> ReplyBytes
     requires settings { (D.state door.old).settings ≡ settings.now }
     requires rules { IsTrue (are_settings settings.now) }
+    requires short { IfSome received.body (λ body. length body.items ≤ 16777216) }
     requires calls { (D.state door.old).calls < 2 ^ 40 }
     ensures answers { (body : List ℕ) (head : RequestHead) → IsHeld received body head →
         Answers head body (C.ahead clock.old) (C.ahead clock.new) (D.state door.old) (D.state door.new) result }
@@ -196,27 +192,26 @@ pub fn answer_request<D: Door, C: Clock>(
 {
     let Received { line, body } = received;
     let RequestLine {
-        route,
+        resource,
+        parts,
         method,
         who,
         after,
         closes: _,
     } = line;
-    let Some(route) = route else {
-        return ReplyBytes::Refused(Refusal::NoRoute);
+    let route = match routed(resource, method) {
+        Ok(route) => route,
+        Err(why) => return ReplyBytes::Refused(why),
     };
-    if !is_post(method) {
-        return ReplyBytes::Refused(Refusal::BadMethod);
-    }
     let who = match who {
         Caller::Named(who) => who,
         Caller::Unnamed => return ReplyBytes::Refused(Refusal::NoCaller),
         Caller::NoMemory => return ReplyBytes::Refused(Refusal::WantOfMemory),
     };
-    let Some(body) = body else {
+    let (Some(parts), Some(body)) = (parts, body) else {
         return ReplyBytes::Refused(Refusal::WantOfMemory);
     };
-    match read_asked(alloc, settings, route, after, &body) {
+    match read_asked(alloc, settings, route, &parts, after, body) {
         Ok(asked) => ask_pool(alloc, settings, &who, after, &asked, door, clock),
         Err(shown) => shown,
     }

@@ -12,7 +12,8 @@ use swarm_model::{Permission, Request, Settings};
 use swarm_wire::Asked;
 
 /// The permission without which the pool of a request is not asked. Whether a caller may cancel a
-/// task or see its result, the pool itself decides: the task's creator needs no permission.
+/// task, or see its result or its output, the pool itself decides: the task's creator needs no
+/// permission.
 pub fn permission_of(request: &Request) -> Option<Permission>
     ensures { result ≡ spec_permission_of request.now }
 {
@@ -26,7 +27,10 @@ pub fn permission_of(request: &Request) -> Option<Permission>
         | Request::Event { .. }
         | Request::Update { .. } => Some(Permission::RunBot),
         Request::Terminate { .. } => Some(Permission::TerminateBot),
-        Request::Cancel { .. } | Request::Result { .. } => None,
+        Request::PutBlob { .. } | Request::GetBlob { .. } | Request::FindMissing { .. } => {
+            Some(Permission::UseBlobs)
+        }
+        Request::Cancel { .. } | Request::Result { .. } | Request::Stdout { .. } => None,
     }
 }
 

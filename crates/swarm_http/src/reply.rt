@@ -1,12 +1,12 @@
 //! The bytes of a reply.
-ghost use Rattle.std.specs.Prelude.{◌≡◌, ◌<◌, ◌++◌, None, Some, IfOk, OnOk, string_bytes};
+ghost use Rattle.std.specs.Prelude.{◌≡◌, ◌<◌, ◌++◌, [], None, Some, IfOk, OnOk, get_or, string_bytes};
 ghost use Rattle.http.specs.StatusCode.{IsStatusCode};
 ghost use Rattle.swarm_http.specs.Replies.{phrase_of as spec_phrase_of, head_with, reply_text, shown, refusal};
 ghost use Rattle.swarm_http.specs.Sends.{text_of};
 
 use dimensions::{Seq, Text, TryCopy};
 use http::StatusCode;
-use reply_bodies::{show_reply, status_of};
+use reply_bodies::{content_type, show_reply, status_of};
 use std::alloc::{AllocError, Global};
 use swarm_model::{Permission, Reply, Rule};
 use task_props::PropRule;
@@ -28,8 +28,6 @@ pub enum Refusal {
     NoCaller,
     NoPool,
     NoTask,
-    TaskNotBuilt,
-    UpdateNotBuilt,
     LogFull,
     WantOfMemory,
 }
@@ -40,6 +38,8 @@ pub enum ReplyBytes {
     Refused(Refusal),
     /// Its head, and its body behind it.
     Whole(Vec<u8>),
+    /// Its head, and the content of the blob that is its body.
+    Blob { head: Vec<u8>, content: Seq<u8> },
     /// Its call answered with this front, and there was no memory for the reply.
     WantOfMemoryAt(u64),
 }
@@ -63,13 +63,14 @@ fn write_head_with_front(
     status: u16,
     phrase: &str,
     size: usize,
+    media_type: &str,
     front: u64,
 ) -> Result<(), AllocError>
-    ensures { OnOk result (string_bytes text.new ≡ string_bytes text.old ++ head_with status phrase.now size (Some front)) }
+    ensures { OnOk result (string_bytes text.new ≡ string_bytes text.old ++ head_with status phrase.now size media_type.now (Some front)) }
 {
     write!(
         text,
-        "HTTP/1.1 {status} {phrase}\r\nContent-Length: {size}\r\nContent-Type: application/json\r\nX-Swarming-Front: {front}\r\n\r\n"
+        "HTTP/1.1 {status} {phrase}\r\nContent-Length: {size}\r\nContent-Type: {media_type}\r\nX-Swarming-Front: {front}\r\n\r\n"
     )
 }
 
@@ -79,12 +80,13 @@ fn write_head_alone(
     status: u16,
     phrase: &str,
     size: usize,
+    media_type: &str,
 ) -> Result<(), AllocError>
-    ensures { OnOk result (string_bytes text.new ≡ string_bytes text.old ++ head_with status phrase.now size None) }
+    ensures { OnOk result (string_bytes text.new ≡ string_bytes text.old ++ head_with status phrase.now size media_type.now None) }
 {
     write!(
         text,
-        "HTTP/1.1 {status} {phrase}\r\nContent-Length: {size}\r\nContent-Type: application/json\r\n\r\n"
+        "HTTP/1.1 {status} {phrase}\r\nContent-Length: {size}\r\nContent-Type: {media_type}\r\n\r\n"
     )
 }
 
@@ -93,14 +95,39 @@ fn write_head(
     status: u16,
     phrase: &str,
     size: usize,
+    media_type: &str,
     front: Option<u64>,
 ) -> Result<(), AllocError>
-    ensures { OnOk result (string_bytes text.new ≡ string_bytes text.old ++ head_with status phrase.now size front) }
+    ensures { OnOk result (string_bytes text.new ≡ string_bytes text.old ++ head_with status phrase.now size media_type.now front) }
 {
     match front {
-        None => write_head_alone(text, status, phrase, size),
-        Some(front) => write_head_with_front(text, status, phrase, size, front),
+        None => write_head_alone(text, status, phrase, size, media_type),
+        Some(front) => write_head_with_front(text, status, phrase, size, media_type, front),
     }
+}
+
+// The head of a reply whose body has a size, in a buffer of so much room.
+fn head_bytes(
+    alloc: Global,
+    status: u16,
+    media_type: &str,
+    front: Option<u64>,
+    size: usize,
+    room: usize,
+) -> Result<Vec<u8>, AllocError>
+    requires { IsStatusCode status }
+    ensures { IfOk result (λ v. v.items ≡ head_with status (spec_phrase_of status) size media_type.now front) }
+{
+    let mut head = String::with_capacity(alloc, room)?;
+    write_head(
+        &mut head,
+        status,
+        phrase_of(status),
+        size,
+        media_type,
+        front,
+    )?;
+    Ok(head.into_bytes())
 }
 
 // A head and its body in one buffer, whose memory is taken once.
@@ -108,34 +135,67 @@ fn write_head(
 fn reply_bytes(
     alloc: Global,
     status: u16,
+    media_type: &str,
     front: Option<u64>,
     body: &[u8],
 ) -> Result<Vec<u8>, AllocError>
     requires { IsStatusCode status }
-    ensures { IfOk result (λ v. v.items ≡ reply_text status front body.now) }
+    ensures { IfOk result (λ v. v.items ≡ reply_text status media_type.now front body.now) }
 {
     let size = body.len();
-    let mut head = String::with_capacity(alloc, size.saturating_add(HEAD_ROOM))?;
-    write_head(&mut head, status, phrase_of(status), size, front)?;
-    let mut text = head.into_bytes();
+    let room = size.saturating_add(HEAD_ROOM);
+    let mut text = head_bytes(alloc, status, media_type, front, size, room)?;
     text.extend_from_slice(body)?;
     Ok(text)
 }
 
-/// A reply of the pool at a place, with the front of its call, if there was one.
+// The content of a blob stays where it is: only the head takes memory.
+#[tactic(auto, unfolding(crate::specs::Replies::reply_text))]
+fn blob_reply(
+    alloc: Global,
+    status: u16,
+    media_type: &str,
+    front: Option<u64>,
+    content: Seq<u8>,
+) -> Result<ReplyBytes, AllocError>
+    requires { IsStatusCode status }
+    ensures { IfOk result (λ s. text_of s ≡ reply_text status media_type.now front content) }
+{
+    let size = content.as_slice().len();
+    let head = head_bytes(alloc, status, media_type, front, size, HEAD_ROOM)?;
+    Ok(ReplyBytes::Blob { head, content })
+}
+
+fn first_piece(alloc: Global, pieces: Seq<Seq<u8>>) -> Seq<u8>
+    ensures { result ≡ get_or pieces 0 [] }
+{
+    pieces
+        .into_vec()
+        .into_iter()
+        .next()
+        .unwrap_or(Seq::new(alloc))
+}
+
+/// A reply of the pool at a place, with the front of its call, if there was one. `pieces` are the
+/// bytes of the blobs that the reply names.
 #[tactic(auto, unfolding(crate::specs::Replies::shown))]
 pub fn whole_reply(
     alloc: Global,
     place: u32,
     front: Option<u64>,
     reply: &Reply,
-    pieces: &Seq<Seq<u8>>,
+    pieces: Seq<Seq<u8>>,
 ) -> Result<ReplyBytes, AllocError>
     requires { place < 4 }
-    ensures { IfOk result (λ s. text_of s ≡ shown place front reply.now pieces.now) }
+    ensures { IfOk result (λ s. text_of s ≡ shown place front reply.now pieces) }
 {
-    let body = show_reply(alloc, place, reply, pieces)?;
-    let text = reply_bytes(alloc, status_of(reply), front, body.as_slice())?;
+    let (status, media_type) = (status_of(reply), content_type(reply));
+    if let Reply::Blob { .. } = reply {
+        let content = first_piece(alloc, pieces);
+        return blob_reply(alloc, status, media_type, front, content);
+    }
+    let body = show_reply(alloc, place, reply, &pieces)?;
+    let text = reply_bytes(alloc, status, media_type, front, body.as_slice())?;
     Ok(ReplyBytes::Whole(text))
 }
 
@@ -146,7 +206,7 @@ pub fn field_refusal(alloc: Global, field: Text, rule: PropRule) -> Result<Reply
 {
     let reply = Reply::No(Rule::BadField { field, rule });
     let pieces = Seq::new(alloc);
-    whole_reply(alloc, 0, None, &reply, &pieces)
+    whole_reply(alloc, 0, None, &reply, pieces)
 }
 
 /// The refusal of a caller to whom the pool of this name doesn't give the permission.
@@ -161,5 +221,5 @@ pub fn denied_refusal(
     let pool = pool.try_copy(alloc)?;
     let reply = Reply::No(Rule::Denied { permission, pool });
     let pieces = Seq::new(alloc);
-    whole_reply(alloc, 0, None, &reply, &pieces)
+    whole_reply(alloc, 0, None, &reply, pieces)
 }

@@ -1,11 +1,13 @@
 //! Taking the next request from a link.
-ghost use Rattle.std.specs.Prelude.{◌≡◌, ◌≤◌, ℕ, List, length, take, IfSome, option_map};
+ghost use Rattle.std.specs.Prelude.{◌≡◌, ◌≤◌, ℕ, List, length, take, IfOk, IfSome, option_map};
 ghost use Rattle.httparse.specs.Grammar.{RequestHead};
 ghost use Rattle.sw_base.specs.Link.{IsClean};
 ghost use Rattle.link_reader.specs.Heads.{IsHeadEnd};
 ghost use Rattle.request_head.specs.HeadFields.{size_of};
 ghost use Rattle.request_head.specs.Judging.{Says};
 ghost use Rattle.swarm_model.specs.declared.rule.Rule.TheVariants as Rule;
+ghost use Rattle.routes.specs.Routes.{pool_part, digest_part};
+ghost use Rattle.swarm_http.specs.Requests.{parts_of};
 ghost use Rattle.swarm_http.specs.Sends.{rule_of};
 ghost use Rattle.swarm_http.specs.Exchange.{HeadSays};
 ghost use Rattle.swarm_http.specs.Takes.{IsCaller, IsRequestLine, IsLimit, Takes};
@@ -15,9 +17,10 @@ use crate::reply::Refusal;
 use dimensions::Text;
 use link_reader::{BodyEnd, HeadEnd, Pending, read_body, read_head};
 use request_head::{After, Head, HeadCheck, Method, check_head};
-use routes::{Route, Routes};
-use std::alloc::Global;
+use routes::{Found, Resource, Routes};
+use std::alloc::{AllocError, Global};
 use sw_base::Link;
+use swarm_wire::Parts;
 
 /// The caller of a request.
 #[derive(Drop)]
@@ -32,7 +35,9 @@ pub enum Caller {
 /// What a head says that its request's answer needs.
 #[derive(Drop)]
 pub struct RequestLine {
-    pub route: Option<Route>,
+    pub resource: Option<Resource>,
+    /// What the target names, where there was memory to hold it.
+    pub parts: Option<Parts>,
     pub method: Method,
     pub who: Caller,
     pub after: After,
@@ -67,11 +72,36 @@ fn held_caller(alloc: Global, caller: Option<&str>) -> Caller
     }
 }
 
+fn held_resource(found: Option<Found>) -> Option<Resource>
+    ensures { result ≡ option_map (λ f. f.resource) found.entry }
+{
+    Some(found?.resource)
+}
+
+fn new_parts(alloc: Global, pool: &str, digest: &str) -> Result<Parts, AllocError>
+    ensures { IfOk result (λ parts. parts ≡ record { pool = pool.now; digest = digest.now }) }
+{
+    Ok(Parts {
+        pool: Text::from_str(alloc, pool)?,
+        digest: Text::from_str(alloc, digest)?,
+    })
+}
+
+// What the target names at which this was found.
+fn held_parts(alloc: Global, found: Option<Found>) -> Option<Parts>
+    ensures { (target : List ℕ) → IfSome found.entry (λ f. f.pool.now ≡ pool_part target) → IfSome found.entry (λ f. f.digest.now ≡ digest_part target) → IfSome result (λ parts. parts ≡ parts_of target) }
+{
+    let found = found?;
+    new_parts(alloc, found.pool, found.digest).ok()
+}
+
 fn request_line_of(alloc: Global, routes: &Routes, head: &Head) -> RequestLine
     ensures { (h : RequestHead) → Says h head.now → IsRequestLine result h }
 {
+    let found = routes.find(head.target);
     RequestLine {
-        route: routes.find(head.target),
+        resource: held_resource(found),
+        parts: held_parts(alloc, found),
         method: head.method,
         who: held_caller(alloc, head.caller),
         after: head.after,

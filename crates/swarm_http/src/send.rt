@@ -1,5 +1,5 @@
 //! Writing a reply.
-ghost use Rattle.std.specs.Prelude.{◌≡◌, None, Some, OnOk};
+ghost use Rattle.std.specs.Prelude.{◌≡◌, ◌++◌, None, Some, OnOk};
 ghost use Rattle.sw_base.specs.Link.{IsClean};
 ghost use Rattle.swarm_model.specs.declared.rule.Rule.TheVariants as rule;
 ghost use Rattle.swarm_http.specs.Replies.{refusal};
@@ -58,10 +58,6 @@ fn refusal_bytes(why: Refusal) -> &'static [u8]
             b"HTTP/1.1 404 Not Found\r\nContent-Length: 18\r\nContent-Type: application/json\r\n\r\n{\"code\":\"no_pool\"}",
         Refusal::NoTask =>
             b"HTTP/1.1 404 Not Found\r\nContent-Length: 18\r\nContent-Type: application/json\r\n\r\n{\"code\":\"no_task\"}",
-        Refusal::TaskNotBuilt =>
-            b"HTTP/1.1 501 Not Implemented\r\nContent-Length: 34\r\nContent-Type: application/json\r\n\r\n{\"code\":\"not_built\",\"what\":\"task\"}",
-        Refusal::UpdateNotBuilt =>
-            b"HTTP/1.1 501 Not Implemented\r\nContent-Length: 36\r\nContent-Type: application/json\r\n\r\n{\"code\":\"not_built\",\"what\":\"update\"}",
         Refusal::LogFull =>
             b"HTTP/1.1 503 Service Unavailable\r\nContent-Length: 19\r\nContent-Type: application/json\r\n\r\n{\"code\":\"log_full\"}",
         Refusal::WantOfMemory =>
@@ -92,6 +88,17 @@ pub fn send_flushed<L: Link>(link: &mut L, text: &[u8]) -> Result<(), Failed>
     }
 }
 
+// Writes a text and one behind it, and flushes them, unless a write or the flush fails.
+fn send_both<L: Link>(link: &mut L, front: &[u8], back: &[u8]) -> Result<(), Failed>
+    ensures flushed { OnOk result (IsClean (L.state link.new)) }
+    ensures sends { Sends (L.state link.old) (L.state link.new) (front.now ++ back.now) result }
+{
+    match send_whole(link, front) {
+        Ok(()) => send_flushed(link, back),
+        Err(failed) => Err(failed),
+    }
+}
+
 /// Writes a reply whole and flushes it, unless a write or the flush fails.
 pub fn send_shown<L: Link>(link: &mut L, shown: &ReplyBytes) -> Result<(), Failed>
     ensures flushed { OnOk result (IsClean (L.state link.new)) }
@@ -100,6 +107,7 @@ pub fn send_shown<L: Link>(link: &mut L, shown: &ReplyBytes) -> Result<(), Faile
     match shown {
         ReplyBytes::Refused(why) => send_flushed(link, refusal_bytes(*why)),
         ReplyBytes::Whole(text) => send_flushed(link, text),
+        ReplyBytes::Blob { head, content } => send_both(link, head, content.as_slice()),
         ReplyBytes::WantOfMemoryAt(front) => {
             let text = want_of_memory_bytes(*front);
             send_flushed(link, text.as_str().as_bytes())

@@ -1,5 +1,5 @@
 -- A bot's row stays sound.
-use Rattle.std.proofs.Common.{◌≡◌, ℕ, ◌+◌, ◌≤◌, min, Bool, true, false, List, [], ◌∷◌, ◌++◌, map, length, refl, sym, subst, arith, Option, Some, None, IfSome, IsTrue}
+use Rattle.std.proofs.Common.{◌≡◌, ℕ, ◌+◌, ◌≤◌, min, Bool, true, false, List, [], ◌∷◌, length, refl, sym, subst, arith, Option, Some, None, IfSome, IsTrue}
 use Rattle.std.specs.Prelude.{unwrap_or, nat_le}
 use Rattle.std.specs.List.{All}
 use Rattle.std.specs.Option.{option_map_or}
@@ -8,7 +8,6 @@ use Rattle.std.proofs.lemmas.Option.{IfSome_then}
 use Rattle.dimensions.specs.declared.text.Text.{Text}
 use Rattle.dimensions.specs.declared.bot_dims.BotDims.{BotDims}
 use Rattle.swarm_model.specs.declared.bot_row.BotRow.{BotRow}
-use Rattle.swarm_model.specs.declared.blob_row.BlobRow.{BlobRow}
 use Rattle.swarm_model.specs.declared.attempt.Chunk.{Chunk}
 use Rattle.swarm_model.specs.declared.pool_state.PoolState.{PoolState}
 use Rattle.swarm_model.specs.declared.pool_settings.PoolSettings.{PoolSettings}
@@ -18,9 +17,9 @@ use Rattle.swarm_model.specs.declared.entry.EntryKind.TheVariants as kind
 use Rattle.swarm_model.specs.declared.entry.EventKind.{EventKind}
 use Rattle.swarm_model.specs.declared.entry.EventKind.TheVariants as event
 use Rattle.swarm_model.specs.declared.request.Request.TheVariants as ask
-use Rattle.swarm_model.specs.Finding.{bot_of, blob_of}
+use Rattle.swarm_model.specs.Finding.{bot_of}
 use Rattle.swarm_model.specs.Fits.{fits, fits_bot, fits_message, is_name}
-use Rattle.swarm_model.specs.Effects.{no_of_task, task_after, added_tasks, added_bots, silent_bot, session_row, polled, assigned_bot, heard, event_effect, streak_after, after, with_blobs, put, put_chunk, place_for, renewed_until, new_blob, life, fresh_chunk, attempt_of}
+use Rattle.swarm_model.specs.Effects.{no_of_task, task_after, added_tasks, added_bots, silent_bot, session_row, polled, assigned_bot, heard, event_effect, streak_after, after, with_blobs, put_chunk, fresh_chunk, attempt_of}
 use Rattle.swarm_model.specs.History.{MayFollow}
 use Rattle.swarm_model.specs.Soundness.{IsSound, IsSoundBot}
 use Rattle.swarm_laws.proofs.Lists.{Among, each_one, number_within}
@@ -30,30 +29,17 @@ use Rattle.swarm_laws.proofs.Rows.{bot_by, bot_is, all_bots, no_fewer, claim_get
 
 -- no entry changes the settings
 
--- a blob that is put leaves them
-put_settings : (s : PoolState) (m : ℕ) (digest : Text) (size : ℕ) → (put s m digest size).settings ≡ s.settings
-put_settings s m digest size = by_blob (blob_of s digest)
-  where
-    by_place : (o : Option ℕ) → (option_map_or (λ place. record s { blobs = s.blobs ++ new_blob s m digest size place ∷ []; placed = s.placed + 1 }) o s).settings ≡ s.settings
-    by_place None = refl
-    by_place (Some place) = refl
-
-    by_blob : (o : Option BlobRow) → (option_map_or (λ blob. record s { blobs = map (renewed_until (m + life s) digest) s.blobs }) o
-        (option_map_or (λ place. record s { blobs = s.blobs ++ new_blob s m digest size place ∷ []; placed = s.placed + 1 }) (place_for s size) s)).settings ≡ s.settings
-    by_blob None = by_place (place_for s size)
-    by_blob (Some blob) = refl
-
 -- a chunk that is kept leaves them
 chunk_settings : (s : PoolState) (m : ℕ) (chunk : Option Chunk) → (put_chunk s m chunk).settings ≡ s.settings
 chunk_settings s m None = refl
-chunk_settings s m (Some chunk) = put_settings s m chunk.digest chunk.size
+chunk_settings s m (Some chunk) = refl
 
 -- and so does every entry
 pub settings_same : (s : PoolState) (m : ℕ) (k : EntryKind) → (with_blobs s m k).settings ≡ s.settings
 settings_same s m (kind.Blob n true) = refl
 settings_same s m (kind.Blob n false) = refl
 settings_same s m (kind.Update b t try_no chunk last) = chunk_settings s m (fresh_chunk (attempt_of s t) chunk)
-settings_same s m (kind.Put digest size) = put_settings s m digest size
+settings_same s m (kind.Put digest size) = refl
 settings_same s m entry = refl
 
 -- what a bot's row holds makes a handshake that may be asked

@@ -15,7 +15,7 @@ use Rattle.swarm_model.specs.declared.entry.Outcome.TheVariants as outcome
 use Rattle.dimensions.specs.Alike.{same}
 use Rattle.swarm_model.specs.Answers.{claimed, is_claim, is_claimed}
 use Rattle.swarm_model.specs.Deadlines.{next_of}
-use Rattle.swarm_model.specs.Effects.{task_after, added_tasks, task_at, started_run, expired_slice, killed, closed, new_row, after}
+use Rattle.swarm_model.specs.Effects.{task_after, added_tasks, task_at, started_run, expired_slice, killed, longer, closed, new_row, after}
 use Rattle.swarm_model.specs.History.{MayFollow}
 use Rattle.swarm_model.specs.Soundness.{IsSound, claim_key, AreClaimedApart}
 use Rattle.swarm_laws.proofs.Lists.{Among, Found, each, all, each_one, find_is, find_none}
@@ -67,7 +67,8 @@ key_same s m k o f q x a =
       begins = λ b t id is found w. absurd (cc (q, ap is_claiming is));
       cancels = λ w. refl;
       marks = λ w. key_kept killed (λ a. refl) x.attempt;
-      finishes = λ last w. key_kept (closed None last) (λ a. refl) x.attempt;
+      grows = λ chunk g w. key_kept (longer chunk) (λ a. refl) x.attempt;
+      finishes = λ chunk last y w e. key_kept (closed chunk last) (λ a. refl) y.attempt ∙ e;
     })
   where
     by_outcome : (to : Outcome) → claim_key (expired_slice m to x) ≡ claim_key x

@@ -1,12 +1,14 @@
 -- What an entry that may follow finds in the pool.
-use Rattle.std.proofs.Common.{◌≡◌, ℕ, ◌+◌, ◌<◌, ◌≤◌, ◌==◌, ◌&&◌, ◌||◌, not, Bool, true, false, cond, List, [], ◌∷◌, inl, inr, length, drop, length-drop, refl, subst, arith, Option, Some, None, IfSome, IsTrue, IsSomeAnd, is_some, is_none, filter_map, eqb-true, leb-false}
+use Rattle.std.proofs.Common.{◌≡◌, ℕ, ◌+◌, ◌<◌, ◌≤◌, ◌==◌, ◌&&◌, ◌||◌, not, Bool, true, false, cond, List, [], ◌∷◌, inl, inr, length, drop, length-drop, refl, subst, arith, Option, Some, None, IfSome, IsTrue, IsSomeAnd, is_some, is_none, map, filter_map, find, eqb-true, leb-false, ap, sym, ◌∙◌}
 use Rattle.std.specs.Prelude.{⊤, nat_le, slice_get}
 use Rattle.std.specs.Bool.{MatchBool}
 use Rattle.std.specs.List.{All, position_from}
-use Rattle.std.specs.Option.{option_map, option_and_then}
-use Rattle.std.proofs.lemmas.Bool.{and_parts, cond_both}
+use Rattle.std.specs.Option.{option_map, option_map_or, option_and_then}
+use Rattle.std.proofs.lemmas.Bool.{and_parts, cond_both, eq-eqb}
 use Rattle.std.proofs.lemmas.Option.{same_Some, slice_get_within}
-use Rattle.std.proofs.lemmas.List.Elements.{All-append}
+use Rattle.std.proofs.lemmas.List.Elements.{All-append, All-map}
+use Rattle.blob_rows.specs.declared.blob_row.BlobRow.{BlobRow}
+use Rattle.blob_rows.specs.Rows.{is_blob}
 use Rattle.dimensions.specs.declared.bot_dims.BotDims.{BotDims}
 use Rattle.dimensions.specs.Alike.{same}
 use Rattle.dimensions.specs.Choosing.{when}
@@ -39,18 +41,23 @@ use Rattle.swarm_model.specs.declared.entry.EntryKind.{EntryKind}
 use Rattle.swarm_model.specs.declared.entry.EntryKind.TheVariants as kind
 use Rattle.swarm_model.specs.declared.request.Request.{Request}
 use Rattle.swarm_model.specs.declared.request.Request.TheVariants as ask
-use Rattle.swarm_model.specs.Words.{◌otherwise◌, is_between}
-use Rattle.swarm_model.specs.Finding.{is_final, is_task, task_of, bot_named, is_called}
-use Rattle.swarm_model.specs.Fits.{fits, is_name}
+use Rattle.swarm_model.specs.Words.{is_between}
+use Rattle.swarm_model.specs.Finding.{is_final, is_task, task_of, bot_named, blob_of, blob_numbered, is_called}
+use Rattle.swarm_model.specs.Fits.{fits, fits_chunk, is_name}
+use Rattle.swarm_model.specs.Blobs.{lacks_chunk, missing_file, inputs_of, can_take}
+use Rattle.swarm_model.specs.Effects.{fresh_chunk}
+use Rattle.swarm_model.specs.Output.{chunks_within}
+use Rattle.swarm_model.specs.Uses.{is_used}
+use Rattle.swarm_model.specs.Views.{files_of}
+use Rattle.swarm_model.specs.Soundness.{IsSound}
 use Rattle.swarm_model.specs.Slices.{is_open, admit, current_slice, first}
 use Rattle.swarm_model.specs.Reuse.{sent, reuse, ended_well, is_young, ran_hash}
-use Rattle.swarm_model.specs.Answers.{decide, entry_at, resubmitted, reuse_outcome, accepted, accepted_at, tasks_full, named_task, result_of, show_bot, known_bot, handshake, poll, busy, run_on, claim, claim_again, claimed, claims, unfit_of, unfit_refusal, event, terminate, reply_with_entry, with, has_try, if_named, may, denied, cancel, cancel_row, stop, is_killed, is_kept, updates, report, report_again, report_on, not_claimant, update, update_row}
-use Rattle.swarm_model.specs.Deadlines.{settled, slice_end, slice_limit, silence_end, silence_limit, runner_of, bot_end, deadlines, due_entry}
+use Rattle.swarm_model.specs.Answers.{decide, entry_at, resubmitted, reuse_outcome, accepted, accepted_at, tasks_full, named_task, result_of, show_bot, known_bot, handshake, poll, busy, run_on, claim, claim_again, claimed, claims, unfit_of, unfit_refusal, event, terminate, reply_with_entry, with, has_try, if_named, may, denied, cancel, cancel_row, stop, is_killed, is_kept, updates, chunk_rule, store_full, unplaced_chunk, is_news, report, report_again, report_running, report_on, not_claimant, update, update_row, refusal, file_missing, output_gone, chunks_shown, stdout_of, put_blob, show_blob}
+use Rattle.swarm_model.specs.Deadlines.{settled, slice_end, slice_limit, silence_end, silence_limit, runner_of, bot_end, blob_end, deadlines, due_entry}
 use Rattle.swarm_model.specs.Entries.{asks, is_deadline, Asked}
 use Rattle.swarm_model.specs.History.{MayFollow, IsDue, IsAnswered}
-use Rattle.swarm_laws.specs.Served.{is_served, ends_run}
-use Rattle.swarm_laws.proofs.Preconditions.{Finds, HasTask, waits, runs, served_of, ends_of}
-use Rattle.swarm_laws.proofs.Lists.{Among, Found, find_is, all_filter_map}
+use Rattle.swarm_laws.proofs.Preconditions.{Finds, FindsBlob, HasTask, waits, runs}
+use Rattle.swarm_laws.proofs.Lists.{Among, Found, all, find_is, found_once, all_filter_map}
 use Rattle.swarm_laws.proofs.Earliest.{due_at, due_has}
 use Rattle.swarm_laws.proofs.Answering.{by_when, by_map, by_with}
 use Rattle.swarm_laws.proofs.Reusing.{reuse_is}
@@ -74,6 +81,7 @@ admit_within s slices start place few h = drop_within start slices place (positi
 
 -- a task that is named by its number and a try
 pub record IsNamed (s : PoolState) (number try_no : ℕ) (row : TaskRow) : Type 0 where
+  pub there : task_of s number ≡ Some row
   pub among : Among row s.tasks
   pub named : row.no ≡ number
   pub has : (try_no == 0 || has_try try_no row.attempt) ≡ true
@@ -128,7 +136,7 @@ pub named_is : (s : PoolState) (number try_no : ℕ) (row : TaskRow) → named_t
 named_is s number try_no row e = by_row (task_of s number) refl e
   where
     by_try : (x : TaskRow) (b : Bool) → (try_no == 0 || has_try try_no x.attempt) ≡ b → task_of s number ≡ Some x → when b x ≡ Some row → IsNamed s number try_no row
-    by_try x true t g h = subst (IsNamed s number try_no) (same_Some _ _ h) (let f = find_is (is_task number) s.tasks x g in record { among = f.among; named = eqb-true x.no number f.passes; has = t })
+    by_try x true t g h = subst (IsNamed s number try_no) (same_Some _ _ h) (let f = find_is (is_task number) s.tasks x g in record { there = g; among = f.among; named = eqb-true x.no number f.passes; has = t })
     by_try x false t g h = absurd (cc (h))
 
     by_row : (o : Option TaskRow) → task_of s number ≡ o → option_and_then (if_named try_no) o ≡ Some row → IsNamed s number try_no row
@@ -150,35 +158,59 @@ cancel_finds s who kill row a =
 result_finds : (s : PoolState) (who : List ℕ) (row : TaskRow) → Adds s (result_of s who row)
 result_finds s who row = by_when (Adds s) (not (may s who permission.ListTasks row)) (denied s permission.ListTasks) _ (λ t. tt) (λ t. tt)
 
--- a report finds the run of its bot, where it ends it
-report_finds : (s : PoolState) (bot : BotRow) (row : TaskRow) (chunk : Option Chunk) (last : Option Last) (o : Option Attempt) → Among bot s.bots → Among row s.tasks → row.attempt ≡ o → chunk ≡ None →
-    Adds s (with o rule.NoTask (report_on s bot row chunk last))
-report_finds s bot row chunk last None b a has none = tt
-report_finds s bot row chunk last (Some attempt) b a has none =
-    by_when (Adds s) (not (attempt.bot == bot.no)) (not_claimant s attempt) (report bot row chunk last attempt) (λ t. tt) (λ t.
-    by_when (Adds s) (is_final row.state) (report_again bot row chunk last attempt) _ (λ f. cond_both (is_kept attempt chunk last) _ _ (Adds s) (λ k. tt) (λ k. tt)) (λ f.
-    by_last last (eqb-true attempt.bot bot.no (not_not (attempt.bot == bot.no) t)) f))
-  where
-    not_not : (c : Bool) → not c ≡ false → c ≡ true
-    not_not true e = refl
-    not_not false e = absurd (cc (e))
+-- nor does a part of an output
+stdout_finds : (s : PoolState) (who : List ℕ) (offset most : ℕ) (row : TaskRow) → Adds s (stdout_of s who offset most row)
+stdout_finds s who offset most row =
+    by_when (Adds s) (not (may s who permission.ListTasks row)) (denied s permission.ListTasks) _ (λ t. tt) (λ t.
+    by_map (Adds s) output_gone (find (lacks_chunk s) (chunks_within offset (offset + most) (chunks_shown s row))) _ (λ chunk e. tt) (λ e. tt))
 
-    by_last : (l : Option Last) → attempt.bot ≡ bot.no → is_final row.state ≡ false →
-        Adds s (when (is_some l) (updates attempt (kind.Update bot.no row.no attempt.try_no chunk l)) otherwise updates attempt (kind.Contact bot.no))
-    by_last None by f = tt
-    by_last (Some end) by f =
-        record { bot = bot; known = b; called = refl; task = row; among = a; named = refl; goes_on = f; attempt = attempt; attempted = has; by_bot = by; end = end; ends = refl; no_output = none }
+pub not_not : (c : Bool) → not c ≡ false → c ≡ true
+not_not true e = refl
+not_not false e = absurd (cc (e))
+
+-- a report finds the run of its bot, where it ends it or brings a chunk
+report_finds : (s : PoolState) (bot : BotRow) (row : TaskRow) (chunk : Option Chunk) (last : Option Last) (o : Option Attempt) → Among bot s.bots → task_of s row.no ≡ Some row → Among row s.tasks → row.attempt ≡ o →
+    option_map_or fits_chunk chunk true ≡ true → Adds s (with o rule.NoTask (report_on s bot row chunk last))
+report_finds s bot row chunk last None b there a has fits = tt
+report_finds s bot row chunk last (Some attempt) b there a has fits =
+    by_when (Adds s) (not (attempt.bot == bot.no)) (not_claimant s attempt) (report s bot row chunk last attempt) (λ t. tt) (λ t.
+    by_when (Adds s) (is_final row.state) (report_again bot row chunk last attempt) (report_running s bot row chunk last attempt) (λ f. cond_both (is_kept attempt chunk last) _ _ (Adds s) (λ k. tt) (λ k. tt)) (λ f.
+    by_map (Adds s) refusal (option_and_then (chunk_rule attempt) chunk) _ (λ why e. tt) (λ in_turn.
+    by_map (Adds s) file_missing (missing_file s (files_of last)) _ (λ file e. tt) (λ has_files.
+    by_map (Adds s) (λ (c : Chunk). store_full s c.size) (unplaced_chunk s (fresh_chunk (Some attempt) chunk)) _ (λ c e. tt) (λ has_place.
+    by_when (Adds s) (is_news attempt chunk last) (updates attempt (kind.Update bot.no row.no attempt.try_no chunk last)) (updates attempt (kind.Contact bot.no)) (λ is_new.
+    record {
+      bot = bot;
+      known = b;
+      called = refl;
+      task = row;
+      there = there;
+      among = a;
+      named = refl;
+      goes_on = f;
+      attempt = attempt;
+      attempted = has;
+      by_bot = eqb-true attempt.bot bot.no (not_not (attempt.bot == bot.no) t);
+      in_turn = in_turn;
+      has_files = has_files;
+      has_place = has_place;
+      is_new = is_new;
+      fits = fits;
+    }) (λ n. tt))))))
 
 -- what a report may hold
-pub update_fits : (settings : PoolSettings) (name : List ℕ) (task try_no : ℕ) (chunk : Option Chunk) (last : Option Last) → IsTrue (fits settings (ask.Update name task try_no chunk last)) → (try_no ≡ 1) × (chunk ≡ None)
-update_fits settings name task try_no chunk last may =
-    let numbers = and_parts (is_between 1 262144 task) _ (and_parts (is_name name) _ may).1 in
+pub update_fits : (settings : PoolSettings) (name : List ℕ) (task try_no : ℕ) (chunk : Option Chunk) (last : Option Last) → IsTrue (fits settings (ask.Update name task try_no chunk last)) →
+    (try_no ≡ 1) × (option_map_or fits_chunk chunk true ≡ true)
+update_fits settings name task try_no chunk last may_ask =
+    let numbers = and_parts (is_between 1 262144 task) _ (and_parts (is_name name) _ may_ask).1 in
     let one = and_parts (try_no == 1) _ numbers.1 in
-    (eqb-true try_no 1 one.0, no_chunk chunk (and_parts (is_none chunk) _ one.1).0)
-  where
-    no_chunk : (o : Option Chunk) → is_none o ≡ true → o ≡ None
-    no_chunk None e = refl
-    no_chunk (Some x) e = absurd (cc (e))
+    (eqb-true try_no 1 one.0, (and_parts (option_map_or fits_chunk chunk true) _ one.1).0)
+
+-- a blob that is put is present, or has a place
+put_finds : (s : PoolState) (named actual : List ℕ) (size : ℕ) → Adds s (put_blob s named actual size)
+put_finds s named actual size =
+    by_when (Adds s) (not (same actual named)) (refusal (rule.DigestDiffers actual)) _ (λ t. tt) (λ t.
+    by_when (Adds s) (not (can_take s named size)) (store_full s size) (reply_with_entry (reply.Put (is_none (blob_of s named))) (kind.Put named size)) (λ f. tt) (λ f. not_not (can_take s named size) f))
 
 -- a handshake finds its bot, or room for a new one
 handshake_finds : (s : PoolState) (name session : List ℕ) (dims : BotDims) (q : List ℕ) → Adds s (handshake s name session dims q)
@@ -214,12 +246,15 @@ tell_finds : (s : PoolState) (who : List ℕ) (m : ℕ) (request : Request) → 
 tell_finds s who m (ask.New request) may =
     let checked = (and_parts (is_checked request) (same (pool_of_task request) s.settings.name) may).0 in
     by_map (Adds s) (resubmitted request) (sent s who request.request_uuid) _ (λ row e. cond_both (same_task row.request request) _ _ (Adds s) (λ t. tt) (λ t. tt)) (λ unsent.
+    by_map (Adds s) file_missing (missing_file s (inputs_of request.task_slices)) _ (λ file e. tt) (λ has_inputs.
     by_when (Adds s) (nat_le s.settings.most_tasks (length s.tasks)) (tasks_full s) _ (λ t. tt) (λ t.
     by_map (Adds s) (reuse_outcome s who request) (reuse s m request.task_slices) (accepted s who request) (λ found e. taken_finds s who m request found checked unsent (leb-false _ _ t) e) (λ e.
-    accepted_finds s who request (admit s request.task_slices 0) checked unsent (leb-false _ _ t) refl)))
+    accepted_finds s who request (admit s request.task_slices 0) checked unsent (leb-false _ _ t) refl))))
 tell_finds s who m (ask.Cancel task try_no kill) may =
     by_with (Adds s) (named_task s task try_no) rule.NoTask (cancel s who kill) tt (λ row e. cancel_finds s who kill row (named_is s task try_no row e).among)
 tell_finds s who m (ask.Result task try_no) may = by_with (Adds s) (named_task s task try_no) rule.NoTask (result_of s who) tt (λ row e. result_finds s who row)
+tell_finds s who m (ask.Stdout task try_no offset most) may =
+    by_with (Adds s) (named_task s task try_no) rule.NoTask (stdout_of s who offset most) tt (λ row e. stdout_finds s who offset most row)
 tell_finds s who m (ask.List state limit below) may = tt
 tell_finds s who m (ask.Count state) may = tt
 tell_finds s who m (ask.Handshake name session dims q) may = handshake_finds s name session dims q
@@ -229,21 +264,33 @@ tell_finds s who m (ask.Event name which text) may = by_with (Adds s) (bot_named
 tell_finds s who m (ask.Update name task try_no chunk last) may =
     by_with (Adds s) (bot_named s name) rule.NoBot (update s task try_no chunk last) tt (λ bot e.
     by_with (Adds s) (named_task s task try_no) rule.NoTask (update_row s bot chunk last) tt (λ row f.
-    report_finds s bot row chunk last row.attempt (bot_is s name bot e).among (named_is s task try_no row f).among refl (update_fits s.settings name task try_no chunk last may).1))
+    let is = named_is s task try_no row f in
+    report_finds s bot row chunk last row.attempt (bot_is s name bot e).among (ap (task_of s) is.named ∙ is.there) is.among refl (update_fits s.settings name task try_no chunk last may).1))
 tell_finds s who m (ask.Terminate name) may =
     by_with (Adds s) (bot_named s name) rule.NoBot terminate tt (λ bot e. cond_both bot.terminating _ _ (Adds s) (λ t. tt) (λ t. tt))
 tell_finds s who m (ask.Bots limit after) may = tt
 tell_finds s who m (ask.Bot name) may = by_with (Adds s) (bot_named s name) rule.NoBot (show_bot s) tt (λ bot e. tt)
+tell_finds s who m (ask.PutBlob named actual size) may = put_finds s named actual size
+tell_finds s who m (ask.GetBlob digest) may = by_with (Adds s) (blob_of s digest) (rule.BlobMissing digest) show_blob tt (λ blob e. tt)
+tell_finds s who m (ask.FindMissing blobs) may = tt
 
 -- what is due is the deadline of a row
 
-abbrev DueRow : PoolState → Cause → ℕ → Type 0
-DueRow s cause.Slice n = HasTask s n waits
-DueRow s cause.Silence n = HasTask s n runs
-DueRow s cause.Bot n = ⊤
+-- a blob of that number has the deadline
+record HasDeadline (s : PoolState) (m n : ℕ) : Type 0 where
+  blob : BlobRow
+  among : Among blob s.blobs
+  named : blob.no ≡ n
+  come : blob.deadline ≡ m
+
+abbrev DueRow : PoolState → ℕ → Cause → ℕ → Type 0
+DueRow s m cause.Slice n = HasTask s n waits
+DueRow s m cause.Silence n = HasTask s n runs
+DueRow s m cause.Bot n = ⊤
+DueRow s m cause.Blob n = HasDeadline s m n
 
 abbrev IsOfRow : PoolState → Deadline → Type 0
-IsOfRow s d = DueRow s d.cause d.number
+IsOfRow s d = DueRow s d.moment d.cause d.number
 
 -- a slice runs out where a task waits
 slice_row : (s : PoolState) (task : TaskRow) → Among task s.tasks → IfSome (slice_end task) (IsOfRow s)
@@ -265,21 +312,24 @@ silence_row s task a = cond_both (runs task) _ None (λ (o : Option Deadline). I
 deadline_row : (s : PoolState) → All (IsOfRow s) (deadlines s)
 deadline_row s =
     All-append (IsOfRow s) (filter_map slice_end s.tasks) _ (all_filter_map slice_end (IsOfRow s) s.tasks (slice_row s))
-    (All-append (IsOfRow s) (filter_map (silence_end s) s.tasks) (filter_map (bot_end s) s.bots)
+    (All-append (IsOfRow s) (filter_map (silence_end s) s.tasks) _
     (all_filter_map (silence_end s) (IsOfRow s) s.tasks (silence_row s))
-    (all_filter_map (bot_end s) (IsOfRow s) s.bots (λ bot a. cond_both bot.dead None _ (λ (o : Option Deadline). IfSome o (IsOfRow s)) (λ t. tt) (λ t. tt))))
+    (All-append (IsOfRow s) (filter_map (bot_end s) s.bots) (map blob_end s.blobs)
+    (all_filter_map (bot_end s) (IsOfRow s) s.bots (λ bot a. cond_both bot.dead None _ (λ (o : Option Deadline). IfSome o (IsOfRow s)) (λ t. tt) (λ t. tt)))
+    (All-map (IsOfRow s) blob_end s.blobs (all (λ (blob : BlobRow). HasDeadline s blob.deadline blob.no) s.blobs (λ blob a. record { blob = blob; among = a; named = refl; come = refl })))))
 
 -- and every deadline
-settled_finds : (s : PoolState) (c : Cause) (n : ℕ) → DueRow s c n → Finds s (settled s c n)
-settled_finds s cause.Slice n h = record { waiting = h; goes = refl }
-settled_finds s cause.Silence n h = h
-settled_finds s cause.Bot n h = tt
+settled_finds : (s : PoolState) (m : ℕ) (c : Cause) (n : ℕ) → DueRow s m c n → Finds s (settled s c n)
+settled_finds s m cause.Slice n h = record { waiting = h; goes = refl }
+settled_finds s m cause.Silence n h = h
+settled_finds s m cause.Bot n h = tt
+settled_finds s m cause.Blob n h = tt
 
 -- and so does the entry that is due
 due_finds : (s : PoolState) (m pass : ℕ) (e : Entry) → due_entry s m pass ≡ Some e → Finds s e.kind
 due_finds s m pass e h =
     let found = due_at s m pass e h in
-    subst (λ (x : Entry). Finds s x.kind) found.is (settled_finds s found.d.cause found.d.number (due_has (IsOfRow s) s m pass e (deadline_row s) h))
+    subst (λ (x : Entry). Finds s x.kind) found.is (settled_finds s found.d.moment found.d.cause found.d.number (due_has (IsOfRow s) s m pass e (deadline_row s) h))
 
 -- the entry of an answer has the kind that the answer adds
 adds_finds : (s : PoolState) (m pass : ℕ) (entry : Option EntryKind) (e : Entry) → IfSome entry (Finds s) → option_map (entry_at m pass) entry ≡ Some e → Finds s e.kind
@@ -296,13 +346,39 @@ finds s e follows = by_cause (is_deadline e.kind) (asks s e.kind) follows.has_ca
     by_cause false (Some asked) h =
         adds_finds s e.moment e.pass (decide s asked.who e.moment asked.request).entry e (tell_finds s asked.who e.moment asked.request h.may_ask) h.gives
 
--- an entry of a kind that no request and no deadline adds does not come
-pub served_kind : (s : PoolState) (e : Entry) → MayFollow s e → IsTrue (is_served e.kind)
-served_kind s e follows = served_of s e.kind (finds s e follows)
+-- a blob's entry comes at its deadline
+pub finds_blob : (s : PoolState) → IsSound s → (e : Entry) (n : ℕ) (kept : Bool) → MayFollow s e → e.kind ≡ kind.Blob n kept → FindsBlob s e.moment n kept
+finds_blob s o e n kept follows is =
+    let due : IsDue s e = subst (λ (k : EntryKind). MatchBool (is_deadline k) (IsDue s e) (IsSomeAnd (asks s k) (IsAnswered s e))) is follows.has_cause in
+    let found = due_at s e.moment e.pass e due in
+    subst (λ (m : ℕ). FindsBlob s m n kept) (ap (λ (x : Entry). x.moment) found.is)
+    (by_cause found.d.cause found.d.number (due_has (IsOfRow s) s e.moment e.pass e (deadline_row s) due) (ap (λ (x : Entry). x.kind) found.is ∙ is))
+  where
+    number_in : EntryKind → ℕ
+    number_in (kind.Blob number b) = number
+    number_in other = 0
 
--- and a report that comes ends its run
-pub report_ends : (s : PoolState) (e : Entry) → MayFollow s e → IsTrue (ends_run e.kind)
-report_ends s e follows = ends_of s e.kind (finds s e follows)
+    kept_in : EntryKind → Bool
+    kept_in (kind.Blob number b) = b
+    kept_in other = false
+
+    by_blob : {m : ℕ} (number : ℕ) → HasDeadline s m number → number ≡ n → settled s cause.Blob number ≡ kind.Blob n kept → FindsBlob s m n kept
+    by_blob number h named is_so =
+        (let there : blob_numbered s number ≡ Some h.blob = found_once (is_blob number) s.blobs h.blob h.among (eq-eqb h.blob.no number h.named) (o.numbers number) in
+        record {
+          blob = h.blob;
+          there = ap (blob_numbered s) (sym named) ∙ there;
+          among = h.among;
+          named = h.named ∙ named;
+          come = h.come;
+          used = sym (ap kept_in is_so) ∙ ap (λ (r : Option BlobRow). option_map_or (λ (blob : BlobRow). is_used s blob.digest) r false) there;
+        })
+
+    by_cause : {m : ℕ} (c : Cause) (number : ℕ) → DueRow s m c number → settled s c number ≡ kind.Blob n kept → FindsBlob s m n kept
+    by_cause cause.Slice number h g = absurd (cc (g))
+    by_cause cause.Silence number h g = absurd (cc (g))
+    by_cause cause.Bot number h g = absurd (cc (g))
+    by_cause cause.Blob number h g = by_blob number h (ap number_in g) g
 
 -- the request for which an entry stands may be asked
 abbrev pub IsFitting : PoolState → EntryKind → Type 0

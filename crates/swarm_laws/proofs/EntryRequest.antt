@@ -1,5 +1,5 @@
 -- The request for which the entry of an answer stands.
-use Rattle.std.proofs.Common.{◌≡◌, ℕ, ◌==◌, ◌&&◌, ◌||◌, ◌⊎◌, inl, inr, not, Bool, true, false, List, length, refl, Option, Some, None, IfSome, IsTrue, is_some, is_none, subst, sym, ap, ◌∙◌, arith, eqb-true}
+use Rattle.std.proofs.Common.{◌≡◌, ℕ, ◌+◌, ◌==◌, ◌&&◌, ◌||◌, ◌⊎◌, inl, inr, not, Bool, true, false, List, length, refl, Option, Some, None, IfSome, IsTrue, is_some, is_none, subst, sym, ap, ◌∙◌, arith, eqb-true, find}
 use Rattle.std.specs.Prelude.{nat_le, unwrap_or}
 use Rattle.std.specs.Option.{option_map, option_and_then}
 use Rattle.std.proofs.lemmas.Bool.{cond_both, and_parts, and_from, ne_eqb}
@@ -25,18 +25,22 @@ use Rattle.swarm_model.specs.declared.entry.EntryKind.{EntryKind}
 use Rattle.swarm_model.specs.declared.entry.EntryKind.TheVariants as kind
 use Rattle.swarm_model.specs.declared.request.Request.{Request}
 use Rattle.swarm_model.specs.declared.request.Request.TheVariants as ask
-use Rattle.swarm_model.specs.Finding.{is_final, task_of, bot_of, bot_named, is_called}
+use Rattle.swarm_model.specs.Finding.{is_final, task_of, bot_of, bot_named, blob_of, is_called}
 use Rattle.swarm_model.specs.Words.{is_between}
 use Rattle.swarm_model.specs.Fits.{fits, fits_task}
 use Rattle.swarm_model.specs.Slices.{admit, first}
 use Rattle.swarm_model.specs.Reuse.{sent, reuse}
-use Rattle.swarm_model.specs.Answers.{decide, resubmitted, reuse_outcome, accepted, accepted_at, tasks_full, named_task, result_of, show_bot, known_bot, handshake, poll, polls, busy, run_on, claim, claim_again, claimed, claims, sleep_secs, run, unfit_of, unfit_refusal, event, terminate, reply_with_entry, dims_unless, text_unless, with, has_try, if_named, may, denied, cancel, cancel_row, stop, is_killed, is_kept, updates, report, report_again, report_on, not_claimant, update, update_row}
+use Rattle.swarm_model.specs.Answers.{decide, resubmitted, reuse_outcome, accepted, accepted_at, tasks_full, named_task, result_of, show_bot, known_bot, handshake, poll, polls, busy, run_on, claim, claim_again, claimed, claims, sleep_secs, run, unfit_of, unfit_refusal, event, terminate, reply_with_entry, dims_unless, text_unless, with, has_try, if_named, may, denied, cancel, cancel_row, stop, is_killed, is_kept, updates, chunk_rule, store_full, unplaced_chunk, is_news, report, report_again, report_running, report_on, not_claimant, update, update_row, refusal, file_missing, output_gone, chunks_shown, stdout_of, put_blob, show_blob}
+use Rattle.swarm_model.specs.Blobs.{lacks_chunk, missing_file, inputs_of, can_take}
+use Rattle.swarm_model.specs.Effects.{fresh_chunk}
+use Rattle.swarm_model.specs.Output.{chunks_within}
+use Rattle.swarm_model.specs.Views.{files_of}
 use Rattle.swarm_model.specs.Entries.{asks, is_deadline, by_nobody, cancel_of, update_of, poll_of, claim_of, event_of, terminate_of, handshake_of, Asked}
 use Rattle.swarm_model.specs.Soundness.{IsSound}
 use Rattle.swarm_laws.proofs.Lists.{Found, find_is}
 use Rattle.swarm_laws.proofs.Answering.{by_when, by_map, by_with}
 use Rattle.swarm_laws.proofs.Preconditions.{waits, runs}
-use Rattle.swarm_laws.proofs.EntryPreconditions.{IsNamed, named_is, update_fits}
+use Rattle.swarm_laws.proofs.EntryPreconditions.{IsNamed, named_is, update_fits, not_not}
 use Rattle.swarm_laws.proofs.Rows.{find_task, find_bot, bot_is}
 use Rattle.swarm_laws.proofs.Alike.{same_is, same_self, dims_told, text_told}
 
@@ -152,14 +156,18 @@ module _ (s : PoolState) (o : IsSound s) (who : List ℕ) (m : ℕ) (name : List
         no_deadline = refl;
       }))
 
-  -- a report that ends a run stands for itself
+  -- a report that ends a run, or brings a chunk, stands for itself
   report_stands : (number try_no : ℕ) (chunk : Option Chunk) (last : Option Last) (row : TaskRow) → IsNamed s number try_no row → try_no ≡ 1 → (r : Option Attempt) → row.attempt ≡ r →
       Stands s who m (ask.Update name number try_no chunk last) (with r rule.NoTask (report_on s bot row chunk last))
   report_stands number try_no chunk last row f one None is = tt
   report_stands number try_no chunk last row f one (Some attempt) is =
-      by_when P (not (attempt.bot == bot.no)) (not_claimant s attempt) (report bot row chunk last attempt) (λ t. tt) (λ t.
-      by_when P (is_final row.state) (report_again bot row chunk last attempt) _ (λ g. cond_both (is_kept attempt chunk last) _ _ P (λ k. heard request (reply.Updated attempt.kill)) (λ k. tt)) (λ g.
-      by_when P (is_some last) (updates attempt (kind.Update bot.no row.no attempt.try_no chunk last)) (updates attempt (kind.Contact bot.no)) (λ l.
+      by_when P (not (attempt.bot == bot.no)) (not_claimant s attempt) (report s bot row chunk last attempt) (λ t. tt) (λ t.
+      by_when P (is_final row.state) (report_again bot row chunk last attempt) (report_running s bot row chunk last attempt)
+      (λ g. cond_both (is_kept attempt chunk last) _ _ P (λ k. heard request (reply.Updated attempt.kill)) (λ k. tt)) (λ g.
+      by_map P refusal (option_and_then (chunk_rule attempt) chunk) _ (λ why e. tt) (λ in_turn.
+      by_map P file_missing (missing_file s (files_of last)) _ (λ file e. tt) (λ has_files.
+      by_map P (λ (c : Chunk). store_full s c.size) (unplaced_chunk s (fresh_chunk (Some attempt) chunk)) _ (λ c e. tt) (λ has_place.
+      by_when P (is_news attempt chunk last) (updates attempt (kind.Update bot.no row.no attempt.try_no chunk last)) (updates attempt (kind.Contact bot.no)) (λ l.
       inl (record {
         asked = update_of row.no attempt.try_no chunk last bot;
         is = by_row (update_of row.no attempt.try_no chunk last);
@@ -168,7 +176,7 @@ module _ (s : PoolState) (o : IsSound s) (who : List ℕ) (m : ℕ) (name : List
             ∙ ap (λ (n : ℕ). ask.Update name number n chunk last) (try_is try_no row.attempt attempt one is f.has);
         alike = refl;
         no_deadline = refl;
-      })) (λ l. heard request (reply.Updated attempt.kill))))
+      })) (λ l. heard request (reply.Updated attempt.kill)))))))
     where
       request : Request
       request = ask.Update name number try_no chunk last
@@ -217,14 +225,40 @@ result_stands : (s : PoolState) (who : List ℕ) (m number try_no : ℕ) (row : 
 result_stands s who m number try_no row =
     by_when (Stands s who m (ask.Result number try_no)) (not (may s who permission.ListTasks row)) (denied s permission.ListTasks) _ (λ t. tt) (λ t. tt)
 
+-- nor does a part of an output
+stdout_stands : (s : PoolState) (who : List ℕ) (m number try_no offset most : ℕ) (row : TaskRow) → Stands s who m (ask.Stdout number try_no offset most) (stdout_of s who offset most row)
+stdout_stands s who m number try_no offset most row =
+    by_when P (not (may s who permission.ListTasks row)) (denied s permission.ListTasks) _ (λ t. tt) (λ t.
+    by_map P output_gone (find (lacks_chunk s) (chunks_within offset (offset + most) (chunks_shown s row))) _ (λ chunk e. tt) (λ e. tt))
+  where
+    P : Decision → Type 0
+    P = Stands s who m (ask.Stdout number try_no offset most)
+
+-- a blob that is put stands for itself
+put_stands : (s : PoolState) (who : List ℕ) (m : ℕ) (named actual : List ℕ) (size : ℕ) → Stands s who m (ask.PutBlob named actual size) (put_blob s named actual size)
+put_stands s who m named actual size =
+    by_when P (not (same actual named)) (refusal (rule.DigestDiffers actual)) _ (λ t. tt) (λ t.
+    by_when P (not (can_take s named size)) (store_full s size) (reply_with_entry (reply.Put (is_none (blob_of s named))) (kind.Put named size)) (λ f. tt) (λ f.
+    inl (record {
+      asked = by_nobody (ask.PutBlob named named size);
+      is = refl;
+      same_request = ap (λ (digest : List ℕ). ask.PutBlob named digest size) (sym (same_is actual named (not_not (same actual named) t)));
+      alike = refl;
+      no_deadline = refl;
+    })))
+  where
+    P : Decision → Type 0
+    P = Stands s who m (ask.PutBlob named actual size)
+
 -- what an answer adds stands for the request, or for another one that adds it
 pub tell_stands : (s : PoolState) (who : List ℕ) (m : ℕ) (request : Request) → IsSound s → IsTrue (fits s.settings request) → Stands s who m request (decide s who m request)
 tell_stands s who m (ask.New task) o may =
     by_map P (resubmitted task) (sent s who task.request_uuid) _ (λ row e. cond_both (same_task row.request task) _ _ P (λ t. tt) (λ t. tt)) (λ unsent.
+    by_map P file_missing (missing_file s (inputs_of task.task_slices)) _ (λ file e. tt) (λ has_inputs.
     by_when P (nat_le s.settings.most_tasks (length s.tasks)) (tasks_full s) _ (λ t. tt) (λ t.
     by_map P (reuse_outcome s who task) (reuse s m task.task_slices) (accepted s who task)
     (λ found e. inl (record { asked = record { who = who; request = ask.New task }; is = refl; same_request = refl; alike = refl; no_deadline = refl })) (λ e.
-    new_stands s who m task (admit s task.task_slices 0))))
+    new_stands s who m task (admit s task.task_slices 0)))))
   where
     P : Decision → Type 0
     P = Stands s who m (ask.New task)
@@ -232,6 +266,8 @@ tell_stands s who m (ask.Cancel number try_no kill) o may =
     by_with (Stands s who m (ask.Cancel number try_no kill)) (named_task s number try_no) rule.NoTask (cancel s who kill) tt
     (λ row e. cancel_stands s o who m number try_no kill may row (named_is s number try_no row e))
 tell_stands s who m (ask.Result task try_no) o may = by_with (Stands s who m (ask.Result task try_no)) (named_task s task try_no) rule.NoTask (result_of s who) tt (λ row e. result_stands s who m task try_no row)
+tell_stands s who m (ask.Stdout task try_no offset most) o may =
+    by_with (Stands s who m (ask.Stdout task try_no offset most)) (named_task s task try_no) rule.NoTask (stdout_of s who offset most) tt (λ row e. stdout_stands s who m task try_no offset most row)
 tell_stands s who m (ask.List state limit below) o may = tt
 tell_stands s who m (ask.Count state) o may = tt
 tell_stands s who m (ask.Handshake name session dims q) o may =
@@ -253,3 +289,6 @@ tell_stands s who m (ask.Update name number try_no chunk last) o may =
 tell_stands s who m (ask.Terminate name) o may = by_with (Stands s who m (ask.Terminate name)) (bot_named s name) rule.NoBot terminate tt (λ bot e. terminate_stands s o who m name bot e)
 tell_stands s who m (ask.Bots limit after) o may = tt
 tell_stands s who m (ask.Bot name) o may = by_with (Stands s who m (ask.Bot name)) (bot_named s name) rule.NoBot (show_bot s) tt (λ bot e. tt)
+tell_stands s who m (ask.PutBlob named actual size) o may = put_stands s who m named actual size
+tell_stands s who m (ask.GetBlob digest) o may = by_with (Stands s who m (ask.GetBlob digest)) (blob_of s digest) (rule.BlobMissing digest) show_blob tt (λ blob e. tt)
+tell_stands s who m (ask.FindMissing blobs) o may = tt

@@ -67,6 +67,7 @@ settled_is : (s : PoolState) (c : Cause) (number : ℕ) → is_deadline (settled
 settled_is s cause.Slice number = refl
 settled_is s cause.Silence number = refl
 settled_is s cause.Bot number = refl
+settled_is s cause.Blob number = refl
 
 -- an entry that is due is of a deadline that has come, by the pass that settles it
 pub due_settled : (s : PoolState) (moment pass : ℕ) (e : Entry) → due_entry s moment pass ≡ Some e → IsSettled pass moment e

@@ -4,6 +4,7 @@ pub mod Answering
 pub mod Preconditions
 mod Reusing
 pub mod EntryPreconditions
+pub mod Outputs
 pub mod Rows
 pub mod Tasks
 pub mod Bots
@@ -11,6 +12,9 @@ pub mod Runs
 pub mod Numbers
 pub mod Claimed
 pub mod UuidLaw
+mod BlobLists
+pub mod BlobChanges
+pub mod Blobs
 pub mod Moments
 mod Limits
 mod Names
@@ -29,10 +33,13 @@ mod Order
 pub mod ClaimLaw
 pub mod Shown
 pub mod Refusals
+pub mod Carrying
 pub mod Repeating
 mod DueLaw
 mod SourceLaw
 pub mod RepeatLaws
 pub mod OutcomeLaw
+mod OutputLaw
+pub mod BlobLaws
 pub mod MachineLaws
 mod Worked

@@ -11,7 +11,7 @@ use Rattle.swarm_model.specs.Claims.{IsRightClaim}
 use Rattle.swarm_model.specs.Deadlines.{due_entry}
 use Rattle.swarm_model.specs.Effects.{opening, after}
 use Rattle.swarm_model.specs.History.{replay, MayFollow, tally}
-use Rattle.swarm_model.specs.MachineState.{MachineState, IsHistory, IsRight, KeepsFinals, ShowsVerdict, ActsOnce, TakesOutcome}
+use Rattle.swarm_model.specs.MachineState.{MachineState, IsHistory, IsRight, KeepsFinals, ShowsVerdict, ShowsOutput, ActsOnce, TakesOutcome}
 use Rattle.swarm_model.specs.Soundness.{IsSound}
 use Rattle.swarm_model.specs.Verdicts.{is_new, verdict, verdict_tally}
 use Rattle.swarm_laws.proofs.Lists.{Among, all}
@@ -22,6 +22,7 @@ use Rattle.swarm_laws.proofs.Sound.{sound_always}
 use Rattle.swarm_laws.proofs.Legality.{answer_follows}
 use Rattle.swarm_laws.proofs.Repeating.{acts_once}
 use Rattle.swarm_laws.proofs.OutcomeLaw.{new_source}
+use Rattle.swarm_laws.proofs.OutputLaw.{tell_output}
 use Rattle.swarm_laws.proofs.ClaimLaw.{claims_right}
 use Rattle.swarm_laws.proofs.VerdictLaw.{verdict_is_state}
 use Rattle.swarm_laws.proofs.Finals.{final_through}
@@ -56,6 +57,10 @@ module _ (kept : MachineState) (h : IsHistory kept) where
   -- what is sent again adds at most a contact
   pub repeats_once : (who : List ℕ) (moment pass : ℕ) (request : Request) → ActsOnce kept who request (answer kept.pool who moment pass request).entry
   repeats_once who moment pass request = acts_once kept is_sound who moment pass request
+
+  -- the parts of an output are the bytes that were asked for
+  pub shows_output : (who : List ℕ) (moment pass : ℕ) (request : Request) → ShowsOutput kept request (answer kept.pool who moment pass request).reply
+  shows_output who moment pass request = tell_output kept is_sound who moment request
 
   -- an outcome that a new task takes is there
   pub takes_outcome : (who : List ℕ) (moment pass : ℕ) (request : Request) → kept.pool.last ≤ moment → moment ≤ 2 ^ 40 → due_entry kept.pool moment pass ≡ None →

@@ -5,7 +5,8 @@ use Rattle.std.specs.List.{All}
 use Rattle.std.specs.Option.{option_map, option_map_or, option_and_then}
 use Rattle.std.proofs.lemmas.Bool.{cond_both, eqb-false}
 use Rattle.std.proofs.lemmas.Option.{same_Some}
-use Rattle.std.proofs.lemmas.List.Elements.{All-append}
+use Rattle.std.proofs.lemmas.List.Elements.{All-append, All-map}
+use Rattle.blob_rows.specs.declared.blob_row.BlobRow.{BlobRow}
 use Rattle.task_props.specs.declared.slice.Slice.{Slice}
 use Rattle.swarm_model.specs.declared.task_state.TaskState.TheVariants.{BotDied}
 use Rattle.swarm_model.specs.declared.attempt.Attempt.{Attempt}
@@ -23,18 +24,19 @@ use Rattle.swarm_model.specs.declared.entry.EventKind.TheVariants as event
 use Rattle.swarm_model.specs.declared.entry.Outcome.TheVariants as outcome
 use Rattle.swarm_model.specs.Finding.{is_bot, bot_of}
 use Rattle.swarm_model.specs.Slices.{admit, current_slice}
-use Rattle.swarm_model.specs.Deadlines.{slice_limit, slice_end, silence_limit, silence_end, bot_end, next_of, last_state}
+use Rattle.swarm_model.specs.Deadlines.{slice_limit, slice_end, silence_limit, silence_end, bot_end, blob_end, next_of, last_state}
 use Rattle.swarm_model.specs.Effects.{task_after, added_tasks, bot_after, added_bots, new_row, expired_slice, lost_run, ended_run, end_state, session_row, assigned_bot, event_effect, after}
 use Rattle.swarm_model.specs.History.{MayFollow}
 use Rattle.swarm_model.specs.Soundness.{IsSound, runner}
-use Rattle.swarm_laws.proofs.Lists.{Among, Found, each, all, each_one, among_left, among_right, find_is, from_filter_map, all_filter_map}
+use Rattle.swarm_laws.proofs.Lists.{Among, Found, each, all, each_one, among_left, among_right, among_map, find_is, from_filter_map, all_filter_map}
 use Rattle.swarm_laws.proofs.Earliest.{Ahead, ahead_of_next}
 use Rattle.swarm_laws.proofs.Preconditions.{Finds, waits, runs}
 use Rattle.swarm_laws.proofs.EntryPreconditions.{IsFitting, finds, fitting}
 use Rattle.swarm_laws.proofs.Rows.{task_by, bot_by, all_tasks, all_bots, find_bot}
-use Rattle.swarm_laws.proofs.Tasks.{end_final, finished_final, last_final, not_pending, runner_lost, runner_marked, runner_finished, runner_moved, added_idle}
+use Rattle.swarm_laws.proofs.Tasks.{end_final, finished_final, last_final, not_pending, runner_lost, runner_marked, runner_longer, runner_finished, runner_moved, added_idle}
 use Rattle.swarm_laws.proofs.Bots.{settings_same}
 use Rattle.swarm_laws.proofs.Numbers.{bot_no}
+use Rattle.swarm_laws.proofs.Blobs.{blobs_ahead}
 
 -- a bot that told of itself was heard at that moment
 event_effect_contact : (m : ℕ) (e : EventKind) (text : List ℕ) (x : BotRow) → (event_effect m e text x).contact ≡ m
@@ -94,11 +96,16 @@ BotAhead life m x = x.dead ≡ false → m ≤ x.contact + life
 bot_fresh : (life m : ℕ) (x : BotRow) → x.contact ≡ m → BotAhead life m x
 bot_fresh life m x e h = omega (arith, e)
 
+-- a blob
+abbrev BlobAhead : ℕ → BlobRow → Type 0
+BlobAhead m x = m ≤ x.deadline
+
 -- the deadlines of the pool, by its rows
 record RowsAhead (m : ℕ) (s : PoolState) : Type 0 where
   slices : (x : TaskRow) → Among x s.tasks → SliceAhead m x
   pairs : (b : BotRow) → Among b s.bots → (x : TaskRow) → Among x s.tasks → PairAhead m b x
   bots : (b : BotRow) → Among b s.bots → BotAhead s.settings.death_timeout_secs m b
+  blobs : (b : BlobRow) → Among b s.blobs → BlobAhead m b
 
 -- from deadlines to rows
 
@@ -124,26 +131,30 @@ rows_ahead s m o h =
       slices = from_filter_map slice_end P s.tasks (all_left P (filter_map slice_end s.tasks) others h);
       pairs = λ b c x a r. pair_by b c x a r;
       bots = λ b c alive. bot_by_end b c alive;
+      blobs = λ b c. each P (map blob_end s.blobs) (all_right P (filter_map (bot_end s) s.bots) (map blob_end s.blobs) of_bots) (blob_end b) (among_map blob_end s.blobs b c);
     }
   where
     P : Deadline → Type 0
     P d = m ≤ d.moment
 
     others : List Deadline
-    others = filter_map (silence_end s) s.tasks ++ filter_map (bot_end s) s.bots
+    others = filter_map (silence_end s) s.tasks ++ (filter_map (bot_end s) s.bots ++ map blob_end s.blobs)
 
     rest : All P others
     rest = all_right P (filter_map slice_end s.tasks) others h
 
+    of_bots : All P (filter_map (bot_end s) s.bots ++ map blob_end s.blobs)
+    of_bots = all_right P (filter_map (silence_end s) s.tasks) (filter_map (bot_end s) s.bots ++ map blob_end s.blobs) rest
+
     pair_by : (b : BotRow) → Among b s.bots → (x : TaskRow) → Among x s.tasks → PairAhead m b x
     pair_by b c x a r =
-        (let silence : IfSome (silence_end s x) P = from_filter_map (silence_end s) P s.tasks (all_left P (filter_map (silence_end s) s.tasks) (filter_map (bot_end s) s.bots) rest) x a in
+        (let silence : IfSome (silence_end s x) P = from_filter_map (silence_end s) P s.tasks (all_left P (filter_map (silence_end s) s.tasks) (filter_map (bot_end s) s.bots ++ map blob_end s.blobs) rest) x a in
         subst (λ (d : Option Deadline). IfSome d P) (silence_of s x b (find_bot s o b b.no c refl) (runs x) x.attempt r) silence)
 
     bot_by_end : (b : BotRow) → Among b s.bots → BotAhead s.settings.death_timeout_secs m b
     bot_by_end b c alive =
         (let d : Deadline = record { moment = b.contact + s.settings.death_timeout_secs; cause = cause.Bot; number = b.no } in
-        let end : IfSome (bot_end s b) P = from_filter_map (bot_end s) P s.bots (all_right P (filter_map (silence_end s) s.tasks) (filter_map (bot_end s) s.bots) rest) b c in
+        let end : IfSome (bot_end s b) P = from_filter_map (bot_end s) P s.bots (all_left P (filter_map (bot_end s) s.bots) (map blob_end s.blobs) of_bots) b c in
         subst (λ (dead : Bool). IfSome (if dead then None else Some d) P) alive end)
 
 -- and back
@@ -164,9 +175,11 @@ pair_back s m x true (Some a) p = by_bot (bot_of s a.bot) refl
 ahead_rows : (s : PoolState) (m : ℕ) → RowsAhead m s → Ahead m s
 ahead_rows s m r =
     All-append P (filter_map slice_end s.tasks) _ (all_filter_map slice_end P s.tasks r.slices)
-    (All-append P (filter_map (silence_end s) s.tasks) (filter_map (bot_end s) s.bots)
+    (All-append P (filter_map (silence_end s) s.tasks) _
     (all_filter_map (silence_end s) P s.tasks (λ x a. pair_back s m x (runs x) x.attempt (λ b c e. r.pairs b c x a e)))
-    (all_filter_map (bot_end s) P s.bots (λ b c. cond_both b.dead None _ (λ (d : Option Deadline). IfSome d P) (λ t. tt) (λ t. r.bots b c t))))
+    (All-append P (filter_map (bot_end s) s.bots) (map blob_end s.blobs)
+    (all_filter_map (bot_end s) P s.bots (λ b c. cond_both b.dead None _ (λ (d : Option Deadline). IfSome d P) (λ t. tt) (λ t. r.bots b c t)))
+    (All-map P blob_end s.blobs (all (BlobAhead m) s.blobs r.blobs))))
   where
     P : Deadline → Type 0
     P d = m ≤ d.moment
@@ -191,7 +204,8 @@ module _ (s : PoolState) (m : ℕ) (k : EntryKind) (o : IsSound s) (f : Finds s 
         begins = λ b t id is found w. tt;
         cancels = λ w. tt;
         marks = λ w. r.slices x a;
-        finishes = λ last w. slice_none m (ended_run m None last x) (not_pending (ended_run m None last x).state (finished_final m last x));
+        grows = λ chunk grown w. r.slices x a;
+        finishes = λ chunk last y w p. slice_none m (ended_run m chunk last y) (not_pending (ended_run m chunk last y).state (finished_final m chunk last y));
       }))
       (added_slice m k)
 
@@ -226,7 +240,8 @@ module _ (s : PoolState) (m : ℕ) (k : EntryKind) (o : IsSound s) (f : Finds s 
         loses = λ w r. absurd (cc (r, runner_lost m x));
         cancels = λ w r. absurd (cc (r));
         marks = λ w r. contact_ahead b c x.request.bot_ping_tolerance_secs (h (sym (runner_marked x) ∙ r ∙ ap (λ n. Some n) (bot_no s m k o f g b c)));
-        finishes = λ last w r. absurd (cc (r, runner_finished m last x));
+        grows = λ chunk grown w r. contact_ahead b c x.request.bot_ping_tolerance_secs (h (sym (runner_longer chunk x) ∙ r ∙ ap (λ n. Some n) (bot_no s m k o f g b c)));
+        finishes = λ chunk last y w p r. absurd (cc (r, runner_finished m chunk last y));
         begins = λ n t id is found w r. begun_ahead b x.request.bot_ping_tolerance_secs n t id is (sym (same_Some _ _ r ∙ bot_no s m k o f g b c));
       })
 
@@ -268,4 +283,5 @@ ahead_after s e o follows =
       pairs = λ b c. each (PairAhead e.moment b) t.tasks (each (λ (x : BotRow). All (PairAhead e.moment x) t.tasks) t.bots pairs b c);
       bots = subst (λ (settings : PoolSettings). (b : BotRow) → Among b t.bots → BotAhead settings.death_timeout_secs e.moment b) (sym (settings_same s e.moment e.kind))
           (each (BotAhead s.settings.death_timeout_secs e.moment) t.bots (bots_after s e.moment e.kind o f g s.settings.death_timeout_secs r.bots));
+      blobs = each (BlobAhead e.moment) t.blobs (blobs_ahead s e o follows (all (BlobAhead e.moment) s.blobs r.blobs));
     })

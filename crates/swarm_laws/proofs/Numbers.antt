@@ -24,7 +24,7 @@ use Rattle.swarm_laws.proofs.Rows.{task_by, bot_by, find_bot}
 
 -- no entry changes the number of a task
 pub task_no : (s : PoolState) (m : ℕ) (k : EntryKind) → IsSound s → Finds s k → (x : TaskRow) → Among x s.tasks → (task_after s m k x).no ≡ x.no
-task_no s m k o f x a = task_by (λ (y : TaskRow). y.no ≡ x.no) s m o x a k f (record { same = refl; moves = λ w. by_outcome (next_of s x); loses = λ w. refl; begins = λ b t id is found w. refl; cancels = λ w. refl; marks = λ w. refl; finishes = λ last w. refl })
+task_no s m k o f x a = task_by (λ (y : TaskRow). y.no ≡ x.no) s m o x a k f (record { same = refl; moves = λ w. by_outcome (next_of s x); loses = λ w. refl; begins = λ b t id is found w. refl; cancels = λ w. refl; marks = λ w. refl; grows = λ chunk g w. refl; finishes = λ chunk last y w e. e })
   where
     by_outcome : (to : Outcome) → (expired_slice m to x).no ≡ x.no
     by_outcome (outcome.Slice place) = refl

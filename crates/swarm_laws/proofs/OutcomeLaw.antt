@@ -57,7 +57,8 @@ source_same s m k o f x a =
       begins = λ b t id is found w. refl;
       cancels = λ w. refl;
       marks = λ w. refl;
-      finishes = λ last w. refl;
+      grows = λ chunk g w. refl;
+      finishes = λ chunk last y w e. e;
     })
   where
     by_outcome : (to : Outcome) → (expired_slice m to x).source ≡ x.source

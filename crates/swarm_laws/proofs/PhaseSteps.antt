@@ -6,6 +6,7 @@ use Rattle.std.proofs.lemmas.Option.{same_Some}
 use Rattle.dimensions.specs.declared.bot_dims.BotDims.{BotDims}
 use Rattle.dimensions.specs.Choosing.{when}
 use Rattle.swarm_model.specs.declared.task_state.TaskState.TheVariants.{BotDied}
+use Rattle.swarm_model.specs.declared.attempt.Chunk.{Chunk}
 use Rattle.swarm_model.specs.declared.attempt.Last.{Last}
 use Rattle.swarm_model.specs.declared.task_row.TaskRow.{TaskRow}
 use Rattle.swarm_model.specs.declared.bot_row.BotRow.{BotRow}
@@ -16,15 +17,15 @@ use Rattle.swarm_model.specs.declared.entry.Outcome.{Outcome}
 use Rattle.swarm_model.specs.declared.entry.Outcome.TheVariants as outcome
 use Rattle.swarm_model.specs.Slices.{admit}
 use Rattle.swarm_model.specs.Deadlines.{next_of, last_state}
-use Rattle.swarm_model.specs.Effects.{task_after, task_at, expired_slice, lost_run, lost_run_at, canceled, kill_marked, started_run, ended_run, reported, if_some, run_of_bot}
+use Rattle.swarm_model.specs.Effects.{task_after, task_at, expired_slice, lost_run, lost_run_at, canceled, kill_marked, started_run, lengthened, ended_run, fresh_chunk, attempt_of, reported, if_some, run_of_bot}
 use Rattle.swarm_model.specs.Soundness.{IsSound, runner}
 use Rattle.swarm_model.specs.Verdicts.{unless_killed}
 use Rattle.swarm_laws.proofs.Lists.{Among}
 use Rattle.swarm_laws.proofs.Preconditions.{Finds, IsOld, IsNewcomer, waits, runs}
-use Rattle.swarm_laws.proofs.Rows.{task_is, agree, find_bot, row_is, goes_to, claim_waits, update_runs, ended_task, lost_by, HasRun, run_is}
+use Rattle.swarm_laws.proofs.Rows.{task_is, agree, find_bot, row_is, goes_to, claim_waits, update_runs, reported_task, update_task, lost_by, HasRun, run_is}
 use Rattle.swarm_laws.proofs.Tasks.{last_final, reported_final}
 use Rattle.swarm_laws.proofs.Tracks.{final_same}
-use Rattle.swarm_laws.proofs.Phases.{Phase, Waiting, RunBy, Over, phase, next_phase, phase_after_end, turn_true, turn_false, or_true, over_final, phase_over, wait_state, run_waits, run_runner, run_stays, run_killed, run_ended}
+use Rattle.swarm_laws.proofs.Phases.{Phase, Waiting, RunBy, Over, phase, next_phase, phase_after_end, turn_true, turn_false, or_true, over_final, phase_over, wait_state, run_waits, run_runner, run_stays, run_killed, run_longer, run_ended}
 
 -- a task that waits
 
@@ -61,8 +62,9 @@ module _ (s : PoolState) (m : ℕ) (o : IsSound s) (x : TaskRow) (a : Among x s.
   wait_after (kind.Claim b t id) f =
       cond_both (x.no == t) (started_run m b id x) x (WaitNext x.no (kind.Claim b t id)) (λ n. rw (turn_true x.no t n) refl) (λ n. rw (turn_false x.no t n) p)
   wait_after (kind.Update b t try_no chunk last) f =
-      subst (λ (y : TaskRow). phase y ≡ Waiting) (sym (ended_task s m b t try_no chunk last f x))
-      (cond_both (x.no == t) (ended_run m None f.end x) x (λ (y : TaskRow). phase y ≡ Waiting) (λ n. absurd (no_run (row_is s o t runs (update_runs s o b t chunk last f) x a n))) (λ n. p))
+      (let fresh : Option Chunk = fresh_chunk (attempt_of s t) chunk in
+      subst (λ (y : TaskRow). phase y ≡ Waiting) (sym (update_task s m b t try_no chunk last x))
+      (cond_both (x.no == t) (reported_task m fresh chunk last x) x (λ (y : TaskRow). phase y ≡ Waiting) (λ n. absurd (no_run (row_is s o t runs (update_runs s o b t chunk last f) x a n))) (λ n. p)))
   wait_after entry f = p
 
 -- a task that runs on bot b
@@ -70,13 +72,21 @@ module _ (s : PoolState) (m : ℕ) (o : IsSound s) (x : TaskRow) (a : Among x s.
 abbrev RunNext : ℕ → EntryKind → ℕ → Bool → TaskRow → Type 0
 RunNext t k b q y = phase y ≡ next_phase t k (RunBy b q)
 
--- a report that ends it, or another run
-run_finished : (m t : ℕ) (last : Option Last) (end : Last) (b : ℕ) (q : Bool) (x : TaskRow) → last ≡ Some end → phase x ≡ RunBy b q →
-    phase (task_at t (ended_run m None end) x) ≡ phase_after_end q (option_and_then (λ (l : Last). when (t == x.no) (reported l)) last) (RunBy b (q || false))
-run_finished m t last end b q x is p =
-    rw is (cond_both (x.no == t) (ended_run m None end x) x (λ (y : TaskRow). phase y ≡ phase_after_end q (when (t == x.no) (reported end)) (RunBy b (q || false)))
-    (λ n. rw (turn_true x.no t n) (run_ended x b q (reported end) (ended_run m None end x).attempt (reported_final end) p))
-    (λ n. rw (turn_false x.no t n) (run_stays x b q p)))
+-- its output may go on
+run_grown : (fresh : Option Chunk) (b : ℕ) (q : Bool) (x : TaskRow) → phase x ≡ RunBy b q → phase (if_some lengthened fresh x) ≡ RunBy b q
+run_grown None b q x p = p
+run_grown (Some c) b q x p = run_longer c x.state x.attempt b q p
+
+-- a report of it, or of another run
+run_reported : (m t : ℕ) (fresh chunk : Option Chunk) (last : Option Last) (b : ℕ) (q : Bool) (x : TaskRow) → phase x ≡ RunBy b q →
+    phase (task_at t (reported_task m fresh chunk last) x) ≡ phase_after_end q (option_and_then (λ (l : Last). when (t == x.no) (reported l)) last) (RunBy b (q || false))
+run_reported m t fresh chunk None b q x p =
+    cond_both (x.no == t) (if_some lengthened fresh x) x (λ (y : TaskRow). phase y ≡ RunBy b (q || false)) (λ n. run_stays (if_some lengthened fresh x) b q (run_grown fresh b q x p)) (λ n. run_stays x b q p)
+run_reported m t fresh chunk (Some end) b q x p =
+    let y : TaskRow = if_some lengthened fresh x in
+    cond_both (x.no == t) (ended_run m chunk end y) x (λ (z : TaskRow). phase z ≡ phase_after_end q (when (t == x.no) (reported end)) (RunBy b (q || false)))
+    (λ n. rw (turn_true x.no t n) (run_ended y b q (reported end) (ended_run m chunk end y).attempt (reported_final end) (run_grown fresh b q x p)))
+    (λ n. rw (turn_false x.no t n) (run_stays x b q p))
 
 module _ (s : PoolState) (m : ℕ) (o : IsSound s) (x : TaskRow) (a : Among x s.tasks) (b : ℕ) (q : Bool) (p : phase x ≡ RunBy b q) where
   -- it waits no more
@@ -132,7 +142,7 @@ module _ (s : PoolState) (m : ℕ) (o : IsSound s) (x : TaskRow) (a : Among x s.
       cond_both (x.no == t) (started_run m c id x) x (RunNext x.no (kind.Claim c t id) b q) (λ n. absurd (no_wait (row_is s o t waits (claim_waits s c t id f) x a n))) (λ n. run_stays x b q p)
   run_after (kind.Update c t try_no chunk last) f =
       subst (λ (y : TaskRow). phase y ≡ phase_after_end q (option_and_then (λ (l : Last). when (t == x.no) (reported l)) last) (RunBy b (q || false)))
-      (sym (ended_task s m c t try_no chunk last f x)) (run_finished m t last f.end b q x f.ends p)
+      (sym (update_task s m c t try_no chunk last x)) (run_reported m t (fresh_chunk (attempt_of s t) chunk) chunk last b q x p)
   run_after entry f = run_stays x b q p
 
 -- each task

@@ -6,10 +6,11 @@ use Rattle.dimensions.specs.Choosing.{when}
 use Rattle.swarm_model.specs.declared.task_state.TaskState.{TaskState}
 use Rattle.swarm_model.specs.declared.task_state.TaskState.TheVariants.{Pending, Running, Canceled, Killed}
 use Rattle.swarm_model.specs.declared.attempt.Attempt.{Attempt}
+use Rattle.swarm_model.specs.declared.attempt.Chunk.{Chunk}
 use Rattle.swarm_model.specs.declared.task_row.TaskRow.{TaskRow}
 use Rattle.swarm_model.specs.declared.entry.EntryKind.{EntryKind}
 use Rattle.swarm_model.specs.Finding.{is_state, is_final}
-use Rattle.swarm_model.specs.Effects.{end_state, killed}
+use Rattle.swarm_model.specs.Effects.{end_state, killed, longer}
 use Rattle.swarm_model.specs.Soundness.{runner}
 use Rattle.swarm_model.specs.Verdicts.{run_end, is_kill, unless_killed, claimant, slice_state, is_cancel}
 use Rattle.swarm_laws.proofs.Preconditions.{waits}
@@ -135,6 +136,13 @@ run_killed Running (Some a) b q p = cc (p)
 run_killed Running None b q p = absurd (cc (p))
 run_killed Pending a b q p = absurd (cc (p))
 run_killed state attempt b q p = absurd (cc (p))
+
+-- a run whose output goes on
+pub run_longer : (chunk : Chunk) (state : TaskState) (attempt : Option Attempt) (b : ℕ) (q : Bool) → phase_in state attempt ≡ RunBy b q → phase_in state (option_map (longer chunk) attempt) ≡ RunBy b q
+run_longer chunk Running (Some a) b q p = cc (p)
+run_longer chunk Running None b q p = absurd (cc (p))
+run_longer chunk Pending a b q p = absurd (cc (p))
+run_longer chunk state attempt b q p = absurd (cc (p))
 
 -- the end of a run
 end_is : (attempt : Option Attempt) (b : ℕ) (q : Bool) (state : TaskState) → phase_in Running attempt ≡ RunBy b q → end_state attempt state ≡ unless_killed q state

@@ -1,8 +1,9 @@
 -- What an entry of each kind finds in the pool.
-use Rattle.std.proofs.Common.{◌≡◌, ℕ, ◌+◌, ◌<◌, Bool, true, false, List, ◌⊎◌, length, refl, Option, Some, None, IfSome}
+use Rattle.std.proofs.Common.{◌≡◌, ℕ, ◌+◌, ◌<◌, Bool, true, false, List, ◌⊎◌, length, Option, Some, None, IfSome}
 use Rattle.std.specs.Prelude.{⊤, slice_get}
-use Rattle.std.specs.Option.{option_map_or}
+use Rattle.std.specs.Option.{option_map_or, option_and_then}
 use Rattle.dimensions.specs.Alike.{same}
+use Rattle.blob_rows.specs.declared.blob_row.BlobRow.{BlobRow}
 use Rattle.task_props.specs.Canonical.{hash}
 use Rattle.task_props.specs.declared.new_task.NewTask.{NewTask}
 use Rattle.task_props.specs.declared.slice.Slice.{Slice}
@@ -19,12 +20,16 @@ use Rattle.swarm_model.specs.declared.entry.EntryKind.{EntryKind}
 use Rattle.swarm_model.specs.declared.entry.EntryKind.TheVariants as kind
 use Rattle.swarm_model.specs.declared.entry.Outcome.{Outcome}
 use Rattle.swarm_model.specs.declared.entry.Outcome.TheVariants as outcome
-use Rattle.swarm_model.specs.Finding.{has_state, is_state, is_final, task_of, bot_named}
+use Rattle.swarm_model.specs.Finding.{has_state, is_state, is_final, task_of, bot_named, blob_numbered}
 use Rattle.swarm_model.specs.Slices.{first}
 use Rattle.swarm_model.specs.Reuse.{sent, ended_well, ran_hash}
-use Rattle.swarm_model.specs.Answers.{run_on, claimed, unfit_of}
+use Rattle.swarm_model.specs.Answers.{run_on, claimed, unfit_of, chunk_rule, unplaced_chunk, is_news}
+use Rattle.swarm_model.specs.Blobs.{missing_file, can_take}
+use Rattle.swarm_model.specs.Effects.{fresh_chunk}
+use Rattle.swarm_model.specs.Fits.{fits_chunk}
+use Rattle.swarm_model.specs.Uses.{is_used}
+use Rattle.swarm_model.specs.Views.{files_of}
 use Rattle.swarm_model.specs.Deadlines.{next_of}
-use Rattle.swarm_laws.specs.Served.{is_served, ends_run}
 use Rattle.swarm_laws.proofs.Lists.{Among}
 
 -- a task of that number of which the test holds
@@ -87,23 +92,35 @@ pub record FindsClaim (s : PoolState) (b t : ℕ) (id : List ℕ) : Type 0 where
   pub gets : first s bot.dims ≡ Some task
   pub task_named : task.no ≡ t
 
--- the end of a run, which its own bot reports, without output
+-- the run of the bot that reports: its chunk, where it is no kept one, goes on from the output and has a place,
+-- its files are there, and it ends the run or brings a chunk
 pub record FindsUpdate (s : PoolState) (b t : ℕ) (chunk : Option Chunk) (last : Option Last) : Type 0 where
   pub bot : BotRow
   pub known : Among bot s.bots
   pub called : bot.no ≡ b
   pub task : TaskRow
+  pub there : task_of s t ≡ Some task
   pub among : Among task s.tasks
   pub named : task.no ≡ t
   pub goes_on : is_final task.state ≡ false
   pub attempt : Attempt
   pub attempted : task.attempt ≡ Some attempt
   pub by_bot : attempt.bot ≡ b
-  pub end : Last
-  pub ends : last ≡ Some end
-  pub no_output : chunk ≡ None
+  pub in_turn : option_and_then (chunk_rule attempt) chunk ≡ None
+  pub has_files : missing_file s (files_of last) ≡ None
+  pub has_place : unplaced_chunk s (fresh_chunk (Some attempt) chunk) ≡ None
+  pub is_new : is_news attempt chunk last ≡ true
+  pub fits : option_map_or fits_chunk chunk true ≡ true
 
--- nothing at all, where no request and no deadline adds the kind
+-- the blob whose deadline has come at a moment, which is kept where a task needs it
+pub record FindsBlob (s : PoolState) (m n : ℕ) (kept : Bool) : Type 0 where
+  pub blob : BlobRow
+  pub there : blob_numbered s n ≡ Some blob
+  pub among : Among blob s.blobs
+  pub named : blob.no ≡ n
+  pub come : blob.deadline ≡ m
+  pub used : kept ≡ is_used s blob.digest
+
 abbrev pub Finds : PoolState → EntryKind → Type 0
 Finds s (kind.Slice t to) = FindsSlice s t to
 Finds s (kind.Silence t) = HasTask s t runs
@@ -118,17 +135,5 @@ Finds s (kind.Contact b) = ⊤
 Finds s (kind.Event b e text) = ⊤
 Finds s (kind.Update b t try_no chunk last) = FindsUpdate s b t chunk last
 Finds s (kind.Terminate b) = ⊤
-Finds s entry = ⊥
-
--- the kind is served
-pub served_of : (s : PoolState) (k : EntryKind) → Finds s k → is_served k ≡ true
-served_of s (kind.Blob n kept) f = absurd f
-served_of s (kind.Put digest size) f = absurd f
-served_of s entry f = refl
-
--- and a report ends its run
-pub ends_of : (s : PoolState) (k : EntryKind) → Finds s k → ends_run k ≡ true
-ends_of s (kind.Update b t try_no chunk last) f = rw (f.no_output, f.ends) refl
-ends_of s (kind.Blob n kept) f = absurd f
-ends_of s (kind.Put digest size) f = absurd f
-ends_of s entry f = refl
+Finds s (kind.Put digest size) = can_take s digest size ≡ true
+Finds s (kind.Blob n kept) = ⊤

@@ -1,6 +1,7 @@
 -- A request that is refused adds no entry.
 use Rattle.std.specs.Prelude.{if◌then◌else◌, not, ◌&&◌, ◌==◌, nat_le, is_some, is_none}
-use Rattle.std.specs.Option.{option_map, option_map_or}
+use Rattle.std.specs.List.{find}
+use Rattle.std.specs.Option.{option_map, option_map_or, option_and_then}
 use Rattle.std.proofs.lemmas.Bool.{false≢true}
 use Rattle.std.proofs.Common.{◌≡◌, ◌+◌, length, ℕ, Bool, true, false, List, Option, Some, None, refl, ap, sym, ◌∙◌}
 use Rattle.dimensions.specs.declared.bot_dims.BotDims.{BotDims}
@@ -17,11 +18,16 @@ use Rattle.swarm_model.specs.declared.entry.EntryKind.{EntryKind}
 use Rattle.swarm_model.specs.declared.request.Request.{Request}
 use Rattle.swarm_model.specs.declared.request.Request.TheVariants as ask
 use Rattle.swarm_model.specs.declared.rule.Rule.{Rule}
+use Rattle.swarm_model.specs.declared.rule.Rule.TheVariants as rule
 use Rattle.swarm_model.specs.declared.reply.Reply.{Reply}
 use Rattle.swarm_model.specs.declared.reply.Reply.TheVariants as reply
 use Rattle.swarm_model.specs.declared.answer.Decision.{Decision}
 use Rattle.swarm_model.specs.Slices.{admit, current_slice, first}
-use Rattle.swarm_model.specs.Finding.{bot_named, has_state, is_final}
+use Rattle.swarm_model.specs.Blobs.{lacks_chunk, missing_file, inputs_of, can_take}
+use Rattle.swarm_model.specs.Effects.{fresh_chunk}
+use Rattle.swarm_model.specs.Output.{chunks_within}
+use Rattle.swarm_model.specs.Views.{files_of}
+use Rattle.swarm_model.specs.Finding.{bot_named, blob_of, has_state, is_final}
 use Rattle.swarm_model.specs.Reuse.{sent, reuse}
 use Rattle.swarm_model.specs.declared.permission.Permission.TheVariants as permission
 use Rattle.swarm_model.specs.declared.entry.EntryKind.TheVariants as kind
@@ -31,7 +37,7 @@ use Rattle.task_props.specs.Alike.{same_task}
 use Rattle.dimensions.specs.Alike.{same}
 use Rattle.dimensions.specs.Rules.{is_empty}
 use Rattle.swarm_model.specs.Words.{◌otherwise◌}
-use Rattle.swarm_model.specs.Answers.{reply_only, reply_with_entry, with, cancels, stop, cancel, denied, may, result_of, show_bot, resubmitted, tasks_full, reuse_outcome, accepted_at, new_task, known_bot, bots_full, handshake, polls, poll, sleep_secs, run, run_from, run_on, claim_again, claims, claim, claimed, unfit_of, busy, unfit_refusal, event, is_kept, updates, report_again, report, report_on, not_claimant, update_row, update, terminate, named_task, entry_at, decide}
+use Rattle.swarm_model.specs.Answers.{reply_only, reply_with_entry, with, cancels, stop, cancel, denied, may, result_of, show_bot, resubmitted, tasks_full, reuse_outcome, accepted_at, new_task, known_bot, bots_full, handshake, polls, poll, sleep_secs, run, run_from, run_on, claim_again, claims, claim, claimed, unfit_of, busy, unfit_refusal, event, is_kept, updates, refusal, file_missing, output_gone, chunks_shown, stdout_of, chunk_rule, store_full, unplaced_chunk, is_news, put_blob, show_blob, report_again, report, report_running, report_on, not_claimant, update_row, update, terminate, named_task, entry_at, decide}
 use Rattle.swarm_model.specs.declared.task_state.TaskState.TheVariants.{Pending, Running, Completed}
 use Rattle.swarm_model.specs.RefusalLaw.{RefusalsAddNothing}
 
@@ -84,10 +90,11 @@ quiet_new : (s : PoolState) (who : List ℕ) (moment : ℕ) (request : NewTask) 
 quiet_new s who moment request =
     quiet_otherwise (option_map (resubmitted request) (sent s who request.request_uuid)) _
     (quiet_map (resubmitted request) (sent s who request.request_uuid) (λ task. quiet_if (same_task task.request request) _ _ (quiet_says _) (quiet_says _)))
+    (quiet_otherwise (option_map file_missing (missing_file s (inputs_of request.task_slices))) _ (quiet_map file_missing (missing_file s (inputs_of request.task_slices)) (λ file. quiet_says _))
     (quiet_otherwise (when (nat_le s.settings.most_tasks (length s.tasks)) (tasks_full s)) _ (quiet_when (nat_le s.settings.most_tasks (length s.tasks)) (tasks_full s) (quiet_says _))
     (quiet_otherwise (option_map (reuse_outcome s who request) (reuse s moment request.task_slices)) _
     (quiet_map (reuse_outcome s who request) (reuse s moment request.task_slices) (λ found. quiet_reply (reply.New (length s.tasks + 1) Completed) _ refl))
-    (quiet_accepted s who request (admit s request.task_slices 0))))
+    (quiet_accepted s who request (admit s request.task_slices 0)))))
 
 quiet_stop : (kill : Bool) (task : TaskRow) → Quiet (stop kill task)
 quiet_stop true task = quiet_reply _ _ refl
@@ -105,6 +112,13 @@ quiet_result : (s : PoolState) (who : List ℕ) (task : TaskRow) → Quiet (resu
 quiet_result s who task =
     let b = not (may s who permission.ListTasks task) in
     quiet_otherwise (when b (denied s permission.ListTasks)) _ (quiet_when b (denied s permission.ListTasks) (quiet_says _)) (quiet_says _)
+
+quiet_stdout : (s : PoolState) (who : List ℕ) (offset most : ℕ) (task : TaskRow) → Quiet (stdout_of s who offset most task)
+quiet_stdout s who offset most task =
+    let b = not (may s who permission.ListTasks task) in
+    let gone = find (lacks_chunk s) (chunks_within offset (offset + most) (chunks_shown s task)) in
+    quiet_otherwise (when b (denied s permission.ListTasks)) _ (quiet_when b (denied s permission.ListTasks) (quiet_says _))
+    (quiet_otherwise (option_map output_gone gone) _ (quiet_map output_gone gone (λ chunk. quiet_says _)) (quiet_says _))
 
 -- ---- bots
 
@@ -152,19 +166,39 @@ quiet_event which message bot =
     let gone = bot.dead && is_none bot.task in
     quiet_otherwise (when gone (unfit_refusal unfit.Dead)) _ (quiet_when gone (unfit_refusal unfit.Dead) (quiet_says _)) (quiet_reply reply.Noted _ refl)
 
-quiet_report : (bot : BotRow) (task : TaskRow) (chunk : Option Chunk) (last : Option Last) (attempt : Attempt) → Quiet (report bot task chunk last attempt)
-quiet_report bot task chunk last attempt =
-    let decision = reply.Updated attempt.kill in
+quiet_running : (s : PoolState) (bot : BotRow) (task : TaskRow) (chunk : Option Chunk) (last : Option Last) (attempt : Attempt) → Quiet (report_running s bot task chunk last attempt)
+quiet_running s bot task chunk last attempt =
+    let broken = option_and_then (chunk_rule attempt) chunk in
+    let file = missing_file s (files_of last) in
+    let unplaced = unplaced_chunk s (fresh_chunk (Some attempt) chunk) in
+    let full : Chunk → Decision = λ c. store_full s c.size in
+    let news = is_news attempt chunk last in
+    let updated = updates attempt (kind.Update bot.no task.no attempt.try_no chunk last) in
+    quiet_otherwise (option_map refusal broken) _ (quiet_map refusal broken (λ why. quiet_says _))
+    (quiet_otherwise (option_map file_missing file) _ (quiet_map file_missing file (λ f. quiet_says _))
+    (quiet_otherwise (option_map full unplaced) _ (quiet_map full unplaced (λ c. quiet_says _))
+    (quiet_otherwise (when news updated) _ (quiet_when news updated (quiet_reply (reply.Updated attempt.kill) _ refl)) (quiet_reply (reply.Updated attempt.kill) _ refl))))
+
+quiet_report : (s : PoolState) (bot : BotRow) (task : TaskRow) (chunk : Option Chunk) (last : Option Last) (attempt : Attempt) → Quiet (report s bot task chunk last attempt)
+quiet_report s bot task chunk last attempt =
     let kept = report_again bot task chunk last attempt in
-    let ended = updates attempt (kind.Update bot.no task.no attempt.try_no chunk last) in
     quiet_otherwise (when (is_final task.state) kept) _
-    (quiet_when (is_final task.state) kept (quiet_if (is_kept attempt chunk last) _ _ (quiet_reply decision _ refl) (quiet_says _)))
-    (quiet_otherwise (when (is_some last) ended) _ (quiet_when (is_some last) ended (quiet_reply decision _ refl)) (quiet_reply decision _ refl))
+    (quiet_when (is_final task.state) kept (quiet_if (is_kept attempt chunk last) _ _ (quiet_reply (reply.Updated attempt.kill) _ refl) (quiet_says _)))
+    (quiet_running s bot task chunk last attempt)
 
 quiet_report_on : (s : PoolState) (bot : BotRow) (task : TaskRow) (chunk : Option Chunk) (last : Option Last) (attempt : Attempt) → Quiet (report_on s bot task chunk last attempt)
 quiet_report_on s bot task chunk last attempt =
     let other = not (attempt.bot == bot.no) in
-    quiet_otherwise (when other (not_claimant s attempt)) _ (quiet_when other (not_claimant s attempt) (quiet_says _)) (quiet_report bot task chunk last attempt)
+    quiet_otherwise (when other (not_claimant s attempt)) _ (quiet_when other (not_claimant s attempt) (quiet_says _)) (quiet_report s bot task chunk last attempt)
+
+-- ---- blobs
+
+quiet_put : (s : PoolState) (named actual : List ℕ) (size : ℕ) → Quiet (put_blob s named actual size)
+quiet_put s named actual size =
+    let other = not (same actual named) in
+    let full = not (can_take s named size) in
+    quiet_otherwise (when other (refusal (rule.DigestDiffers actual))) _ (quiet_when other (refusal (rule.DigestDiffers actual)) (quiet_says _))
+    (quiet_otherwise (when full (store_full s size)) _ (quiet_when full (store_full s size) (quiet_says _)) (quiet_reply (reply.Put (is_none (blob_of s named))) _ refl))
 
 -- ---- all requests
 
@@ -172,6 +206,7 @@ pub quiet : (s : PoolState) (who : List ℕ) (moment : ℕ) (request : Request) 
 quiet s who moment (ask.New request) = quiet_new s who moment request
 quiet s who moment (ask.Cancel task try_no kill) = quiet_with (named_task s task try_no) _ (cancel s who kill) (quiet_cancel s who kill)
 quiet s who moment (ask.Result task try_no) = quiet_with (named_task s task try_no) _ (result_of s who) (quiet_result s who)
+quiet s who moment (ask.Stdout task try_no offset most) = quiet_with (named_task s task try_no) _ (stdout_of s who offset most) (quiet_stdout s who offset most)
 quiet s who moment (ask.List state limit below) = quiet_says _
 quiet s who moment (ask.Count state) = quiet_says _
 quiet s who moment (ask.Handshake bot session dims quarantined) = quiet_handshake s bot session dims quarantined
@@ -185,6 +220,9 @@ quiet s who moment (ask.Terminate bot) =
     quiet_with (bot_named s bot) _ terminate (λ row. quiet_if row.terminating _ _ (quiet_says _) (quiet_reply reply.Terminating _ refl))
 quiet s who moment (ask.Bots limit after) = quiet_says _
 quiet s who moment (ask.Bot bot) = quiet_with (bot_named s bot) _ (show_bot s) (λ row. quiet_says _)
+quiet s who moment (ask.PutBlob named actual size) = quiet_put s named actual size
+quiet s who moment (ask.GetBlob digest) = quiet_with (blob_of s digest) _ show_blob (λ blob. quiet_says _)
+quiet s who moment (ask.FindMissing blobs) = quiet_says _
 
 -- so it is with the entry of an answer
 pub refusals_add_nothing : RefusalsAddNothing

@@ -1,6 +1,6 @@
 -- What comes of a request that is sent again.
 use Rattle.std.proofs.Common.{◌≡◌, ℕ, ◌==◌, ◌&&◌, ◌⊎◌, inl, inr, not, List, [], ◌∷◌, ◌++◌, map, map-id, refl, ap, ◌∙◌, cond, true, false, Bool, Option, Some, None, is_some}
-use Rattle.std.specs.Option.{option_map}
+use Rattle.std.specs.Option.{option_map, option_and_then}
 use Rattle.std.proofs.lemmas.Bool.{cond_both, eq-eqb}
 use Rattle.swarm_model.specs.declared.attempt.Attempt.{Attempt}
 use Rattle.swarm_model.specs.declared.attempt.Chunk.{Chunk}
@@ -15,13 +15,15 @@ use Rattle.swarm_model.specs.declared.task_row.TaskRow.{TaskRow}
 use Rattle.swarm_model.specs.declared.bot_row.BotRow.{BotRow}
 use Rattle.swarm_model.specs.declared.pool_state.PoolState.{PoolState}
 use Rattle.swarm_model.specs.Finding.{is_final, is_task}
-use Rattle.swarm_model.specs.Answers.{claimed, entry_at, with, reply_with_entry, updates, report, report_again, report_on, not_claimant, is_kept}
+use Rattle.swarm_model.specs.Answers.{claimed, entry_at, with, reply_with_entry, updates, refusal, file_missing, chunk_rule, store_full, unplaced_chunk, is_news, report, report_again, report_running, report_on, not_claimant, is_kept}
+use Rattle.swarm_model.specs.Blobs.{missing_file}
+use Rattle.swarm_model.specs.Views.{files_of}
 use Rattle.swarm_model.specs.Effects.{opening, heard, fresh_chunk}
 use Rattle.swarm_model.specs.History.{replay}
 use Rattle.swarm_model.specs.Soundness.{IsSound, runner, claim_key}
 use Rattle.swarm_model.specs.Reuse.{sent}
 use Rattle.swarm_model.specs.Repeats.{NewTaskAgain, UuidIsTaken, HasClaimed, ClaimAgain, ClaimIsOver, HandshakeAgain, UpdateAgain, UpdateIsOver, ContactChanges, only_heard}
-use Rattle.swarm_laws.proofs.Answering.{by_when}
+use Rattle.swarm_laws.proofs.Answering.{by_when, by_map}
 use Rattle.swarm_laws.proofs.Lists.{Found, find_is}
 use Rattle.swarm_laws.proofs.Tasks.{runner_final}
 use Rattle.swarm_laws.proofs.Claimed.{Key, key_in, claim_found}
@@ -82,14 +84,24 @@ handshake_law s who name session q dims moment pass bot named e = rw (named, is_
 abbrev SaysHeard : ℕ → Bool → Decision → Type 0
 SaysHeard b killed told = told.reply ≡ reply.Updated killed → told ≡ reply_with_entry (reply.Updated killed) (kind.Contact b)
 
--- where its run has ended, or it brings no end
-report_heard : (s : PoolState) (bot : BotRow) (task : TaskRow) (chunk : Option Chunk) (last : Option Last) (killed : Bool) (r : Option Attempt) → (is_final task.state ≡ true) ⊎ (last ≡ None) →
+-- a report says nothing new of a run that goes on, where it ends it not and brings no chunk
+pub no_news : (attempt : Attempt) (chunk : Option Chunk) (last : Option Last) (final : Bool) → final ≡ false → is_news attempt chunk last ≡ true → (final ≡ true) ⊎ ((fresh_chunk (Some attempt) chunk ≡ None) × (last ≡ None)) → ⊥
+no_news attempt chunk last final f news (inl ended) = cc (f, ended)
+no_news attempt chunk last final f news (inr both) = let quiet : is_news attempt chunk last ≡ false = rw (both.1, both.0) refl in cc (news, quiet)
+
+-- where its run has ended, or it says nothing new
+report_heard : (s : PoolState) (bot : BotRow) (task : TaskRow) (chunk : Option Chunk) (last : Option Last) (killed : Bool) (r : Option Attempt) → (is_final task.state ≡ true) ⊎ ((fresh_chunk r chunk ≡ None) × (last ≡ None)) →
     SaysHeard bot.no killed (with r rule.NoTask (report_on s bot task chunk last))
 report_heard s bot task chunk last killed None k = λ e. absurd (cc (e))
 report_heard s bot task chunk last killed (Some attempt) k =
-    by_when P (not (attempt.bot == bot.no)) (not_claimant s attempt) (report bot task chunk last attempt) (λ t e. absurd (cc (e))) (λ t.
-    by_when P (is_final task.state) (report_again bot task chunk last attempt) _ (λ f. cond_both (is_kept attempt chunk last) _ _ P (λ t e. heard_so e) (λ t e. absurd (cc (e)))) (λ f.
-    by_when P (is_some last) (updates attempt (kind.Update bot.no task.no attempt.try_no chunk last)) (updates attempt (kind.Contact bot.no)) (λ l. absurd (no_end f l k)) (λ l e. heard_so e)))
+    by_when P (not (attempt.bot == bot.no)) (not_claimant s attempt) (report s bot task chunk last attempt) (λ t e. absurd (cc (e))) (λ t.
+    by_when P (is_final task.state) (report_again bot task chunk last attempt) (report_running s bot task chunk last attempt)
+    (λ f. cond_both (is_kept attempt chunk last) _ _ P (λ t e. heard_so e) (λ t e. absurd (cc (e)))) (λ f.
+    by_map P refusal (option_and_then (chunk_rule attempt) chunk) _ (λ why g e. absurd (cc (e))) (λ in_turn.
+    by_map P file_missing (missing_file s (files_of last)) _ (λ file g e. absurd (cc (e))) (λ has_files.
+    by_map P (λ (c : Chunk). store_full s c.size) (unplaced_chunk s (fresh_chunk (Some attempt) chunk)) _ (λ c g e. absurd (cc (e))) (λ has_place.
+    by_when P (is_news attempt chunk last) (updates attempt (kind.Update bot.no task.no attempt.try_no chunk last)) (updates attempt (kind.Contact bot.no))
+    (λ l. absurd (no_news attempt chunk last (is_final task.state) f l k)) (λ l e. heard_so e))))))
   where
     P : Decision → Type 0
     P = SaysHeard bot.no killed
@@ -97,19 +109,11 @@ report_heard s bot task chunk last killed (Some attempt) k =
     heard_so : reply.Updated attempt.kill ≡ reply.Updated killed → updates attempt (kind.Contact bot.no) ≡ reply_with_entry (reply.Updated killed) (kind.Contact bot.no)
     heard_so e = ap (λ (z : Reply). reply_with_entry z (kind.Contact bot.no)) e
 
-    no_end : is_final task.state ≡ false → is_some last ≡ true → (is_final task.state ≡ true) ⊎ (last ≡ None) → ⊥
-    no_end f l (inl final) = cc (f, final)
-    no_end f l (inr none) = cc (l, ap is_some none)
-
--- the report of a run that has ended, or of no end
+-- the report of a run that has ended, or of no end and no new output
 pub update_again_law : UpdateAgain
 update_again_law s who name moment pass t try_no chunk last killed bot task named is taken k =
     rw (named, is) (ap (λ (told : Decision). let a : Answer = record { reply = told.reply; entry = option_map (entry_at moment pass) told.entry } in a)
-    (report_heard s bot task chunk last killed task.attempt (one_of k) (rw (named, is) at taken)))
-  where
-    one_of : (is_final task.state ≡ true) ⊎ ((fresh_chunk task.attempt chunk ≡ None) × (last ≡ None)) → (is_final task.state ≡ true) ⊎ (last ≡ None)
-    one_of (inl final) = inl final
-    one_of (inr both) = inr both.1
+    (report_heard s bot task chunk last killed task.attempt k (rw (named, is) at taken)))
 
 -- another report of a run that has ended
 pub update_over_law : UpdateIsOver

@@ -1,5 +1,5 @@
 -- Rows by their numbers, and what holds of them before and after an entry.
-use Rattle.std.proofs.Common.{◌≡◌, ℕ, ◌≤◌, ◌==◌, ◌&&◌, Bool, true, false, cond, List, [], ◌∷◌, ◌++◌, ◌⊎◌, inl, inr, map, length, length-append, refl, sym, ap, ◌∙◌, subst, arith, Option, Some, None, is_some, is_none, IsTrue, IsSomeAnd, eqb-true, filter}
+use Rattle.std.proofs.Common.{◌≡◌, ℕ, ◌≤◌, ◌==◌, ◌&&◌, Bool, true, false, cond, List, [], ◌∷◌, ◌++◌, ◌⊎◌, inl, inr, map, length, length-append, refl, sym, ap, ◌∙◌, subst, arith, Option, Some, None, is_some, is_none, IfSome, IsTrue, IsSomeAnd, eqb-true, filter}
 use Rattle.std.specs.Prelude.{if◌then◌else◌, unwrap_or}
 use Rattle.std.specs.List.{All, fold}
 use Rattle.std.specs.Option.{option_map, option_map_or, option_and_then}
@@ -23,11 +23,11 @@ use Rattle.swarm_model.specs.declared.entry.Outcome.{Outcome}
 use Rattle.swarm_model.specs.declared.entry.Outcome.TheVariants as outcome
 use Rattle.swarm_model.specs.declared.request.Request.TheVariants as ask
 use Rattle.swarm_model.specs.Finding.{is_state, is_final, is_bot, task_of, bot_of}
-use Rattle.swarm_model.specs.Fits.{fits, fits_message, is_name}
+use Rattle.swarm_model.specs.Fits.{fits, fits_chunk, fits_message, is_name}
 use Rattle.swarm_model.specs.Slices.{foremost, goes_before, waits_for, takes_slice, current_slice}
 use Rattle.swarm_model.specs.Deadlines.{next_of}
 use Rattle.swarm_model.specs.Entries.{poll_of, event_of, Asked}
-use Rattle.swarm_model.specs.Effects.{no_of_task, no_of_bot, task_after, added_tasks, bot_after, added_bots, task_at, bot_at, expired_slice, lost_run, lost_run_at, canceled, kill_marked, started_run, ended_run, fresh_chunk, chunk_at, attempt_of, if_some, run_of_bot, runs_task, silent_bot, dead_bot, session_row, polled, assigned_bot, heard, idle_bot, event_effect, terminated}
+use Rattle.swarm_model.specs.Effects.{no_of_task, no_of_bot, task_after, added_tasks, bot_after, added_bots, task_at, bot_at, expired_slice, lost_run, lost_run_at, canceled, kill_marked, started_run, lengthened, ended_run, ended_run_at, fresh_chunk, chunk_at, attempt_of, if_some, run_of_bot, runs_task, silent_bot, dead_bot, session_row, polled, assigned_bot, heard, idle_bot, event_effect, terminated}
 use Rattle.swarm_model.specs.Soundness.{IsSound, IsSoundTask, IsSoundBot, Agree, runner}
 use Rattle.swarm_laws.proofs.Alike.{same_is}
 use Rattle.swarm_laws.proofs.Lists.{Among, here, later, Found, each, all, each_append, each_map, find_is, filter_is, number_within, number_tells, number_finds}
@@ -132,21 +132,37 @@ run_is s b t e = by_bot (bot_of s b) refl e
     by_bot None g h = absurd (cc (h))
     by_bot (Some x) g h = (let f : Found (is_bot b) s.bots x = find_is (is_bot b) s.bots x g in record { bot = x; among = f.among; named = eqb-true x.no b f.passes; task = h })
 
--- what a report that ends a run does to the task, and to the bot
-module _ (s : PoolState) (m b t try_no : ℕ) (chunk : Option Chunk) (last : Option Last) (f : FindsUpdate s b t chunk last) where
-  pub ended_task : (x : TaskRow) → task_after s m (kind.Update b t try_no chunk last) x ≡ task_at t (ended_run m None f.end) x
-  ended_task x = rw (f.no_output, f.ends) (by_attempt (attempt_of s t))
-    where
-      by_attempt : (o : Option Attempt) → task_at t (ended_run m None f.end) (if_some (chunk_at t) (fresh_chunk o None) x) ≡ task_at t (ended_run m None f.end) x
-      by_attempt None = refl
-      by_attempt (Some a) = refl
+-- what a report does to the row of its task
+abbrev pub reported_task : ℕ → Option Chunk → Option Chunk → Option Last → TaskRow → TaskRow
+reported_task m fresh chunk last task = if_some (ended_run m chunk) last (if_some lengthened fresh task)
 
-  pub ended_bot : (x : BotRow) → bot_after m (kind.Update b t try_no chunk last) x ≡ bot_at b (relieved m) x
-  ended_bot x = rw f.ends (by_test (x.no == b) refl)
-    where
-      by_test : (c : Bool) → (x.no == b) ≡ c → bot_at b idle_bot (cond c (heard m x) x) ≡ cond c (relieved m x) x
-      by_test true e = rw e refl
-      by_test false e = rw e refl
+-- and to that of its bot
+abbrev pub reporting_bot : ℕ → Option Last → BotRow → BotRow
+reporting_bot m None bot = heard m bot
+reporting_bot m (Some last) bot = relieved m bot
+
+pub update_task : (s : PoolState) (m b t try_no : ℕ) (chunk : Option Chunk) (last : Option Last) (x : TaskRow) →
+    task_after s m (kind.Update b t try_no chunk last) x ≡ task_at t (reported_task m (fresh_chunk (attempt_of s t) chunk) chunk last) x
+update_task s m b t try_no chunk last x = by_test (x.no == t) refl last (fresh_chunk (attempt_of s t) chunk)
+  where
+    by_test : (c : Bool) → (x.no == t) ≡ c → (l : Option Last) (fresh : Option Chunk) →
+        if_some (ended_run_at m t chunk) l (if_some (chunk_at t) fresh x) ≡ cond c (reported_task m fresh chunk l x) x
+    by_test true e None None = refl
+    by_test true e None (Some c) = rw e refl
+    by_test true e (Some l) None = rw e refl
+    by_test true e (Some l) (Some c) = rw (e, e) refl
+    by_test false e None None = refl
+    by_test false e None (Some c) = rw e refl
+    by_test false e (Some l) None = rw e refl
+    by_test false e (Some l) (Some c) = rw (e, e) refl
+
+pub update_bot : (m b t try_no : ℕ) (chunk : Option Chunk) (last : Option Last) (x : BotRow) → bot_after m (kind.Update b t try_no chunk last) x ≡ bot_at b (reporting_bot m last) x
+update_bot m b t try_no chunk None x = refl
+update_bot m b t try_no chunk (Some last) x = by_test (x.no == b) refl
+  where
+    by_test : (c : Bool) → (x.no == b) ≡ c → bot_at b idle_bot (cond c (heard m x) x) ≡ cond c (relieved m x) x
+    by_test true e = rw e refl
+    by_test false e = rw e refl
 
 -- the bot that runs a task, from the parts of its row
 abbrev pub runner_in : TaskState → Option Attempt → Option ℕ
@@ -174,6 +190,29 @@ goes_on_runs s o b t chunk last f = by_state f.task.state f.task.attempt (task_i
 pub update_runs : (s : PoolState) → IsSound s → (b t : ℕ) (chunk : Option Chunk) (last : Option Last) → FindsUpdate s b t chunk last → HasTask s t runs
 update_runs s o b t chunk last f = record { task = f.task; among = f.among; named = f.named; passes = goes_on_runs s o b t chunk last f }
 
+-- a chunk goes on from the output of a task
+pub record GoesOn (chunk : Chunk) (x : TaskRow) : Type 0 where
+  pub attempt : Attempt
+  pub attempted : x.attempt ≡ Some attempt
+  pub begins : chunk.start ≡ attempt.length
+  pub fits : fits_chunk chunk ≡ true
+
+-- a chunk that is fresh does
+fresh_goes : (attempt : Attempt) (chunk : Option Chunk) (x : TaskRow) → x.attempt ≡ Some attempt → option_map_or fits_chunk chunk true ≡ true → IfSome (fresh_chunk (Some attempt) chunk) (λ c. GoesOn c x)
+fresh_goes attempt None x has fits = tt
+fresh_goes attempt (Some c) x has fits =
+    cond_both (c.start == attempt.length) (Some c) None (λ (r : Option Chunk). IfSome r (λ c. GoesOn c x))
+    (λ t. record { attempt = attempt; attempted = has; begins = eqb-true c.start attempt.length t; fits = fits }) (λ t. tt)
+
+-- so does that of a report
+pub report_goes : (s : PoolState) → IsSound s → (b t : ℕ) (chunk : Option Chunk) (last : Option Last) → FindsUpdate s b t chunk last → (x : TaskRow) → Among x s.tasks → (x.no == t) ≡ true →
+    IfSome (fresh_chunk (attempt_of s t) chunk) (λ c. GoesOn c x)
+report_goes s o b t chunk last f x a n =
+    let its : f.task ≡ x = one_task s o f.task x f.among a (f.named ∙ sym (eqb-true x.no t n)) in
+    let has : x.attempt ≡ Some f.attempt = ap (λ (y : TaskRow). y.attempt) (sym its) ∙ f.attempted in
+    let there : attempt_of s t ≡ Some f.attempt = ap (option_and_then (λ (y : TaskRow). y.attempt)) (find_task s o x t a (eqb-true x.no t n)) ∙ has in
+    subst (λ (r : Option Attempt). IfSome (fresh_chunk r chunk) (λ c. GoesOn c x)) (sym there) (fresh_goes f.attempt chunk x has f.fits)
+
 -- what a fact of a task needs so that an entry keeps it
 pub record Stays (P : TaskRow → Type 0) (s : PoolState) (m : ℕ) (k : EntryKind) (x : TaskRow) : Type 0 where
   pub same : P x
@@ -182,7 +221,8 @@ pub record Stays (P : TaskRow → Type 0) (s : PoolState) (m : ℕ) (k : EntryKi
   pub begins : (b t : ℕ) (id : List ℕ) → k ≡ kind.Claim b t id → FindsClaim s b t id → waits x ≡ true → P (started_run m b id x)
   pub cancels : waits x ≡ true → P (canceled m x)
   pub marks : runs x ≡ true → P (kill_marked x)
-  pub finishes : (last : Last) → runs x ≡ true → P (ended_run m None last x)
+  pub grows : (chunk : Chunk) → GoesOn chunk x → runs x ≡ true → P (lengthened chunk x)
+  pub finishes : (chunk : Option Chunk) (last : Last) (y : TaskRow) → runs y ≡ true → P y → P (ended_run m chunk last y)
 
 module _ (P : TaskRow → Type 0) (s : PoolState) (m : ℕ) (o : IsSound s) (x : TaskRow) (a : Among x s.tasks) where
   -- a task of a bot that comes anew is lost
@@ -193,7 +233,14 @@ module _ (P : TaskRow → Type 0) (s : PoolState) (m : ℕ) (o : IsSound s) (x :
       (λ n. let f : HasRun s b t = run_is s b t e in loses (has_runner x f.bot.no ((agree s o f.bot f.among x a).0 (f.task ∙ ap (λ j. Some j) (sym (eqb-true x.no t n))))))
       (λ n. same)
 
-  -- the row after an entry is as it was, or changed in one of six ways
+  -- the output of a run goes on, and then the run may end
+  reported_by : (k : EntryKind) → Stays P s m k x → runs x ≡ true → (fresh chunk : Option Chunk) (last : Option Last) → IfSome fresh (λ c. GoesOn c x) → P (reported_task m fresh chunk last x)
+  reported_by k p r None chunk None g = p.same
+  reported_by k p r None chunk (Some last) g = p.finishes chunk last x r p.same
+  reported_by k p r (Some c) chunk None g = p.grows c g r
+  reported_by k p r (Some c) chunk (Some last) g = p.finishes chunk last (lengthened c x) r (p.grows c g r)
+
+  -- the row after an entry is as it was, or changed in one of seven ways
   pub task_by : (k : EntryKind) → Finds s k → Stays P s m k x → P (task_after s m k x)
   task_by (kind.Slice t to) f p =
       cond_both (x.no == t) (expired_slice m to x) x P
@@ -206,8 +253,10 @@ module _ (P : TaskRow → Type 0) (s : PoolState) (m : ℕ) (o : IsSound s) (x :
   task_by (kind.Claim b t id) f p =
       cond_both (x.no == t) (started_run m b id x) x P (λ n. p.begins b t id refl f (row_is s o t waits (claim_waits s b t id f) x a n)) (λ n. p.same)
   task_by (kind.Update b t try_no chunk last) f p =
-      subst P (sym (ended_task s m b t try_no chunk last f x))
-      (cond_both (x.no == t) (ended_run m None f.end x) x P (λ n. p.finishes f.end (row_is s o t runs (update_runs s o b t chunk last f) x a n)) (λ n. p.same))
+      (let fresh : Option Chunk = fresh_chunk (attempt_of s t) chunk in
+      subst P (sym (update_task s m b t try_no chunk last x))
+      (cond_both (x.no == t) (reported_task m fresh chunk last x) x P (λ n.
+      reported_by (kind.Update b t try_no chunk last) p (row_is s o t runs (update_runs s o b t chunk last f) x a n) fresh chunk last (report_goes s o b t chunk last f x a n)) (λ n. p.same)))
   task_by entry f p = p.same
 
 -- what a fact of a bot needs so that an entry keeps it
@@ -247,7 +296,11 @@ module _ (P : BotRow → Type 0) (s : PoolState) (m : ℕ) (o : IsSound s) (x : 
   bot_by (kind.Claim b t id) f g = at_bot b (assigned_bot m t x) (λ n. p.busies b t id f)
   bot_by (kind.Contact b) f g = at_bot b (heard m x) (λ n. p.hears)
   bot_by (kind.Event b e text) f g = at_bot b (event_effect m e text x) (λ n. p.notes e text (and_parts (is_name x.name) (fits_message e text) (asked_of b (event_of e text) g n)).1)
-  bot_by (kind.Update b t try_no chunk last) f g = subst P (sym (ended_bot s m b t try_no chunk last f x)) (at_bot b (relieved m x) (λ n. p.rests))
+  bot_by (kind.Update b t try_no chunk last) f g = subst P (sym (update_bot m b t try_no chunk last x)) (at_bot b (reporting_bot m last x) (λ n. reporting last))
+    where
+      reporting : (l : Option Last) → P (reporting_bot m l x)
+      reporting None = p.hears
+      reporting (Some l) = p.rests
   bot_by (kind.Terminate b) f g = at_bot b (terminated x) (λ n. p.stops)
   bot_by entry f g = p.same
 

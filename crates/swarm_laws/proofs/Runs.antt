@@ -21,14 +21,14 @@ use Rattle.swarm_model.specs.declared.entry.Outcome.TheVariants as outcome
 use Rattle.swarm_model.specs.Finding.{task_of, bot_of}
 use Rattle.swarm_model.specs.Deadlines.{next_of}
 use Rattle.swarm_model.specs.Answers.{run_on}
-use Rattle.swarm_model.specs.Effects.{task_after, added_tasks, bot_after, added_bots, new_row, expired_slice, lost_run, lost_run_at, canceled, kill_marked, ended_run, task_at, started_run, if_some, run_of_bot, runs_task, bot_at, silent_bot, dead_bot, session_row, polled, assigned_bot, heard, event_effect, terminated, after}
+use Rattle.swarm_model.specs.Effects.{task_after, added_tasks, bot_after, added_bots, new_row, expired_slice, lost_run, lost_run_at, canceled, kill_marked, lengthened, fresh_chunk, attempt_of, task_at, started_run, if_some, run_of_bot, runs_task, bot_at, silent_bot, dead_bot, session_row, polled, assigned_bot, heard, event_effect, terminated, after}
 use Rattle.swarm_model.specs.History.{MayFollow}
 use Rattle.swarm_model.specs.Soundness.{IsSound, Agree, runner}
 use Rattle.swarm_laws.proofs.Lists.{Among, each_one, find_none}
 use Rattle.swarm_laws.proofs.Preconditions.{Finds, FindsUpdate, IsOld, IsNewcomer, waits}
 use Rattle.swarm_laws.proofs.EntryPreconditions.{finds}
-use Rattle.swarm_laws.proofs.Rows.{task_is, bot_is, agree, one_task, find_bot, relieved, ended_task, ended_bot, goes_on_runs, row_is, goes_to, claim_waits, HasRun, run_is, all_tasks, all_bots}
-use Rattle.swarm_laws.proofs.Tasks.{runner_waits, runner_lost, runner_marked, runner_finished, runner_moved, added_idle}
+use Rattle.swarm_laws.proofs.Rows.{task_is, bot_is, agree, one_task, find_bot, relieved, reported_task, reporting_bot, update_task, update_bot, goes_on_runs, row_is, goes_to, claim_waits, HasRun, run_is, all_tasks, all_bots}
+use Rattle.swarm_laws.proofs.Tasks.{runner_waits, runner_lost, runner_marked, runner_longer, runner_finished, runner_moved, added_idle}
 
 -- the fact on plain values: a bot's task, a task's number, the task's runner, the bot's number
 abbrev Same : Option ℕ → ℕ → Option ℕ → ℕ → Type 0
@@ -103,6 +103,18 @@ silent_bot_task : (c : Bool) (x : BotRow) → (cond c (silent_bot x) x).task ≡
 silent_bot_task true x = refl
 silent_bot_task false x = refl
 
+-- the number of a task of which a report comes
+reported_no : (m : ℕ) (fresh chunk : Option Chunk) (last : Option Last) (y : TaskRow) → (reported_task m fresh chunk last y).no ≡ y.no
+reported_no m None chunk None y = refl
+reported_no m (Some c) chunk None y = refl
+reported_no m None chunk (Some last) y = refl
+reported_no m (Some c) chunk (Some last) y = refl
+
+-- its runner, where its output may go on
+grown_runner : (fresh : Option Chunk) (y : TaskRow) → runner (if_some lengthened fresh y) ≡ runner y
+grown_runner None y = refl
+grown_runner (Some c) y = runner_longer c y
+
 -- a number below a bound
 within : (r : Option ℕ) (n k : ℕ) → IfSome r (λ t. t ≤ n) → r ≡ Some k → k ≤ n
 within None n k h e = absurd (cc (e))
@@ -163,20 +175,28 @@ module _ (s : PoolState) (o : IsSound s) where
   canceled_agree m x y w h =
       agree_by x (canceled m y) x.task None y.no x.no refl refl refl refl (subst (λ (r : Option ℕ). Same x.task y.no r x.no) (runner_waits y.state y.attempt w) h)
 
-  -- a task that a report ends runs on the bot that sends it
+  -- a task of which a report comes runs on the bot that sends it
   its_runner : (b t : ℕ) (chunk : Option Chunk) (last : Option Last) (f : FindsUpdate s b t chunk last) → runner f.task ≡ Some b
   its_runner b t chunk last f =
       ap (λ (c : Bool). cond c (option_map (λ (a : Attempt). a.bot) f.task.attempt) None) (goes_on_runs s o b t chunk last f)
       ∙ ap (option_map (λ (a : Attempt). a.bot)) f.attempted ∙ ap (λ n. Some n) f.by_bot
 
-  ended_agree : (m b t try_no : ℕ) (chunk : Option Chunk) (last : Option Last) → FindsUpdate s b t chunk last → (x : BotRow) → Among x s.bots → (y : TaskRow) → Among y s.tasks →
-      Agree (bot_after m (kind.Update b t try_no chunk last) x) (task_after s m (kind.Update b t try_no chunk last) y)
-  ended_agree m b t try_no chunk last f x a y c =
-      rw (ended_task s m b t try_no chunk last f y, ended_bot s m b t try_no chunk last f x)
-      (agree_by (bot_at b (relieved m) x) (task_at t (ended_run m None f.end) y) (cond (x.no == b) None x.task) (cond (y.no == t) None (runner y)) y.no x.no (task_of_at b (relieved m) x)
-      (task_no_at t (ended_run m None f.end) y refl) (runner_at t (ended_run m None f.end) y ∙ ap (λ z. cond (y.no == t) z (runner y)) (runner_finished m f.end y))
+  -- a report of it
+  reported_agree : (m b t : ℕ) (fresh chunk : Option Chunk) (last : Option Last) → FindsUpdate s b t chunk last → (x : BotRow) → Among x s.bots → (y : TaskRow) → Among y s.tasks → (end : Option Last) →
+      Agree (bot_at b (reporting_bot m end) x) (task_at t (reported_task m fresh chunk end) y)
+  reported_agree m b t fresh chunk last f x a y c None =
+      agree_by (bot_at b (heard m) x) (task_at t (reported_task m fresh chunk None) y) x.task (runner y) y.no x.no
+      (cond_both (x.no == b) (heard m x) x (λ (z : BotRow). z.task ≡ x.task) (λ n. refl) (λ n. refl))
+      (task_no_at t (reported_task m fresh chunk None) y (reported_no m fresh chunk None y))
+      (cond_both (y.no == t) (reported_task m fresh chunk None y) y (λ (z : TaskRow). runner z ≡ runner y) (λ n. grown_runner fresh y) (λ n. refl))
+      (cond_both (x.no == b) (heard m x) x (λ (z : BotRow). z.no ≡ x.no) (λ n. refl) (λ n. refl))
+      (agree s o x a y c)
+  reported_agree m b t fresh chunk last f x a y c (Some end) =
+      agree_by (bot_at b (relieved m) x) (task_at t (reported_task m fresh chunk (Some end)) y) (cond (x.no == b) None x.task) (cond (y.no == t) None (runner y)) y.no x.no (task_of_at b (relieved m) x)
+      (task_no_at t (reported_task m fresh chunk (Some end)) y (reported_no m fresh chunk (Some end) y))
+      (runner_at t (reported_task m fresh chunk (Some end)) y ∙ ap (λ z. cond (y.no == t) z (runner y)) (runner_finished m chunk end (if_some lengthened fresh y)))
       (cond_both (x.no == b) (relieved m x) x (λ (z : BotRow). z.no ≡ x.no) (λ n. refl) (λ n. refl))
-      (left b t x.no y.no x.task (runner y) (x.no == b) (y.no == t) refl refl (agree s o x a y c) its_task its_bot))
+      (left b t x.no y.no x.task (runner y) (x.no == b) (y.no == t) refl refl (agree s o x a y c) its_task its_bot)
     where
       its_task : x.no ≡ b → x.task ≡ Some t
       its_task p =
@@ -184,6 +204,12 @@ module _ (s : PoolState) (o : IsSound s) where
 
       its_bot : y.no ≡ t → runner y ≡ Some b
       its_bot p = ap runner (one_task s o y f.task c f.among (p ∙ sym f.named)) ∙ its_runner b t chunk last f
+
+  update_agree : (m b t try_no : ℕ) (chunk : Option Chunk) (last : Option Last) → FindsUpdate s b t chunk last → (x : BotRow) → Among x s.bots → (y : TaskRow) → Among y s.tasks →
+      Agree (bot_after m (kind.Update b t try_no chunk last) x) (task_after s m (kind.Update b t try_no chunk last) y)
+  update_agree m b t try_no chunk last f x a y c =
+      rw (update_task s m b t try_no chunk last y, update_bot m b t try_no chunk last x)
+      (reported_agree m b t (fresh_chunk (attempt_of s t) chunk) chunk last f x a y c last)
 
   -- rows that were there
   row_agree : (m : ℕ) (k : EntryKind) → Finds s k → (x : BotRow) → Among x s.bots → (y : TaskRow) → Among y s.tasks → Agree (bot_after m k x) (task_after s m k y)
@@ -211,7 +237,7 @@ module _ (s : PoolState) (o : IsSound s) where
       (λ p. runner_waits y.state y.attempt (row_is s o t waits (claim_waits s b t id f) y c (eq-eqb y.no t p))))
   row_agree m (kind.Contact b) f x a y c = cond_both (x.no == b) (heard m x) x (λ (z : BotRow). Agree z y) (λ n. agree s o x a y c) (λ n. agree s o x a y c)
   row_agree m (kind.Event b e text) f x a y c = cond_both (x.no == b) (event_effect m e text x) x (λ (z : BotRow). Agree z y) (λ n. event_effect_agree m e text x y (agree s o x a y c)) (λ n. agree s o x a y c)
-  row_agree m (kind.Update b t try_no chunk last) f x a y c = ended_agree m b t try_no chunk last f x a y c
+  row_agree m (kind.Update b t try_no chunk last) f x a y c = update_agree m b t try_no chunk last f x a y c
   row_agree m (kind.Terminate b) f x a y c = cond_both (x.no == b) (terminated x) x (λ (z : BotRow). Agree z y) (λ n. agree s o x a y c) (λ n. agree s o x a y c)
   row_agree m k f x a y c = agree s o x a y c
 

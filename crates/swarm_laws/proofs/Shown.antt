@@ -1,8 +1,8 @@
 -- What is shown of a task has the state that the log tells of it.
-use Rattle.std.proofs.Common.{◌≡◌, ℕ, ◌==◌, ◌&&◌, not, List, length, Bool, true, false, Option, Some, None, is_some, is_none}
+use Rattle.std.proofs.Common.{◌≡◌, ℕ, ◌+◌, ◌==◌, ◌&&◌, not, List, length, Bool, true, false, Option, Some, None, is_some, is_none}
 use Rattle.std.specs.Prelude.{nat_le}
-use Rattle.std.specs.Option.{option_map_or}
-use Rattle.std.specs.List.{All}
+use Rattle.std.specs.Option.{option_map_or, option_and_then}
+use Rattle.std.specs.List.{All, find}
 use Rattle.std.proofs.lemmas.Bool.{cond_both}
 use Rattle.std.proofs.lemmas.List.Elements.{All-map, All-take, All-filter}
 use Rattle.dimensions.specs.declared.bot_dims.BotDims.{BotDims}
@@ -27,12 +27,15 @@ use Rattle.swarm_model.specs.declared.rule.Rule.TheVariants as rule
 use Rattle.swarm_model.specs.declared.rule.Unfit.TheVariants as unfit
 use Rattle.swarm_model.specs.declared.reply.Reply.TheVariants as reply
 use Rattle.swarm_model.specs.declared.answer.Decision.{Decision}
-use Rattle.swarm_model.specs.Finding.{is_final, bot_named}
+use Rattle.swarm_model.specs.Blobs.{lacks_chunk, missing_file, inputs_of, can_take}
+use Rattle.swarm_model.specs.Effects.{fresh_chunk}
+use Rattle.swarm_model.specs.Output.{chunks_within}
+use Rattle.swarm_model.specs.Finding.{is_final, bot_named, blob_of}
 use Rattle.swarm_model.specs.Pages.{is_listed, listed_tasks}
-use Rattle.swarm_model.specs.Views.{view_of}
+use Rattle.swarm_model.specs.Views.{view_of, files_of}
 use Rattle.swarm_model.specs.Slices.{admit, current_slice, first}
 use Rattle.swarm_model.specs.Reuse.{sent, reuse}
-use Rattle.swarm_model.specs.Answers.{decide, reply_with_entry, resubmitted, reuse_outcome, accepted, accepted_at, tasks_full, named_task, result_of, list_tasks, show_bot, may, denied, cancel, cancel_row, stop, known_bot, handshake, poll, busy, run_on, run_from, claim, claim_again, claimed, claims, unfit_of, unfit_refusal, event, is_kept, updates, report, report_again, report_on, not_claimant, update, update_row, terminate}
+use Rattle.swarm_model.specs.Answers.{decide, reply_with_entry, resubmitted, reuse_outcome, accepted, accepted_at, tasks_full, named_task, result_of, list_tasks, show_bot, may, denied, cancel, cancel_row, stop, known_bot, handshake, poll, busy, run_on, run_from, claim, claim_again, claimed, claims, unfit_of, unfit_refusal, event, is_kept, updates, refusal, file_missing, output_gone, chunks_shown, stdout_of, chunk_rule, store_full, unplaced_chunk, is_news, put_blob, show_blob, report, report_again, report_running, report_on, not_claimant, update, update_row, terminate}
 use Rattle.swarm_model.specs.MachineState.{MachineState, HasVerdict, ShowsVerdict}
 use Rattle.swarm_model.specs.Verdicts.{verdict}
 use Rattle.swarm_laws.proofs.Answering.{by_when, by_map, by_with}
@@ -94,9 +97,22 @@ module _ (kept : MachineState)
 
   report_shows : (bot : BotRow) (task : TaskRow) (chunk : Option Chunk) (last : Option Last) (attempt : Attempt) → Shows (report_on s bot task chunk last attempt)
   report_shows bot task chunk last attempt =
-      by_when Shows (not (attempt.bot == bot.no)) (not_claimant s attempt) (report bot task chunk last attempt) (λ t. tt) (λ t.
-      by_when Shows (is_final task.state) (report_again bot task chunk last attempt) _ (λ f. cond_both (is_kept attempt chunk last) _ _ Shows (λ k. tt) (λ k. tt)) (λ f.
-      by_when Shows (is_some last) (updates attempt (kind.Update bot.no task.no attempt.try_no chunk last)) (updates attempt (kind.Contact bot.no)) (λ l. tt) (λ l. tt)))
+      by_when Shows (not (attempt.bot == bot.no)) (not_claimant s attempt) (report s bot task chunk last attempt) (λ t. tt) (λ t.
+      by_when Shows (is_final task.state) (report_again bot task chunk last attempt) (report_running s bot task chunk last attempt) (λ f. cond_both (is_kept attempt chunk last) _ _ Shows (λ k. tt) (λ k. tt)) (λ f.
+      by_map Shows refusal (option_and_then (chunk_rule attempt) chunk) _ (λ why e. tt) (λ in_turn.
+      by_map Shows file_missing (missing_file s (files_of last)) _ (λ file e. tt) (λ has_files.
+      by_map Shows (λ (c : Chunk). store_full s c.size) (unplaced_chunk s (fresh_chunk (Some attempt) chunk)) _ (λ c e. tt) (λ has_place.
+      by_when Shows (is_news attempt chunk last) (updates attempt (kind.Update bot.no task.no attempt.try_no chunk last)) (updates attempt (kind.Contact bot.no)) (λ l. tt) (λ l. tt))))))
+
+  stdout_shows : (who : List ℕ) (offset most : ℕ) (task : TaskRow) → Shows (stdout_of s who offset most task)
+  stdout_shows who offset most task =
+      by_when Shows (not (may s who permission.ListTasks task)) (denied s permission.ListTasks) _ (λ t. tt) (λ t.
+      by_map Shows output_gone (find (lacks_chunk s) (chunks_within offset (offset + most) (chunks_shown s task))) _ (λ chunk e. tt) (λ e. tt))
+
+  put_shows : (named actual : List ℕ) (size : ℕ) → Shows (put_blob s named actual size)
+  put_shows named actual size =
+      by_when Shows (not (same actual named)) (refusal (rule.DigestDiffers actual)) _ (λ t. tt) (λ t.
+      by_when Shows (not (can_take s named size)) (store_full s size) (reply_with_entry (reply.Put (is_none (blob_of s named))) (kind.Put named size)) (λ f. tt) (λ f. tt))
 
   -- each task of a page is one of the rows
   list_shows : (wanted : Option TaskState) (limit : ℕ) (below : Option ℕ) → Shows (list_tasks s limit (listed_tasks s wanted below))
@@ -111,11 +127,13 @@ module _ (kept : MachineState)
   pub tell_shows : (who : List ℕ) (m : ℕ) (request : Request) → Shows (decide s who m request)
   tell_shows who m (ask.New request) =
       by_map Shows (resubmitted request) (sent s who request.request_uuid) _ (λ row e. cond_both (same_task row.request request) _ _ Shows (λ t. tt) (λ t. tt)) (λ unsent.
+      by_map Shows file_missing (missing_file s (inputs_of request.task_slices)) _ (λ file e. tt) (λ has_inputs.
       by_when Shows (nat_le s.settings.most_tasks (length s.tasks)) (tasks_full s) _ (λ t. tt) (λ t.
-      by_map Shows (reuse_outcome s who request) (reuse s m request.task_slices) (accepted s who request) (λ found e. tt) (λ e. accepted_shows who request (admit s request.task_slices 0))))
+      by_map Shows (reuse_outcome s who request) (reuse s m request.task_slices) (accepted s who request) (λ found e. tt) (λ e. accepted_shows who request (admit s request.task_slices 0)))))
   tell_shows who m (ask.Cancel number try_no kill) = by_with Shows (named_task s number try_no) rule.NoTask (cancel s who kill) tt (λ task e. cancel_shows who kill task)
   tell_shows who m (ask.Result number try_no) = by_with Shows (named_task s number try_no) rule.NoTask (result_of s who) tt (λ task e.
       by_when Shows (not (may s who permission.ListTasks task)) (denied s permission.ListTasks) _ (λ t. tt) (λ t. tells number try_no task e))
+  tell_shows who m (ask.Stdout number try_no offset most) = by_with Shows (named_task s number try_no) rule.NoTask (stdout_of s who offset most) tt (λ task e. stdout_shows who offset most task)
   tell_shows who m (ask.List state limit below) = list_shows state limit below
   tell_shows who m (ask.Count state) = tt
   tell_shows who m (ask.Handshake name session dims q) = handshake_shows name session dims q
@@ -129,3 +147,6 @@ module _ (kept : MachineState)
   tell_shows who m (ask.Terminate name) = by_with Shows (bot_named s name) rule.NoBot terminate tt (λ bot e. cond_both bot.terminating _ _ Shows (λ t. tt) (λ t. tt))
   tell_shows who m (ask.Bots limit after) = tt
   tell_shows who m (ask.Bot name) = by_with Shows (bot_named s name) rule.NoBot (show_bot s) tt (λ bot e. tt)
+  tell_shows who m (ask.PutBlob named actual size) = put_shows named actual size
+  tell_shows who m (ask.GetBlob digest) = by_with Shows (blob_of s digest) (rule.BlobMissing digest) show_blob tt (λ blob e. tt)
+  tell_shows who m (ask.FindMissing blobs) = tt

@@ -10,8 +10,7 @@ use Rattle.swarm_model.specs.declared.deadline.Deadline.{Deadline}
 use Rattle.swarm_model.specs.declared.entry.Entry.{Entry}
 use Rattle.swarm_model.specs.Effects.{opening, after}
 use Rattle.swarm_model.specs.History.{replay, IsCaused, MayFollow}
-use Rattle.swarm_model.specs.Soundness.{IsSound, IsSoundTask, IsSoundBot, Agree, AreClaimedApart, AreSentApart, AreNamedApart, StaysSound}
-use Rattle.swarm_laws.proofs.EntryPreconditions.{finds}
+use Rattle.swarm_model.specs.Soundness.{IsSound, IsSoundTask, IsSoundBot, IsSoundBlob, Agree, AreClaimedApart, AreSentApart, AreNamedApart, StaysSound}
 use Rattle.swarm_laws.proofs.Tasks.{tasks_sound}
 use Rattle.swarm_laws.proofs.Bots.{bots_sound}
 use Rattle.swarm_laws.proofs.Runs.{runs_agree}
@@ -21,11 +20,12 @@ use Rattle.swarm_laws.proofs.Claimed.{claims_apart}
 use Rattle.swarm_laws.proofs.UuidLaw.{all_sent_apart}
 use Rattle.swarm_laws.proofs.Limits.{tasks_few, bots_few}
 use Rattle.swarm_laws.proofs.Names.{names_apart}
+use Rattle.swarm_laws.proofs.Blobs.{blobs_few, blobs_sound, blobs_distinct, blobs_apart}
 
 -- the parts together
 pub sound_after : (s : PoolState) (e : Entry) → IsSound s → MayFollow s e → IsSound (after s e)
 sound_after s e o follows =
-    let f = finds s e follows in
+    let distinct = blobs_distinct s e o follows in
     record {
       last = follows.not_late;
       tasks_numbered = tasks_numbered s e o follows;
@@ -39,6 +39,11 @@ sound_after s e o follows =
       claims = claims_apart s e o follows;
       sent = all_sent_apart s e o follows;
       names = names_apart s e o follows;
+      few_blobs = blobs_few s e o follows;
+      blobs = blobs_sound s e o follows;
+      digests = distinct.digests;
+      numbers = distinct.numbers;
+      apart = blobs_apart s e o follows;
     }
 
 -- so does every log
@@ -62,6 +67,11 @@ opening_sound settings =
       claims = All-nil (λ (task : TaskRow). All (AreClaimedApart task) []);
       sent = All-nil (λ (task : TaskRow). All (AreSentApart task) []);
       names = All-nil (λ (bot : BotRow). All (AreNamedApart bot) []);
+      few_blobs = omega arith;
+      blobs = All-nil (IsSoundBlob (opening settings));
+      digests = λ digest. omega arith;
+      numbers = λ number. omega arith;
+      apart = λ i j d less low. absurd (omega (arith, low));
     }
 
 -- so every pool is

@@ -1,13 +1,14 @@
 -- A task's row stays sound.
-use Rattle.std.proofs.Common.{◌≡◌, ℕ, ◌+◌, ◌≤◌, ◌==◌, ◌||◌, true, false, List, length, refl, sym, subst, arith, Option, Some, None, IfSome, is_some, is_none}
+use Rattle.std.proofs.Common.{◌≡◌, ℕ, ◌+◌, ◌≤◌, ◌==◌, ◌||◌, true, false, List, [], length, refl, sym, ap, ◌∙◌, subst, arith, Option, Some, None, IfSome, is_some, is_none}
 use Rattle.std.specs.List.{All}
 use Rattle.std.specs.Option.{option_map, option_map_or}
 use Rattle.std.proofs.lemmas.Bool.{cond_both, and_parts}
-use Rattle.std.proofs.lemmas.Option.{IfSome_then}
+use Rattle.std.proofs.lemmas.Option.{IfSome_then, same_Some}
 use Rattle.task_props.proofs.Checked.{slices_counted}
 use Rattle.swarm_model.specs.declared.task_state.TaskState.{TaskState}
 use Rattle.swarm_model.specs.declared.task_state.TaskState.TheVariants.{Pending, Running, Expired, TimedOut, BotDied, Completed, Killed, NoResource}
 use Rattle.swarm_model.specs.declared.attempt.Attempt.{Attempt}
+use Rattle.swarm_model.specs.declared.attempt.Chunk.{Chunk}
 use Rattle.swarm_model.specs.declared.attempt.Last.{Last}
 use Rattle.swarm_model.specs.declared.task_row.TaskRow.{TaskRow}
 use Rattle.swarm_model.specs.declared.pool_state.PoolState.{PoolState}
@@ -18,13 +19,14 @@ use Rattle.swarm_model.specs.declared.entry.Outcome.TheVariants as outcome
 use Rattle.swarm_model.specs.Finding.{is_state, is_final}
 use Rattle.swarm_model.specs.Slices.{admit}
 use Rattle.swarm_model.specs.Deadlines.{next_of, last_state}
-use Rattle.swarm_model.specs.Effects.{no_of_bot, added_tasks, added_bots, bot_after, expired_slice, lost_run, canceled, killed, kill_marked, started_run, reported, ended_run, end_state, new_row, end_at, after}
+use Rattle.swarm_model.specs.Effects.{no_of_bot, added_tasks, added_bots, bot_after, expired_slice, lost_run, canceled, killed, kill_marked, started_run, longer, lengthened, closed, reported, ended_run, end_state, new_row, end_at, after}
 use Rattle.swarm_model.specs.History.{MayFollow}
-use Rattle.swarm_model.specs.Soundness.{IsSound, IsSoundTask, runner}
+use Rattle.swarm_model.specs.Soundness.{IsSound, IsSoundTask, IsSoundOutput, runner}
 use Rattle.swarm_laws.proofs.Lists.{Among, each_one, number_within}
+use Rattle.swarm_laws.proofs.Outputs.{IsFitChunk, fit_chunk, output_begun, output_longer, output_killed, output_closed, output_map}
 use Rattle.swarm_laws.proofs.Preconditions.{Finds, FindsClaim, waits}
 use Rattle.swarm_laws.proofs.EntryPreconditions.{finds, admit_within}
-use Rattle.swarm_laws.proofs.Rows.{task_by, task_is, all_tasks, no_fewer, runner_in, fits_in}
+use Rattle.swarm_laws.proofs.Rows.{GoesOn, task_by, task_is, all_tasks, no_fewer, runner_in, fits_in}
 
 -- states
 
@@ -38,8 +40,8 @@ pub reported_final : (last : Last) → is_final (reported last) ≡ true
 reported_final last = cond_both (last.hard_timeout || last.io_timeout) TimedOut Completed (λ state. is_final state ≡ true) (λ t. refl) (λ t. refl)
 
 -- so a run that was reported has ended
-pub finished_final : (m : ℕ) (last : Last) (x : TaskRow) → is_final (ended_run m None last x).state ≡ true
-finished_final m last x = end_final x.attempt (reported last) (reported_final last)
+pub finished_final : (m : ℕ) (chunk : Option Chunk) (last : Last) (x : TaskRow) → is_final (ended_run m chunk last x).state ≡ true
+finished_final m chunk last x = end_final x.attempt (reported last) (reported_final last)
 
 -- a task whose slices ran out does
 pub last_final : (x : TaskRow) → is_final (last_state x) ≡ true
@@ -73,14 +75,22 @@ pub runner_lost : (m : ℕ) (x : TaskRow) → runner (lost_run m x) ≡ None
 runner_lost m x = runner_final (end_state x.attempt BotDied) x.attempt (end_final x.attempt BotDied refl)
 
 -- nor what a report ended
-pub runner_finished : (m : ℕ) (last : Last) (x : TaskRow) → runner (ended_run m None last x) ≡ None
-runner_finished m last x = runner_final (ended_run m None last x).state (ended_run m None last x).attempt (finished_final m last x)
+pub runner_finished : (m : ℕ) (chunk : Option Chunk) (last : Last) (x : TaskRow) → runner (ended_run m chunk last x) ≡ None
+runner_finished m chunk last x = runner_final (ended_run m chunk last x).state (ended_run m chunk last x).attempt (finished_final m chunk last x)
 
 -- whoever runs a task that is to stop runs it still
 pub runner_marked : (x : TaskRow) → runner (kill_marked x) ≡ runner x
 runner_marked x = by_attempt x.attempt
   where
     by_attempt : (attempt : Option Attempt) → runner_in x.state (option_map killed attempt) ≡ runner_in x.state attempt
+    by_attempt None = refl
+    by_attempt (Some a) = refl
+
+-- and so does whoever runs one whose output goes on
+pub runner_longer : (chunk : Chunk) (x : TaskRow) → runner (lengthened chunk x) ≡ runner x
+runner_longer chunk x = by_attempt x.attempt
+  where
+    by_attempt : (attempt : Option Attempt) → runner_in x.state (option_map (longer chunk) attempt) ≡ runner_in x.state attempt
     by_attempt None = refl
     by_attempt (Some a) = refl
 
@@ -110,6 +120,11 @@ marked_fits : (state : TaskState) (attempt : Option Attempt) (ended : Option ℕ
 marked_fits state None ended h = h
 marked_fits state (Some a) ended h = h
 
+-- and so is one whose output goes on
+longer_fits : (chunk : Chunk) (state : TaskState) (attempt : Option Attempt) (ended : Option ℕ) → fits_in state attempt ended ≡ true → fits_in state (option_map (longer chunk) attempt) ended ≡ true
+longer_fits chunk state None ended h = h
+longer_fits chunk state (Some a) ended h = h
+
 -- a new task has none, where it waits
 new_fits : (m : ℕ) (state : TaskState) → is_state state Running ≡ false → fits_in state None (end_at state m) ≡ true
 new_fits m Pending i = refl
@@ -125,6 +140,11 @@ pub added_idle : (s : PoolState) (m : ℕ) (k : EntryKind) → Finds s k → (x 
 added_idle s m (kind.New t who request state slice from) f x a =
     each_one (λ (y : TaskRow). runner y ≡ None) (new_row m t who request state slice from) (runner_new state f.idle) x a
 added_idle s m entry f x a = elim a [ ]
+
+-- a chunk that goes on from the output
+longer_output : (chunk : Chunk) (r : Option Attempt) (attempt : Attempt) → r ≡ Some attempt → chunk.start ≡ attempt.length → IsFitChunk chunk → IfSome r IsSoundOutput → IfSome (option_map (longer chunk) r) IsSoundOutput
+longer_output chunk None attempt has begins fit h = tt
+longer_output chunk (Some a) attempt has begins fit h = output_longer a chunk h (begins ∙ ap (λ (z : Attempt). z.length) (sym (same_Some _ _ has))) fit
 
 -- each row, and each row that is added
 
@@ -157,6 +177,7 @@ module _ (s : PoolState) (e : Entry) (o : IsSound s) (follows : MayFollow s e) w
         since = omega arith;
         state = sound.state;
         has_bot = still_bot (runner x) sound.has_bot;
+        output = sound.output;
       }
   moved_sound x sound w None h =
       let many = (slices_counted x.request sound.checked).0 in
@@ -168,6 +189,7 @@ module _ (s : PoolState) (e : Entry) (o : IsSound s) (follows : MayFollow s e) w
         since = omega (arith, before, was);
         state = final_fits (last_state x) x.attempt (Some e.moment) (last_final x) refl;
         has_bot = no_bot (runner_in (last_state x) x.attempt) (runner_final (last_state x) x.attempt (last_final x));
+        output = sound.output;
       }
 
   -- that was lost
@@ -181,6 +203,7 @@ module _ (s : PoolState) (e : Entry) (o : IsSound s) (follows : MayFollow s e) w
         since = omega (arith, before, was);
         state = final_fits (end_state x.attempt BotDied) x.attempt (Some e.moment) (end_final x.attempt BotDied refl) refl;
         has_bot = no_bot (runner (lost_run e.moment x)) (runner_lost e.moment x);
+        output = sound.output;
       }
 
   -- that was canceled
@@ -188,7 +211,7 @@ module _ (s : PoolState) (e : Entry) (o : IsSound s) (follows : MayFollow s e) w
   canceled_sound x sound =
       let was = sound.since in
       let before = may in
-      record { checked = sound.checked; has_slice = sound.has_slice; since = omega (arith, before, was); state = refl; has_bot = no_bot None refl }
+      record { checked = sound.checked; has_slice = sound.has_slice; since = omega (arith, before, was); state = refl; has_bot = no_bot None refl; output = sound.output }
 
   -- whose run is to stop
   marked_sound : (x : TaskRow) → IsSoundTask s x → IsSoundTask (after s e) (kill_marked x)
@@ -201,20 +224,34 @@ module _ (s : PoolState) (e : Entry) (o : IsSound s) (follows : MayFollow s e) w
         since = omega (arith, before, was);
         state = marked_fits x.state x.attempt x.ended sound.state;
         has_bot = still_bot (runner (kill_marked x)) (subst (λ (r : Option ℕ). IfSome r (λ b. b ≤ length s.bots)) (sym (runner_marked x)) sound.has_bot);
+        output = output_map killed output_killed x.attempt sound.output;
       }
 
-  -- whose run was reported to its end
-  finished_sound : (last : Last) (x : TaskRow) → IsSoundTask s x → IsSoundTask (after s e) (ended_run e.moment None last x)
-  finished_sound last x sound =
+  -- whose output goes on
+  longer_sound : (chunk : Chunk) (x : TaskRow) → IsSoundTask s x → GoesOn chunk x → IsSoundTask (after s e) (lengthened chunk x)
+  longer_sound chunk x sound g =
       let was = sound.since in
       let before = may in
-      let y : TaskRow = ended_run e.moment None last x in
       record {
         checked = sound.checked;
         has_slice = sound.has_slice;
         since = omega (arith, before, was);
-        state = final_fits y.state y.attempt y.ended (finished_final e.moment last x) refl;
-        has_bot = no_bot (runner y) (runner_finished e.moment last x);
+        state = longer_fits chunk x.state x.attempt x.ended sound.state;
+        has_bot = still_bot (runner (lengthened chunk x)) (subst (λ (r : Option ℕ). IfSome r (λ b. b ≤ length s.bots)) (sym (runner_longer chunk x)) sound.has_bot);
+        output = longer_output chunk x.attempt g.attempt g.attempted g.begins (fit_chunk chunk g.fits) sound.output;
+      }
+
+  -- whose run was reported to its end
+  finished_sound : (chunk : Option Chunk) (last : Last) (x : TaskRow) → IsSoundTask (after s e) x → IsSoundTask (after s e) (ended_run e.moment chunk last x)
+  finished_sound chunk last x sound =
+      let y : TaskRow = ended_run e.moment chunk last x in
+      record {
+        checked = sound.checked;
+        has_slice = sound.has_slice;
+        since = sound.since;
+        state = final_fits y.state y.attempt y.ended (finished_final e.moment chunk last x) refl;
+        has_bot = no_bot (runner y) (runner_finished e.moment chunk last x);
+        output = output_map (closed chunk last) (λ a h. output_closed a chunk last h) x.attempt sound.output;
       }
 
   -- that a bot began
@@ -231,6 +268,7 @@ module _ (s : PoolState) (e : Entry) (o : IsSound s) (follows : MayFollow s e) w
         since = omega (arith, before, was);
         state = waits_fits x.state x.attempt x.ended w sound.state;
         has_bot = omega (arith, named, there, more);
+        output = output_begun (record { try_no = 1; bot = b; claim = id; begun = e.moment; kill = false; chunks = []; length = 0; last = None; last_chunk = None }) refl refl;
       }
 
   -- that stayed as it was
@@ -238,7 +276,7 @@ module _ (s : PoolState) (e : Entry) (o : IsSound s) (follows : MayFollow s e) w
   kept_sound x sound =
       let was = sound.since in
       let before = may in
-      record { checked = sound.checked; has_slice = sound.has_slice; since = omega (arith, before, was); state = sound.state; has_bot = still_bot (runner x) sound.has_bot }
+      record { checked = sound.checked; has_slice = sound.has_slice; since = omega (arith, before, was); state = sound.state; has_bot = still_bot (runner x) sound.has_bot; output = sound.output }
 
   -- or that is added
   added_sound : (k : EntryKind) → Finds s k → (x : TaskRow) → Among x (added_tasks e.moment k) → IsSoundTask (after s e) x
@@ -249,6 +287,7 @@ module _ (s : PoolState) (e : Entry) (o : IsSound s) (follows : MayFollow s e) w
         since = omega arith;
         state = new_fits e.moment state f.idle;
         has_bot = no_bot (runner_in state None) (runner_new state f.idle);
+        output = tt;
       }) x a
   added_sound k f x a = elim a [ ]
 
@@ -263,6 +302,7 @@ module _ (s : PoolState) (e : Entry) (o : IsSound s) (follows : MayFollow s e) w
         begins = λ b t id is f w. begun_sound x (task_is s o x a) w b t id f;
         cancels = λ w. canceled_sound x (task_is s o x a);
         marks = λ w. marked_sound x (task_is s o x a);
-        finishes = λ last w. finished_sound last x (task_is s o x a);
+        grows = λ chunk g w. longer_sound chunk x (task_is s o x a) g;
+        finishes = λ chunk last y w sound. finished_sound chunk last y sound;
       }))
       (added_sound e.kind (finds s e follows))

@@ -1,5 +1,5 @@
 -- A task followed through a log.
-use Rattle.std.proofs.Common.{◌≡◌, ℕ, List, [], ◌∷◌, refl, sym, ◌∙◌, subst, true, false, None}
+use Rattle.std.proofs.Common.{◌≡◌, ℕ, List, [], ◌∷◌, refl, sym, ◌∙◌, subst, true, false}
 use Rattle.swarm_model.specs.declared.task_state.TaskState.TheVariants.{BotDied}
 use Rattle.swarm_model.specs.declared.task_row.TaskRow.{TaskRow}
 use Rattle.swarm_model.specs.declared.pool_state.PoolState.{PoolState}
@@ -53,7 +53,8 @@ past_lasts s m k o f x a p =
       begins = λ b t id is found w. refl;
       cancels = λ w. refl;
       marks = λ w. p;
-      finishes = λ last w. not_pending (ended_run m None last x).state (finished_final m last x);
+      grows = λ chunk g w. p;
+      finishes = λ chunk last y w e. not_pending (ended_run m chunk last y).state (finished_final m chunk last y);
     })
 
 -- a task that is over stays as it is
@@ -66,7 +67,8 @@ final_same s m k o f x a final =
       begins = λ b t id is found w. absurd (cc (w, not_pending x.state final));
       cancels = λ w. absurd (cc (w, not_pending x.state final));
       marks = λ w. absurd (cc (w, not_running x.state final));
-      finishes = λ last w. absurd (cc (w, not_running x.state final));
+      grows = λ chunk g w. absurd (cc (w, not_running x.state final));
+      finishes = λ chunk last y w e. absurd (cc (w, e, not_running x.state final));
     })
 
 -- so a final row lasts

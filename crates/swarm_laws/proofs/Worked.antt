@@ -1,7 +1,7 @@
 -- The worked logs, entry by entry.
 use Rattle.std.proofs.Common.{refl, lit≤}
 use Rattle.task_props.specs.Canonical.{hash}
-use Rattle.swarm_laws.specs.Worked.{ItHappens, RunsEnd, OutcomeIsTaken, repeatable}
+use Rattle.swarm_laws.specs.Worked.{ItHappens, RunsEnd, OutcomeIsTaken, OutputIsReported, BlobIsKept, repeatable}
 use Rattle.swarm_laws.proofs.Alike.{same_self}
 
 -- each entry may follow those before it
@@ -58,6 +58,39 @@ outcome_is_taken = (
       (
         record { not_before = lit≤ tt; not_late = lit≤ tt; has_cause = record { nothing_due = refl; may_ask = refl; gives = refl } },
         (record { not_before = lit≤ tt; not_late = lit≤ tt; has_cause = record { nothing_due = refl; may_ask = refl; gives = rw (same_self (hash repeatable)) refl } }, tt),
+      ),
+    ),
+  ),
+)
+
+pub output_is_reported : OutputIsReported
+output_is_reported = (
+  record { not_before = lit≤ tt; not_late = lit≤ tt; has_cause = record { nothing_due = refl; may_ask = refl; gives = refl } },
+  (
+    record { not_before = lit≤ tt; not_late = lit≤ tt; has_cause = record { nothing_due = refl; may_ask = refl; gives = refl } },
+    (
+      record { not_before = lit≤ tt; not_late = lit≤ tt; has_cause = record { nothing_due = refl; may_ask = refl; gives = refl } },
+      (
+        record { not_before = lit≤ tt; not_late = lit≤ tt; has_cause = record { nothing_due = refl; may_ask = refl; gives = refl } },
+        (
+          record { not_before = lit≤ tt; not_late = lit≤ tt; has_cause = record { nothing_due = refl; may_ask = refl; gives = refl } },
+          (record { not_before = lit≤ tt; not_late = lit≤ tt; has_cause = record { nothing_due = refl; may_ask = refl; gives = refl } }, tt),
+        ),
+      ),
+    ),
+  ),
+)
+
+pub blob_is_kept : BlobIsKept
+blob_is_kept = (
+  record { not_before = lit≤ tt; not_late = lit≤ tt; has_cause = record { nothing_due = refl; may_ask = refl; gives = refl } },
+  (
+    record { not_before = lit≤ tt; not_late = lit≤ tt; has_cause = record { nothing_due = refl; may_ask = refl; gives = refl } },
+    (
+      record { not_before = lit≤ tt; not_late = lit≤ tt; has_cause = refl },
+      (
+        record { not_before = lit≤ tt; not_late = lit≤ tt; has_cause = refl },
+        (record { not_before = lit≤ tt; not_late = lit≤ tt; has_cause = refl }, tt),
       ),
     ),
   ),

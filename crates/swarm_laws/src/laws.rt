@@ -1,8 +1,15 @@
-ghost use Rattle.std.specs.Prelude.{◌≡◌};
-ghost use Rattle.swarm_laws.specs.Worked.{ItHappens, OutcomeIsTaken, RunsEnd, ended_log, taken_log};
+ghost use Rattle.std.specs.Prelude.{◌≡◌, [], Some};
+ghost use Rattle.std.specs.Option.{option_map_or};
+ghost use Rattle.swarm_laws.specs.OutputLaw.{OutputIsTold};
+ghost use Rattle.swarm_laws.specs.Worked.{BlobIsKept, ItHappens, OutcomeIsTaken, OutputIsReported, RunsEnd, begun_output, ended_log, kept_log, reported_log, sent_again, taken_log};
 ghost use Rattle.swarm_model.specs.declared.task_state.TaskState.TheVariants.{Canceled, Completed, Killed};
+ghost use Rattle.swarm_model.specs.declared.entry.EntryKind.TheVariants as kind;
+ghost use Rattle.swarm_model.specs.Answers.{answer, entry_at};
 ghost use Rattle.swarm_model.specs.Claims.{ClaimsAreRight};
 ghost use Rattle.swarm_model.specs.DueLaw.{DueIsEarliest};
+ghost use Rattle.swarm_model.specs.Effects.{attempt_of, opening};
+ghost use Rattle.swarm_model.specs.Examples.{settings};
+ghost use Rattle.swarm_model.specs.History.{replay};
 ghost use Rattle.swarm_model.specs.RefusalLaw.{RefusalsAddNothing};
 ghost use Rattle.swarm_model.specs.Repeats.{ClaimAgain, ClaimIsOver, ContactChanges, HandshakeAgain, NewTaskAgain, UpdateAgain, UpdateIsOver, UuidIsTaken};
 ghost use Rattle.swarm_model.specs.ReuseLaw.{OutcomesAreTaken, ReuseIsFirst, SourceIsNewest};
@@ -79,6 +86,12 @@ pub fn outcomes_are_taken_over()
     ensures { OutcomesAreTaken }
 {}
 
+/// The parts that a pool tells of a task's output are the bytes that were asked for, of the chunks
+/// that are kept, in their order.
+pub fn output_is_told()
+    ensures { OutputIsTold }
+{}
+
 /// A log in which a bot comes, claims a task, is heard again, and is lost with its run: it is one
 /// that a pool may have, so the laws speak of something.
 pub fn a_claim_happens()
@@ -97,4 +110,19 @@ pub fn a_run_ends()
 pub fn an_outcome_is_taken()
     ensures happens { OutcomeIsTaken }
     ensures completed { verdict taken_log 2 ≡ Completed }
+{}
+
+/// So is one in which a run reports its output in two chunks, the first of them twice, and ends. The
+/// chunk that is sent again says only that the bot was heard, and counts once.
+pub fn an_output_is_reported()
+    ensures happens { OutputIsReported }
+    ensures again { (answer begun_output [] 1004 0 sent_again).entry ≡ Some (entry_at 1004 0 (kind.Contact 1)) }
+    ensures length { option_map_or (λ attempt. attempt.length) (attempt_of (replay (opening settings) reported_log) 1) 0 ≡ 11 }
+{}
+
+/// So is one in which a blob is put, is kept at its deadline since a task needs it, and is removed at
+/// the next one.
+pub fn a_blob_is_kept()
+    ensures happens { BlobIsKept }
+    ensures removed { (replay (opening settings) kept_log).blobs ≡ [] }
 {}

@@ -3,22 +3,24 @@
 //! Each law is the contract of an empty function; its statement stands in `swarm_model`'s specs,
 //! and its proof is an induction over the entries of the log. The layers above take the lemma
 //! modules of this crate. `Sound`: every pool that a log leads to is sound, and an entry that may
-//! follow keeps it so. `Legality`: where nothing is due, what an answer adds may follow the log, and
-//! so may what is due. `EntryPreconditions`: what an entry that may follow finds in the pool, which
-//! kinds of entries come at all, and that a report that comes ends its run and brings no output.
-//! `Rows`: what such a report does to the rows. `UuidLaw`: the task that a caller sent under a uuid
-//! is found by both. `Refusals`: a request that is refused adds no entry. `MachineLaws`: for a pool
-//! that keeps its log, that results and the tally show what the log tells, that a claim is right,
-//! that what is sent again adds at most a contact, that a new task takes the outcome of an earlier
-//! one that ran the same, and that rows that have ended stay. So a machine that adds only what is
-//! due and what its answers say keeps a legal log, and may count on sound rows. The crate has no
-//! code that runs.
+//! follow keeps it so. `BlobChanges`: what an entry does to the blobs, case by case. `Legality`: where nothing is due, what an answer adds may follow the log, and
+//! so may what is due. `EntryPreconditions`: what an entry that may follow finds in the pool.
+//! `Rows`: what an entry does to the rows. `UuidLaw`: the task that a caller sent under a uuid is
+//! found by both. `Refusals`: a request that is refused adds no entry. `Carrying`: the bytes that an
+//! entry brings are those that came with its request. `BlobLaws`: there is room for a blob that is
+//! placed, and each blob keeps its bytes. `MachineLaws`: for a pool that keeps its log, that results
+//! and the tally show what the log tells, that a claim is right, that the parts of an output are the
+//! bytes that were asked for, that what is sent again adds at most a contact, that a new task takes
+//! the outcome of an earlier one that ran the same, and that rows that have ended stay. So a machine
+//! that adds only what is due and what its answers say keeps a legal log, and may count on sound
+//! rows. The crate has no code that runs.
 #![tactic(auto)]
 
 mod laws;
 
 pub use laws::{
-    a_claim_happens, a_run_ends, an_outcome_is_taken, claims_are_right, due_is_the_earliest,
-    finals_stay, outcomes_are_taken_over, refusals_add_nothing, repeats_act_once,
-    sources_are_the_newest, stays_sound, tally_counts_verdicts, verdicts_are_states,
+    a_blob_is_kept, a_claim_happens, a_run_ends, an_outcome_is_taken, an_output_is_reported,
+    claims_are_right, due_is_the_earliest, finals_stay, outcomes_are_taken_over, output_is_told,
+    refusals_add_nothing, repeats_act_once, sources_are_the_newest, stays_sound,
+    tally_counts_verdicts, verdicts_are_states,
 };

@@ -1,12 +1,14 @@
 -- The answer to each request, and the entry that it adds.
-use Rattle.std.specs.Prelude.{ℕ, Bool, true, false, [], unwrap_or, ◌+◌, ◌-◌, ◌^◌, ◌==◌, ◌&&◌, ◌||◌, not, min, List, length, map, take, Option, Some, None, is_some, is_none, nat_le, if◌then◌else◌}
-use Rattle.std.specs.List.{count_by, find}
+use Rattle.std.specs.Prelude.{ℕ, Bool, true, false, [], unwrap_or, ◌+◌, ◌-◌, ◌^◌, ◌==◌, ◌&&◌, ◌||◌, not, min, List, length, map, take, Option, Some, None, is_some, is_none, nat_le, nat_lt, if◌then◌else◌}
+use Rattle.std.specs.List.{count_by, filter, find, list_any}
 use Rattle.std.specs.Option.{option_map, option_map_or, option_and_then, option_eq}
 use Rattle.dimensions.specs.declared.text.Text.{Text}
 use Rattle.dimensions.specs.declared.bot_dims.BotDims.{BotDims}
 use Rattle.dimensions.specs.Alike.{same, same_dims}
 use Rattle.dimensions.specs.Choosing.{when, ◌or_else◌}
 use Rattle.dimensions.specs.Rules.{is_empty}
+use Rattle.blob_rows.specs.declared.blob_row.BlobRow.{BlobRow}
+use Rattle.task_props.specs.declared.file.File.{File}
 use Rattle.task_props.specs.declared.slice.Slice.{Slice}
 use Rattle.task_props.specs.declared.new_task.NewTask.{NewTask}
 use Rattle.task_props.specs.Alike.{same_task}
@@ -36,11 +38,14 @@ use Rattle.swarm_model.specs.declared.answer.Answer.{Answer}
 use Rattle.swarm_model.specs.declared.answer.Decision.{Decision}
 use Rattle.swarm_model.specs.Alike.{same_chunk, same_last}
 use Rattle.swarm_model.specs.Settings.{permits}
-use Rattle.swarm_model.specs.Finding.{has_state, task_of, bot_named, is_final, is_wanted}
+use Rattle.swarm_model.specs.Blobs.{lacks_chunk, missing_file, inputs_of, can_take}
+use Rattle.swarm_model.specs.Effects.{fresh_chunk}
+use Rattle.swarm_model.specs.Finding.{has_state, task_of, bot_named, blob_of, has_blob, is_final, is_wanted}
+use Rattle.swarm_model.specs.Output.{chunks_within, parts_within}
 use Rattle.swarm_model.specs.declared.reuse.Reuse.{Reuse}
 use Rattle.swarm_model.specs.Reuse.{sent, reuse}
 use Rattle.swarm_model.specs.Slices.{admit, current_slice, first}
-use Rattle.swarm_model.specs.Views.{bot_name_of, view_of, bot_view_of}
+use Rattle.swarm_model.specs.Views.{attempt_shown, bot_name_of, files_of, view_of, bot_view_of}
 use Rattle.swarm_model.specs.Pages.{listed_tasks, listed_bots, cursor_of}
 use Rattle.swarm_model.specs.Words.{◌otherwise◌}
 
@@ -53,6 +58,13 @@ refusal why = reply_only (reply.No why)
 
 abbrev pub tasks_full : PoolState → Decision
 tasks_full s = refusal (rule.PoolTasksFull s.settings.most_tasks)
+
+abbrev pub blob_missing : List ℕ → Decision
+blob_missing digest = refusal (rule.BlobMissing digest)
+
+-- the refusal of a file that no blob is
+abbrev pub file_missing : File → Decision
+file_missing file = blob_missing file.digest
 
 -- a task that is sent again under its uuid is told once more; another under that uuid is refused
 abbrev pub resubmitted : NewTask → TaskRow → Decision
@@ -84,6 +96,7 @@ reuse_outcome s who request found = new_task_decision s who request Completed fo
 abbrev pub new_task : PoolState → List ℕ → ℕ → NewTask → Decision
 new_task s who moment request =
     option_map (resubmitted request) (sent s who request.request_uuid)
+    otherwise option_map file_missing (missing_file s (inputs_of request.task_slices))
     otherwise when (nat_le s.settings.most_tasks (length s.tasks)) (tasks_full s)
     otherwise option_map (reuse_outcome s who request) (reuse s moment request.task_slices)
     otherwise accepted s who request
@@ -139,6 +152,24 @@ abbrev pub result_of : PoolState → List ℕ → TaskRow → Decision
 result_of s who task =
     when (not (may s who permission.ListTasks task)) (denied s permission.ListTasks)
     otherwise reply_only (reply.Result (view_of s task))
+
+-- the output between two places, or the first chunk of it whose blob is gone
+abbrev pub output_gone : Chunk → Decision
+output_gone chunk = refusal (rule.OutputGone chunk.digest)
+
+abbrev pub output_between : PoolState → ℕ → ℕ → TaskState → List Chunk → Decision
+output_between s from to state chunks =
+    option_map output_gone (find (lacks_chunk s) (chunks_within from to chunks))
+    otherwise reply_only (reply.Stdout state (parts_within from to chunks))
+
+-- the chunks of the output that a task shows
+abbrev pub chunks_shown : PoolState → TaskRow → List Chunk
+chunks_shown s task = option_map_or (λ attempt. attempt.chunks) (attempt_shown s task) []
+
+abbrev pub stdout_of : PoolState → List ℕ → ℕ → ℕ → TaskRow → Decision
+stdout_of s who offset length task =
+    when (not (may s who permission.ListTasks task)) (denied s permission.ListTasks)
+    otherwise output_between s offset (offset + length) task.state (chunks_shown s task)
 
 -- at most so many of the rows that are left, with where the next page goes on
 abbrev pub list_tasks : PoolState → ℕ → List TaskRow → Decision
@@ -267,11 +298,35 @@ report_again bot task chunk last attempt =
     then updates attempt (kind.Contact bot.no)
     else refusal (rule.AttemptOver task.state)
 
-abbrev pub report : BotRow → TaskRow → Option Chunk → Option Last → Attempt → Decision
-report bot task chunk last attempt =
-    when (is_final task.state) (report_again bot task chunk last attempt)
-    otherwise when (is_some last) (updates attempt (kind.Update bot.no task.no attempt.try_no chunk last))
+-- a chunk begins past the output that is kept, or within it and is none of those that were kept
+abbrev pub chunk_rule : Attempt → Chunk → Option Rule
+chunk_rule attempt chunk =
+    when (nat_lt attempt.length chunk.start) (rule.OutputGap attempt.length)
+    or_else when (nat_lt chunk.start attempt.length && not (list_any (same_chunk chunk) attempt.chunks)) (rule.OutputOverlap chunk.start)
+
+abbrev pub store_full : PoolState → ℕ → Decision
+store_full s size = refusal (rule.StoreFull (length s.blobs) size)
+
+-- the chunk that is to be kept, where the pool has no place for it
+abbrev pub unplaced_chunk : PoolState → Option Chunk → Option Chunk
+unplaced_chunk s chunk = option_and_then (λ c. when (not (can_take s c.digest c.size)) c) chunk
+
+-- the report ends the run, or brings a chunk
+abbrev pub is_news : Attempt → Option Chunk → Option Last → Bool
+is_news attempt chunk last = is_some last || is_some (fresh_chunk (Some attempt) chunk)
+
+abbrev pub report_running : PoolState → BotRow → TaskRow → Option Chunk → Option Last → Attempt → Decision
+report_running s bot task chunk last attempt =
+    option_map refusal (option_and_then (chunk_rule attempt) chunk)
+    otherwise option_map file_missing (missing_file s (files_of last))
+    otherwise option_map (λ c. store_full s c.size) (unplaced_chunk s (fresh_chunk (Some attempt) chunk))
+    otherwise when (is_news attempt chunk last) (updates attempt (kind.Update bot.no task.no attempt.try_no chunk last))
     otherwise updates attempt (kind.Contact bot.no)
+
+abbrev pub report : PoolState → BotRow → TaskRow → Option Chunk → Option Last → Attempt → Decision
+report s bot task chunk last attempt =
+    when (is_final task.state) (report_again bot task chunk last attempt)
+    otherwise report_running s bot task chunk last attempt
 
 -- the run is another bot's
 abbrev pub not_claimant : PoolState → Attempt → Decision
@@ -280,7 +335,7 @@ not_claimant s attempt = refusal (rule.NotClaimant (unwrap_or (bot_name_of s att
 abbrev pub report_on : PoolState → BotRow → TaskRow → Option Chunk → Option Last → Attempt → Decision
 report_on s bot task chunk last attempt =
     when (not (attempt.bot == bot.no)) (not_claimant s attempt)
-    otherwise report bot task chunk last attempt
+    otherwise report s bot task chunk last attempt
 
 -- what a bot reports on a run
 abbrev pub update_row : PoolState → BotRow → Option Chunk → Option Last → TaskRow → Decision
@@ -298,6 +353,25 @@ list_bots s limit bots = reply_only (reply.Bots (map (bot_view_of s) (take limit
 abbrev pub show_bot : PoolState → BotRow → Decision
 show_bot s bot = reply_only (reply.Bot (bot_view_of s bot))
 
+-- ---- blobs
+
+-- the digests must be one, and the blob must be present or have a place; it is fresh where it is not present
+abbrev pub put_blob : PoolState → List ℕ → List ℕ → ℕ → Decision
+put_blob s named actual size =
+    when (not (same actual named)) (refusal (rule.DigestDiffers actual))
+    otherwise when (not (can_take s named size)) (store_full s size)
+    otherwise reply_with_entry (reply.Put (is_none (blob_of s named))) (kind.Put named size)
+
+abbrev pub show_blob : BlobRow → Decision
+show_blob blob = reply_only (reply.Blob blob.digest blob.size)
+
+abbrev pub is_missing : PoolState → List ℕ × ℕ → Bool
+is_missing s blob = not (has_blob s blob.0 blob.1)
+
+-- those that no blob is, by digest and size, in their order
+abbrev pub find_missing : PoolState → List (List ℕ × ℕ) → Decision
+find_missing s blobs = reply_only (reply.Missing (filter (is_missing s) blobs))
+
 -- ---- all requests
 
 -- what a caller is told at a moment
@@ -305,6 +379,7 @@ abbrev pub decide : PoolState → List ℕ → ℕ → Request → Decision
 decide s who moment (ask.New request) = new_task s who moment request
 decide s who moment (ask.Cancel task try_no kill) = with (named_task s task try_no) rule.NoTask (cancel s who kill)
 decide s who moment (ask.Result task try_no) = with (named_task s task try_no) rule.NoTask (result_of s who)
+decide s who moment (ask.Stdout task try_no offset length) = with (named_task s task try_no) rule.NoTask (stdout_of s who offset length)
 decide s who moment (ask.List state limit below) = list_tasks s limit (listed_tasks s state below)
 decide s who moment (ask.Count state) = count_tasks s state
 decide s who moment (ask.Handshake bot session dims quarantined) = handshake s bot session dims quarantined
@@ -315,6 +390,9 @@ decide s who moment (ask.Update bot task try_no chunk last) = with (bot_named s 
 decide s who moment (ask.Terminate bot) = with (bot_named s bot) rule.NoBot terminate
 decide s who moment (ask.Bots limit after) = list_bots s limit (listed_bots s after)
 decide s who moment (ask.Bot bot) = with (bot_named s bot) rule.NoBot (show_bot s)
+decide s who moment (ask.PutBlob named actual size) = put_blob s named actual size
+decide s who moment (ask.GetBlob digest) = with (blob_of s digest) (rule.BlobMissing digest) show_blob
+decide s who moment (ask.FindMissing blobs) = find_missing s blobs
 
 abbrev pub entry_at : ℕ → ℕ → EntryKind → Entry
 entry_at moment pass kind = record { moment = moment; pass = pass; kind = kind }

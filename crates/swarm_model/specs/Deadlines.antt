@@ -1,7 +1,8 @@
 -- What runs out, and when.
-use Rattle.std.specs.Prelude.{ℕ, Bool, ◌+◌, ◌==◌, ◌&&◌, ◌||◌, nat_le, nat_lt, List, ◌++◌, length, Option, Some, None, if◌then◌else◌}
+use Rattle.std.specs.Prelude.{ℕ, Bool, false, ◌+◌, ◌==◌, ◌&&◌, ◌||◌, nat_le, nat_lt, List, ◌++◌, map, length, Option, Some, None, if◌then◌else◌}
 use Rattle.std.specs.List.{filter_map, fold}
 use Rattle.std.specs.Option.{option_map, option_map_or, option_and_then}
+use Rattle.blob_rows.specs.declared.blob_row.BlobRow.{BlobRow}
 use Rattle.task_props.specs.declared.slice.Slice.{Slice}
 use Rattle.swarm_model.specs.declared.task_state.TaskState.{TaskState}
 use Rattle.swarm_model.specs.declared.task_state.TaskState.TheVariants.{Pending, Running, Expired, NoResource}
@@ -16,14 +17,16 @@ use Rattle.swarm_model.specs.declared.entry.EntryKind.{EntryKind}
 use Rattle.swarm_model.specs.declared.entry.EntryKind.TheVariants as kind
 use Rattle.swarm_model.specs.declared.entry.Outcome.{Outcome}
 use Rattle.swarm_model.specs.declared.entry.Outcome.TheVariants as outcome
-use Rattle.swarm_model.specs.Finding.{has_state, task_of, bot_of}
+use Rattle.swarm_model.specs.Finding.{has_state, task_of, bot_of, blob_numbered}
 use Rattle.swarm_model.specs.Slices.{admit, current_slice}
+use Rattle.swarm_model.specs.Uses.{is_used}
 
 -- the place of a cause among those of one moment
 abbrev pub rank : Cause → ℕ
 rank cause.Slice = 1
 rank cause.Silence = 2
 rank cause.Bot = 3
+rank cause.Blob = 4
 
 -- the deadline of a slice to which a task came
 abbrev pub slice_limit : TaskRow → Slice → Deadline
@@ -49,8 +52,16 @@ abbrev pub bot_end : PoolState → BotRow → Option Deadline
 bot_end s bot =
     if bot.dead then None else Some (record { moment = bot.contact + s.settings.death_timeout_secs; cause = cause.Bot; number = bot.no })
 
+-- a blob is kept until its deadline
+abbrev pub blob_end : BlobRow → Deadline
+blob_end blob = record { moment = blob.deadline; cause = cause.Blob; number = blob.no }
+
 abbrev pub deadlines : PoolState → List Deadline
-deadlines s = filter_map slice_end s.tasks ++ (filter_map (silence_end s) s.tasks ++ filter_map (bot_end s) s.bots)
+deadlines s =
+    filter_map slice_end s.tasks
+    ++ (filter_map (silence_end s) s.tasks
+    ++ (filter_map (bot_end s) s.bots
+    ++ map blob_end s.blobs))
 
 -- by moment, then cause, then number
 abbrev pub is_earlier : Deadline → Deadline → Bool
@@ -92,6 +103,7 @@ abbrev pub settled : PoolState → Cause → ℕ → EntryKind
 settled s cause.Slice number = kind.Slice number (option_map_or (next_of s) (task_of s number) (outcome.Ended NoResource))
 settled s cause.Silence number = kind.Silence number
 settled s cause.Bot number = kind.Dead number
+settled s cause.Blob number = kind.Blob number (option_map_or (λ blob. is_used s blob.digest) (blob_numbered s number) false)
 
 abbrev pub entry_of : PoolState → ℕ → Deadline → Entry
 entry_of s pass d = record { moment = d.moment; pass = pass; kind = settled s d.cause d.number }

@@ -4,9 +4,8 @@ use Rattle.std.specs.List.{filter}
 use Rattle.std.specs.Option.{option_map, option_map_or, option_and_then}
 use Rattle.dimensions.specs.declared.text.Text.{Text}
 use Rattle.dimensions.specs.declared.bot_dims.BotDims.{BotDims}
-use Rattle.dimensions.specs.Alike.{same}
-use Rattle.region.specs.Places.{least_place}
-use Rattle.content_store.specs.Contents.{units_of}
+use Rattle.blob_rows.specs.Rows.{BlobRowsState, longer_kept, is_other}
+use Rattle.blob_rows.specs.Rows as rows
 use Rattle.task_props.specs.declared.new_task.NewTask.{NewTask}
 use Rattle.swarm_model.specs.declared.task_state.TaskState.{TaskState}
 use Rattle.swarm_model.specs.declared.task_state.TaskState.TheVariants.{Pending, Running, TimedOut, BotDied, Canceled, Completed, Killed}
@@ -15,7 +14,6 @@ use Rattle.swarm_model.specs.declared.attempt.Chunk.{Chunk}
 use Rattle.swarm_model.specs.declared.attempt.Last.{Last}
 use Rattle.swarm_model.specs.declared.task_row.TaskRow.{TaskRow}
 use Rattle.swarm_model.specs.declared.bot_row.BotRow.{BotRow}
-use Rattle.swarm_model.specs.declared.blob_row.BlobRow.{BlobRow}
 use Rattle.swarm_model.specs.declared.pool_state.PoolState.{PoolState}
 use Rattle.swarm_model.specs.declared.pool_settings.PoolSettings.{PoolSettings}
 use Rattle.swarm_model.specs.declared.entry.Entry.{Entry}
@@ -25,7 +23,7 @@ use Rattle.swarm_model.specs.declared.entry.EventKind.{EventKind}
 use Rattle.swarm_model.specs.declared.entry.EventKind.TheVariants as event
 use Rattle.swarm_model.specs.declared.entry.Outcome.{Outcome}
 use Rattle.swarm_model.specs.declared.entry.Outcome.TheVariants as outcome
-use Rattle.swarm_model.specs.Finding.{is_state, task_of, bot_of, blob_of}
+use Rattle.swarm_model.specs.Finding.{is_state, task_of, bot_of}
 use Rattle.swarm_model.specs.Numbers.{change_at}
 
 -- a pool before its first entry
@@ -269,36 +267,16 @@ added_bots s moment entry = []
 abbrev pub life : PoolState → ℕ
 life s = s.settings.blob_life_secs
 
-abbrev pub renewed : ℕ → BlobRow → BlobRow
-renewed deadline blob = record blob { deadline = deadline }
+-- the rows of the blobs, with what a new one needs to find its place
+abbrev pub blobs_in : PoolState → BlobRowsState
+blobs_in s = record { rows = s.blobs; placed = s.placed; units = s.settings.store_units }
 
-abbrev pub renewed_until : ℕ → Text → BlobRow → BlobRow
-renewed_until deadline digest blob = if same blob.digest digest then renewed deadline blob else blob
+abbrev pub with_rows : BlobRowsState → PoolState → PoolState
+with_rows blobs s = record s { blobs = blobs.rows; placed = blobs.placed }
 
-abbrev pub longer_kept : ℕ → ℕ → BlobRow → BlobRow
-longer_kept secs number blob = if blob.no == number then renewed (blob.deadline + secs) blob else blob
-
-abbrev pub is_other : ℕ → BlobRow → Bool
-is_other number blob = not (blob.no == number)
-
-abbrev pub place_for : PoolState → ℕ → Option ℕ
-place_for s size = least_place (map (λ blob. blob.extent) s.blobs) s.settings.store_units (units_of size)
-
-abbrev pub new_blob : PoolState → ℕ → Text → ℕ → ℕ → BlobRow
-new_blob s moment digest size place =
-    record {
-      no = s.placed + 1;
-      digest = digest;
-      size = size;
-      extent = record { at = place; units = units_of size };
-      deadline = moment + life s;
-    }
-
--- a blob is put: it is renewed where it is present, and placed where it is not
+-- a blob is put: it is kept for a life from the moment on, and has a place where it was not present
 abbrev pub put : PoolState → ℕ → Text → ℕ → PoolState
-put s moment digest size =
-    option_map_or (λ blob. record s { blobs = map (renewed_until (moment + life s) digest) s.blobs }) (blob_of s digest)
-    (option_map_or (λ place. record s { blobs = s.blobs ++ new_blob s moment digest size place ∷ []; placed = s.placed + 1 }) (place_for s size) s)
+put s moment digest size = with_rows (rows.put (blobs_in s) (moment + life s) digest size) s
 
 abbrev pub put_chunk : PoolState → ℕ → Option Chunk → PoolState
 put_chunk s moment None = s

@@ -111,7 +111,7 @@ cancel_of task = record { who = task.creator; request = ask.Cancel task.no 0 tru
 abbrev pub update_of : ℕ → ℕ → Option Chunk → Option Last → BotRow → Asked
 update_of task try_no chunk last bot = by_nobody (ask.Update bot.name task try_no chunk last)
 
--- the request for which an entry stands; none, where it is a deadline's, or no request adds it yet
+-- the request for which an entry stands; none, where it is a deadline's
 abbrev pub asks : PoolState → EntryKind → Option Asked
 asks s (kind.New t who request state slice from) = Some (record { who = who; request = ask.New request })
 asks s (kind.Cancel t) = option_map cancel_of (task_of s t)
@@ -123,4 +123,5 @@ asks s (kind.Contact b) = option_map handshake_of (bot_of s b)
 asks s (kind.Event b e text) = option_map (event_of e text) (bot_of s b)
 asks s (kind.Update b t try_no chunk last) = option_map (update_of t try_no chunk last) (bot_of s b)
 asks s (kind.Terminate b) = option_map terminate_of (bot_of s b)
+asks s (kind.Put digest size) = Some (by_nobody (ask.PutBlob digest digest size))
 asks s entry = None

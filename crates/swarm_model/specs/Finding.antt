@@ -3,11 +3,12 @@ use Rattle.std.specs.Prelude.{ℕ, Bool, true, false, not, ◌&&◌, ◌==◌, O
 use Rattle.std.specs.List.{find}
 use Rattle.std.specs.Option.{option_map_or}
 use Rattle.dimensions.specs.Alike.{same}
+use Rattle.blob_rows.specs.declared.blob_row.BlobRow.{BlobRow}
+use Rattle.blob_rows.specs.Rows as rows
 use Rattle.swarm_model.specs.declared.task_state.TaskState.{TaskState}
 use Rattle.swarm_model.specs.declared.task_state.TaskState.TheVariants.{Pending, Running, Expired, TimedOut, BotDied, Canceled, Completed, Killed, NoResource}
 use Rattle.swarm_model.specs.declared.task_row.TaskRow.{TaskRow}
 use Rattle.swarm_model.specs.declared.bot_row.BotRow.{BotRow}
-use Rattle.swarm_model.specs.declared.blob_row.BlobRow.{BlobRow}
 use Rattle.swarm_model.specs.declared.pool_state.PoolState.{PoolState}
 
 -- the place of a state in the order in which tallies show them
@@ -43,12 +44,6 @@ is_final state = not (is_state state Pending) && not (is_state state Running)
 abbrev pub is_bot : ℕ → BotRow → Bool
 is_bot number bot = bot.no == number
 
-abbrev pub is_blob : ℕ → BlobRow → Bool
-is_blob number blob = blob.no == number
-
-abbrev pub has_digest : List ℕ → BlobRow → Bool
-has_digest digest blob = same blob.digest digest
-
 abbrev pub task_of : PoolState → ℕ → Option TaskRow
 task_of s number = find (is_task number) s.tasks
 
@@ -62,13 +57,13 @@ abbrev pub bot_of : PoolState → ℕ → Option BotRow
 bot_of s number = find (is_bot number) s.bots
 
 abbrev pub blob_numbered : PoolState → ℕ → Option BlobRow
-blob_numbered s number = find (is_blob number) s.blobs
+blob_numbered s number = rows.blob_numbered s.blobs number
 
 abbrev pub blob_placed : PoolState → ℕ → Option BlobRow
 blob_placed s place = slice_get s.blobs place
 
 abbrev pub blob_of : PoolState → List ℕ → Option BlobRow
-blob_of s digest = find (has_digest digest) s.blobs
+blob_of s digest = rows.blob_of s.blobs digest
 
 -- whether a blob has this digest and size
 abbrev pub has_blob : PoolState → List ℕ → ℕ → Bool

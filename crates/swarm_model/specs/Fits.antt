@@ -1,12 +1,14 @@
 -- Which requests a pool may be asked.
-use Rattle.std.specs.Prelude.{Bool, true, ◌&&◌, ◌||◌, ◌==◌, ◌^◌, nat_le, List, ℕ, length, is_none}
+use Rattle.std.specs.Prelude.{Bool, true, ◌+◌, ◌&&◌, ◌||◌, ◌==◌, ◌^◌, nat_le, List, ℕ, length}
 use Rattle.std.specs.List.{list_all}
 use Rattle.std.specs.Option.{option_map_or}
 use Rattle.dimensions.specs.declared.bot_dims.BotDims.{BotDims}
 use Rattle.dimensions.specs.Alike.{same}
-use Rattle.dimensions.specs.Rules.{has_length_to, is_key_byte}
+use Rattle.dimensions.specs.Rules.{has_length_to, is_key_byte, is_empty}
 use Rattle.dimensions.specs.BotRules.{are_bot_checked, pool_of_bot}
-use Rattle.task_props.specs.Checked.{is_checked, is_empty, pool_of_task}
+use Rattle.task_props.specs.Checked.{is_checked, pool_of_task}
+use Rattle.task_props.specs.Sorted.{is_file}
+use Rattle.swarm_model.specs.declared.attempt.Chunk.{Chunk}
 use Rattle.swarm_model.specs.declared.attempt.Last.{Last}
 use Rattle.swarm_model.specs.declared.entry.EventKind.{EventKind}
 use Rattle.swarm_model.specs.declared.entry.EventKind.TheVariants as event
@@ -40,15 +42,25 @@ fits_task task try_no = is_task_number task && nat_le try_no 1
 abbrev pub is_limit : ℕ → Bool
 is_limit limit = is_between 1 200 limit
 
--- the report of an end: it names no files yet
-abbrev pub fits_last : Last → Bool
-fits_last last = nat_le last.duration_ms (2 ^ 40) && (nat_le last.dropped (2 ^ 53) && is_empty last.files)
+-- 1 to 32768 bytes of an output of at most 67108864
+abbrev pub fits_chunk : Chunk → Bool
+fits_chunk chunk = is_between 1 32768 chunk.size && nat_le (chunk.start + chunk.size) 67108864
 
--- all in the request is what a checked one may hold, and its pool is this one; a report has no output yet
+-- the report of an end, with at most 64 files
+abbrev pub fits_last : Last → Bool
+fits_last last =
+    nat_le last.duration_ms (2 ^ 40) && (nat_le last.dropped (2 ^ 53) && (nat_le (length last.files) 64 && list_all is_file last.files))
+
+-- a blob has at most 16777216 bytes
+abbrev pub is_blob_size : ℕ → Bool
+is_blob_size size = nat_le size 16777216
+
+-- all in the request is what a checked one may hold, and its pool is this one
 abbrev pub fits : PoolSettings → Request → Bool
 fits settings (ask.New request) = is_checked request && same (pool_of_task request) settings.name
 fits settings (ask.Cancel task try_no kill) = fits_task task try_no
 fits settings (ask.Result task try_no) = fits_task task try_no
+fits settings (ask.Stdout task try_no offset length) = fits_task task try_no && (nat_le offset 67108864 && is_between 1 65536 length)
 fits settings (ask.List state limit below) = is_limit limit && option_map_or is_task_number below true
 fits settings (ask.Count state) = true
 fits settings (ask.Handshake bot session dims quarantined) =
@@ -57,7 +69,10 @@ fits settings (ask.Poll bot dims quarantined) = fits_bot settings bot dims && na
 fits settings (ask.Claim bot claim) = is_name bot && is_name claim
 fits settings (ask.Event bot which message) = is_name bot && fits_message which message
 fits settings (ask.Update bot task try_no chunk last) =
-    is_name bot && (is_task_number task && (try_no == 1 && (is_none chunk && option_map_or fits_last last true)))
+    is_name bot && (is_task_number task && (try_no == 1 && (option_map_or fits_chunk chunk true && option_map_or fits_last last true)))
 fits settings (ask.Terminate bot) = is_name bot
 fits settings (ask.Bots limit after) = is_limit limit && (is_empty after || is_name after)
 fits settings (ask.Bot bot) = is_name bot
+fits settings (ask.PutBlob named actual size) = is_blob_size size
+fits settings (ask.GetBlob digest) = true
+fits settings (ask.FindMissing blobs) = nat_le (length blobs) 512 && list_all (λ blob. is_blob_size blob.1) blobs

@@ -12,6 +12,9 @@ pub mod Reuse
 pub mod Answers
 pub mod Entries
 pub mod Effects
+pub mod Blobs
+pub mod Uses
+pub mod Output
 pub mod Deadlines
 pub mod History
 pub mod States
@@ -23,5 +26,6 @@ pub mod Repeats
 pub mod ReuseLaw
 pub mod Verdicts
 pub mod Points
+pub mod Bytes
 pub mod MachineState
 pub mod Examples

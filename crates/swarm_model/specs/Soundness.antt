@@ -1,11 +1,16 @@
 -- What holds of every pool that a log leads to.
-use Rattle.std.specs.Prelude.{◌≡◌, ◌↔◌, ℕ, Bool, ◌^◌, ◌≤◌, ◌<◌, ◌&&◌, IsTrue, List, length, Option, Some, None, IfSome, is_some, is_none, if◌then◌else◌}
-use Rattle.std.specs.List.{All}
+use Rattle.std.specs.Prelude.{◌≡◌, ◌↔◌, ℕ, Bool, ◌+◌, ◌^◌, ◌≤◌, ◌<◌, ◌&&◌, IsTrue, List, length, map, Option, Some, None, IfSome, is_some, is_none, if◌then◌else◌}
+use Rattle.std.specs.List.{All, count_by}
 use Rattle.std.specs.Option.{option_map, option_and_then}
+use Rattle.region.specs.Extents.{AreApart}
+use Rattle.content_store.specs.Contents.{units_of}
+use Rattle.blob_rows.specs.declared.blob_row.BlobRow.{BlobRow}
+use Rattle.blob_rows.specs.Rows.{has_digest, is_blob, extent_of_row}
 use Rattle.dimensions.specs.Rules.{is_empty}
 use Rattle.task_props.specs.Checked.{is_checked}
 use Rattle.swarm_model.specs.declared.pool_settings.PoolSettings.{PoolSettings}
 use Rattle.swarm_model.specs.declared.task_state.TaskState.TheVariants.{Pending, Running}
+use Rattle.swarm_model.specs.declared.attempt.Attempt.{Attempt}
 use Rattle.swarm_model.specs.declared.task_row.TaskRow.{TaskRow}
 use Rattle.swarm_model.specs.declared.bot_row.BotRow.{BotRow}
 use Rattle.swarm_model.specs.declared.pool_state.PoolState.{PoolState}
@@ -15,8 +20,10 @@ use Rattle.swarm_model.specs.Numbers.{AreNumbered}
 use Rattle.swarm_model.specs.Fits.{fits}
 use Rattle.swarm_model.specs.Finding.{has_state}
 use Rattle.swarm_model.specs.Deadlines.{deadlines}
-use Rattle.swarm_model.specs.Effects.{opening, no_of_task, no_of_bot}
+use Rattle.swarm_model.specs.Blobs.{most_blobs}
+use Rattle.swarm_model.specs.Effects.{opening, no_of_task, no_of_bot, life}
 use Rattle.swarm_model.specs.History.{replay, IsCaused}
+use Rattle.swarm_model.specs.Output.{AreInRow}
 
 -- a pending task has no run and no end, a running one a run without a last update, a final one an end
 abbrev pub fits_state : TaskRow → Bool
@@ -29,6 +36,12 @@ fits_state task =
 abbrev pub runner : TaskRow → Option ℕ
 runner task = if has_state Running task then option_map (λ attempt. attempt.bot) task.attempt else None
 
+-- the chunks that are kept of a run follow each other from its first byte to the last, each with a byte at least
+pub record IsSoundOutput (attempt : Attempt) : Type 0 where
+  pub in_row : AreInRow 0 attempt.chunks attempt.length
+  pub full : All (λ chunk. 1 ≤ chunk.size) attempt.chunks
+  pub short : attempt.length ≤ 67108864
+
 -- a row holds a checked request and a place of its slices; what began lies behind the last moment,
 -- and the bot that runs the task is there
 pub record IsSoundTask (s : PoolState) (task : TaskRow) : Type 0 where
@@ -37,6 +50,7 @@ pub record IsSoundTask (s : PoolState) (task : TaskRow) : Type 0 where
   pub since : task.since ≤ s.last
   pub state : IsTrue (fits_state task)
   pub has_bot : IfSome (runner task) (λ bot. bot ≤ length s.bots)
+  pub output : IfSome task.attempt IsSoundOutput
 
 -- a bot was not heard after the last moment, its handshake is one that the pool may be asked, and
 -- the task that it runs is there
@@ -70,6 +84,15 @@ AreSentApart a b = (key : List ℕ × List ℕ) → sent_key a ≡ Some key → 
 abbrev pub AreNamedApart : BotRow → BotRow → Type 0
 AreNamedApart a b = a.name ≡ b.name → a.no ≡ b.no
 
+-- a blob has the units that its size takes, inside the region, a number that was given, and a deadline
+-- at most a life after the last moment
+pub record IsSoundBlob (s : PoolState) (blob : BlobRow) : Type 0 where
+  pub units : blob.extent.units ≡ units_of blob.size
+  pub inside : blob.extent.at + blob.extent.units ≤ s.settings.store_units
+  pub placed : blob.no ≤ s.placed
+  pub size : blob.size ≤ 16777216
+  pub deadline : blob.deadline ≤ s.last + life s
+
 pub record IsSound (s : PoolState) : Type 0 where
   pub last : s.last ≤ 2 ^ 40
   pub tasks_numbered : AreNumbered no_of_task 1 s.tasks
@@ -83,6 +106,11 @@ pub record IsSound (s : PoolState) : Type 0 where
   pub claims : All (λ task. All (AreClaimedApart task) s.tasks) s.tasks
   pub sent : All (λ task. All (AreSentApart task) s.tasks) s.tasks
   pub names : All (λ bot. All (AreNamedApart bot) s.bots) s.bots
+  pub few_blobs : length s.blobs ≤ most_blobs
+  pub blobs : All (IsSoundBlob s) s.blobs
+  pub digests : (digest : List ℕ) → count_by (has_digest digest) s.blobs ≤ 1
+  pub numbers : (number : ℕ) → count_by (is_blob number) s.blobs ≤ 1
+  pub apart : AreApart (map extent_of_row s.blobs)
 
 -- each entry keeps a pool sound
 abbrev pub StaysSound : Type 0

@@ -4,12 +4,13 @@
 //! answered (`Answers`), what an entry of the log weighs and asks for (`Entries`), what it does to
 //! the rows (`Effects`), which logs are legal and what one call does at its point of a shared log
 //! (`History`). [`Machine`] is what keeps such a log; its contract is these definitions alone.
-//! The crate has no body of a machine. It stands on `task_props`, `region` and `content_store`.
+//! The rows of blobs are those of `blob_rows`, which [`BlobRow`] is passed on from. The crate has no
+//! body of a machine. It stands on `task_props` and `blob_rows`, and on `region` and `content_store`
+//! below it.
 #![tactic(auto)]
 
 mod answer;
 mod attempt;
-mod blob_row;
 mod bot_row;
 mod bot_view;
 mod deadline;
@@ -31,7 +32,7 @@ mod weighing;
 
 pub use answer::{Answer, Decision};
 pub use attempt::{Attempt, Chunk, Last};
-pub use blob_row::BlobRow;
+pub use blob_rows::BlobRow;
 pub use bot_row::BotRow;
 pub use bot_view::BotView;
 pub use deadline::{Cause, Deadline};
@@ -41,10 +42,10 @@ pub use permission::Permission;
 pub use pool_settings::{Grant, PoolSettings, Settings};
 pub use pool_state::PoolState;
 pub use read_rows::ReadRows;
-pub use reply::Reply;
+pub use reply::{Part, Reply};
 pub use request::Request;
 pub use reuse::Reuse;
-pub use rule::{Rule, Unbuilt, Unfit};
+pub use rule::{Rule, Unfit};
 pub use steps::Steps;
 pub use task_row::TaskRow;
 pub use task_state::TaskState;

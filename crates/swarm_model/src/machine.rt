@@ -1,14 +1,16 @@
-ghost use Rattle.std.specs.Prelude.{◌≡◌, ◌≤◌, ◌^◌, ◌↔◌, ◌++◌, ◌∷◌, [], length, true, false, None, Some, Ok, IsTrue, IsNone, IfSome, IfOk, OnOk, OnErr, IsErrOf, option_map, slice_get};
+ghost use Rattle.std.specs.Prelude.{◌≡◌, ◌≤◌, ◌^◌, ◌↔◌, ◌++◌, ◌∷◌, [], length, true, false, None, Some, Ok, IsTrue, IfSome, IfOk, OnOk, OnErr, IsErrOf, option_map, slice_get};
 ghost use Rattle.std.specs.List.{count_by, sum_by};
 ghost use Rattle.std.specs.Option.{option_copied};
+ghost use Rattle.sha2.specs.Sha256.{sha256};
 ghost use Rattle.swarm_model.specs.Settings.{keeps_rules};
-ghost use Rattle.swarm_model.specs.Finding.{task_of, bot_of, blob_numbered, blob_placed};
+ghost use Rattle.swarm_model.specs.Finding.{task_of, bot_of, blob_numbered, blob_placed, has_blob};
 ghost use Rattle.swarm_model.specs.Fits.{fits};
 ghost use Rattle.swarm_model.specs.Answers.{answer};
+ghost use Rattle.swarm_model.specs.Bytes.{nothing_held, brings, held_after};
 ghost use Rattle.swarm_model.specs.Effects.{opening, after};
 ghost use Rattle.swarm_model.specs.Deadlines.{due_entry};
 ghost use Rattle.swarm_model.specs.History.{MayFollow, has_room, tally};
-ghost use Rattle.swarm_model.specs.MachineState.{IsHistory, IsRight, KeepsFinals, ShowsVerdict, ActsOnce, TakesOutcome, Fills, bytes_of};
+ghost use Rattle.swarm_model.specs.MachineState.{IsHistory, IsRight, KeepsFinals, ShowsVerdict, ShowsOutput, ActsOnce, TakesOutcome, Fills};
 ghost use Rattle.swarm_model.specs.Verdicts.{is_new, verdict_tally};
 
 use crate::{Answer, BlobRow, BotRow, Entry, PoolSettings, Request, Steps, TaskRow};
@@ -37,7 +39,7 @@ pub trait Machine: Sized {
 
     fn new(alloc: Global, settings: PoolSettings) -> Result<Self, AllocError>
         requires { IsTrue (keeps_rules settings) }
-        ensures { IfOk result (λ m. kept m ≡ record { pool = opening settings; log = []; ready = None; held = [] }) };
+        ensures { IfOk result (λ m. kept m ≡ record { pool = opening settings; log = []; ready = None; held = nothing_held }) };
 
     /// The entry of the first deadline that has come by the moment.
     fn due<L: Ledger>(&self, moment: u64, pass: u32, steps: &mut Steps<L>) -> Option<Entry>
@@ -59,6 +61,7 @@ pub trait Machine: Sized {
         ensures exact { IfOk result (λ a. a ≡ answer (kept self.now).pool who.now moment pass request.now) }
         ensures verdict { IfOk result (λ a. ShowsVerdict (kept self.now) a.reply) }
         ensures repeats { IfOk result (λ a. ActsOnce (kept self.now) who.now request.now a.entry) }
+        ensures output { IfOk result (λ a. ShowsOutput (kept self.now) request.now a.reply) }
         ensures outcome { IfOk result (λ a. IfSome a.entry (TakesOutcome (kept self.now))) };
 
     /// Makes ready all that the entry's change needs, so that `commit` takes no memory.
@@ -68,24 +71,27 @@ pub trait Machine: Sized {
         ensures room { OnOk result (IsTrue (has_room (kept self.old).pool.settings (kept self.old).log entry.now)) }
         ensures full { IsErrOf result ReserveFault.LogFull ↔ (has_room (kept self.old).pool.settings (kept self.old).log entry.now ≡ false) };
 
-    /// Adds the entry that was reserved just before. `bytes` are those of the entry's new blob; no
-    /// entry has one yet.
+    /// Adds the entry that was reserved just before. `bytes` are those of the content that is put, or
+    /// of the chunk that is reported; they are held where the entry places a blob. In a replay there
+    /// are none, and `fill` brings them afterwards.
     fn commit(&mut self, entry: Entry, bytes: Option<&[u8]>)
         requires ready { (kept self.old).ready ≡ Some entry }
         requires follows { MayFollow (kept self.old).pool entry }
         requires room { IsTrue (has_room (kept self.old).pool.settings (kept self.old).log entry) }
-        requires bytes { IsNone bytes }
+        requires bytes { IfSome bytes (λ b. brings entry.kind ≡ Some (sha256 b.now, length b.now)) }
         ensures right { IsRight (kept self.old) entry }
         ensures finals { KeepsFinals (kept self.old) (kept self.new) }
-        ensures added { kept self.new ≡ record (kept self.old) { pool = after (kept self.old).pool entry; log = (kept self.old).log ++ entry ∷ []; ready = None } };
+        ensures added { kept self.new ≡ record (kept self.old) { pool = after (kept self.old).pool entry; log = (kept self.old).log ++ entry ∷ []; ready = None; held = held_after (kept self.old).pool entry.kind (option_map (λ b. b.now) bytes.entry) (kept self.old).held } };
 
-    /// Holds the bytes of a blob row whose bytes are not held yet.
+    /// Brings the bytes of a blob.
     fn fill(&mut self, digest: &Digest, bytes: &[u8]) -> Filled
         ensures fills { Fills (kept self.old) (kept self.new) digest.now bytes.now result };
 
     /// The bytes that are held under the digest.
     fn bytes(&self, digest: &Digest) -> Option<&[u8]>
-        ensures { option_map (λ b. b.now) result ≡ bytes_of (kept self.now).held digest.now };
+        ensures held { option_map (λ b. b.now) result ≡ (kept self.now).held digest.now }
+        ensures named { IfSome result (λ b. sha256 b.now ≡ digest.now) }
+        ensures sized { IfSome result (λ b. IsTrue (has_blob (kept self.now).pool digest.now (length b.now))) };
 
     /// The length of the log.
     fn length(&self) -> u64

@@ -1,6 +1,14 @@
 use crate::{BotView, Rule, TaskState, TaskView};
 use dimensions::{Seq, Text};
-use task_props::Properties;
+use task_props::{Digest, Properties};
+
+/// Bytes of a blob: those from one place to another.
+#[derive(Clone, Copy, Debug, PartialEq, Eq)]
+pub struct Part {
+    pub digest: Digest,
+    pub from: u32,
+    pub to: u32,
+}
 
 /// What a request is answered.
 #[derive(Drop)]
@@ -16,6 +24,11 @@ pub enum Reply {
         was_running: bool,
     },
     Result(TaskView),
+    /// The state of the task, and the parts of its output, one after the other.
+    Stdout {
+        state: TaskState,
+        parts: Seq<Part>,
+    },
     /// A page of tasks, and where more are left the number of its last one.
     Tasks {
         items: Seq<TaskView>,
@@ -59,5 +72,18 @@ pub enum Reply {
         cursor: Option<Text>,
     },
     Bot(BotView),
+    /// Whether the blob was not held before.
+    Put {
+        fresh: bool,
+    },
+    /// A blob, whose bytes stand beside the reply.
+    Blob {
+        digest: Digest,
+        size: u32,
+    },
+    /// The blobs, by digest and size, that are not held.
+    Missing {
+        blobs: Seq<(Digest, u32)>,
+    },
     No(Rule),
 }

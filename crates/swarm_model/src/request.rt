@@ -1,6 +1,6 @@
 use crate::{Chunk, EventKind, Last, TaskState};
-use dimensions::{BotDims, Text};
-use task_props::NewTask;
+use dimensions::{BotDims, Seq, Text};
+use task_props::{Digest, NewTask};
 
 /// A checked request to one pool. A task is named by its number in the pool, and one of its runs
 /// by the number of the try; try 0 names the task itself. A bot is named by its name.
@@ -17,6 +17,13 @@ pub enum Request {
     Result {
         task: u32,
         try_no: u32,
+    },
+    /// The output of a task's run, from a byte on: at most `length` bytes, 1 to 65536.
+    Stdout {
+        task: u32,
+        try_no: u32,
+        offset: u32,
+        length: u32,
     },
     /// The tasks in a state, or in any, with numbers below `below`, where there is one: at most
     /// `limit`, 1 to 200, the newest first.
@@ -74,5 +81,19 @@ pub enum Request {
     /// What is known of a bot.
     Bot {
         bot: Text,
+    },
+    /// A content is to be held under the digest that it is named by; `actual` is its own.
+    PutBlob {
+        named: Digest,
+        actual: Digest,
+        size: u32,
+    },
+    /// The bytes of a blob.
+    GetBlob {
+        digest: Digest,
+    },
+    /// Which of these blobs, by digest and size, are not held.
+    FindMissing {
+        blobs: Seq<(Digest, u32)>,
     },
 }

@@ -1,15 +1,6 @@
 use crate::{Permission, TaskState};
 use dimensions::Text;
-use task_props::PropRule;
-
-/// What isn't built yet and was asked for.
-#[derive(Clone, Copy, Debug, PartialEq, Eq)]
-pub enum Unbuilt {
-    /// A task with fields that aren't served.
-    Task,
-    /// A report with output or files.
-    Update,
-}
+use task_props::{Digest, PropRule};
 
 /// Why a bot gets no work.
 #[derive(Clone, Copy, Debug, PartialEq, Eq)]
@@ -84,6 +75,27 @@ pub enum Rule {
     AttemptOver {
         state: TaskState,
     },
+    /// The output begins past what is kept of the run, which has so many bytes.
+    OutputGap {
+        length: u32,
+    },
+    /// The output begins within what is kept of the run, and none that was kept is the same.
+    OutputOverlap {
+        start: u32,
+    },
+    /// No blob has the digest, or not with this size.
+    BlobMissing {
+        digest: Digest,
+    },
+    /// The bytes have another digest than they were put under.
+    DigestDiffers {
+        actual: Digest,
+    },
+    /// The pool holds so many blobs, and has no room for one more of this size.
+    StoreFull {
+        names: u32,
+        size: u32,
+    },
     /// The pool has as many tasks as it may have.
     PoolTasksFull {
         limit: u32,
@@ -99,7 +111,8 @@ pub enum Rule {
         length: u64,
     },
     WantOfMemory,
-    NotBuilt {
-        what: Unbuilt,
+    /// A blob of the output is not held any more.
+    OutputGone {
+        digest: Digest,
     },
 }

@@ -1,7 +1,7 @@
 -- The first of the items that pass a test.
 use Rattle.std.proofs.Common.{◌≡◌, List, [], ◌∷◌, reverse, Bool, true, false, cond, Some, refl, sym, ap, ◌∙◌}
 use Rattle.std.specs.List.{filter, find, slice_get}
-use Rattle.swarm_rules.proofs.Listed.{filter-reverse}
+use Rattle.pool_queries.proofs.Listed.{filter-reverse}
 
 module _ {X : Type 0} (p : X → Bool) where
   slice_get-filter : (xs : List X) → slice_get (filter p xs) 0 ≡ find p xs

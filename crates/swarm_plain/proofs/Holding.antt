@@ -9,13 +9,14 @@ use Rattle.swarm_laws.proofs.Sound.{sound_always}
 use Rattle.swarm_plain.specs.declared.rows.Rows.{Rows}
 use Rattle.swarm_plain.specs.declared.list_pool.ListPool.TheInside.{Inside}
 use Rattle.row_changes.specs.Rows.{HasFewSlices, IsEarly, IsHeard}
+use Rattle.swarm_plain.specs.Plain.{machine_of}
 use Rattle.swarm_plain.specs.Inside.{state_of, IsInOrder}
 use Rattle.swarm_plain.specs.Invariant.{kept_of, IsKept}
 
 pub kept_sound : (pool : Inside) → IsKept pool → IsSound (state_of pool.rows)
 kept_sound pool kept = subst IsSound (sym kept.replayed) (sound_always pool.rows.settings pool.log.items kept.legal.caused)
 
-pub kept_history : (pool : Inside) → IsKept pool → IsHistory (kept_of pool)
+pub kept_history : (pool : Inside) → IsKept pool → IsHistory (machine_of (kept_of pool))
 kept_history pool kept = record { replayed = kept.replayed; legal = kept.legal }
 
 pub all_early : (s : PoolState) → IsSound s → All IsEarly s.tasks

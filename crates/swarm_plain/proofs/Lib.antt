@@ -1,6 +1,9 @@
 pub mod Legality
 pub mod Committing
+pub mod Contents
+pub mod Storing
 mod RowEffects
+mod BlobEffects
 mod Holding
 mod Finding
 mod TasksBelow

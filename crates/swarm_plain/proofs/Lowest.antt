@@ -4,7 +4,7 @@ use Rattle.std.specs.Prelude.{if◌then◌else◌}
 use Rattle.std.specs.List.{filter, fold, slice_get}
 use Rattle.std.specs.Cmp.{IsStrictWeakOrder}
 use Rattle.dimensions.specs.Order.{insert_by, sorted_by}
-use Rattle.swarm_rules.proofs.Sorted.{below-trans}
+use Rattle.pool_queries.proofs.Sorted.{below-trans}
 use Rattle.swarm_plain.specs.Lowest.{lower}
 
 module _ {X : Type 0} (below : X → X → Bool) (order : IsStrictWeakOrder below) where

@@ -7,7 +7,7 @@ use Rattle.dimensions.proofs.Orders.{text_order}
 use Rattle.swarm_model.specs.declared.bot_row.BotRow.{BotRow}
 use Rattle.swarm_model.specs.Pages.{is_named_before, is_after}
 use Rattle.swarm_plain.specs.Lowest.{lower}
-use Rattle.swarm_rules.proofs.Sorted.{below-trans}
+use Rattle.pool_queries.proofs.Sorted.{below-trans}
 use Rattle.swarm_plain.proofs.Lowest.{first-sorted_by}
 
 name_order : IsStrictWeakOrder is_named_before

@@ -1,21 +1,27 @@
 -- What the rows stand for, and what lies ready for an entry.
-use Rattle.std.specs.Prelude.{◌≡◌, ◌<◌, ℕ, List, [], ◌∷◌, ◌++◌, map, Option, Some, vec_len, vec_capacity}
+use Rattle.std.specs.Prelude.{◌≡◌, ◌<◌, ℕ, ⊤, List, [], ◌∷◌, ◌++◌, map, length, Option, Some, IfSome, vec_len, vec_capacity}
 use Rattle.std.specs.List.{All}
+use Rattle.sha2.specs.Sha256.{sha256}
+use Rattle.swarm_model.specs.declared.attempt.Chunk.{Chunk}
 use Rattle.swarm_model.specs.declared.task_row.TaskRow.{TaskRow}
 use Rattle.swarm_model.specs.declared.pool_state.PoolState.{PoolState}
 use Rattle.swarm_model.specs.declared.entry.EntryKind.{EntryKind}
+use Rattle.swarm_model.specs.declared.entry.EntryKind.TheVariants as kind
 use Rattle.swarm_model.specs.declared.task_state.TaskState.{TaskState}
 use Rattle.swarm_model.specs.Numbers.{AreNumbered}
 use Rattle.swarm_model.specs.Answers.{entry_at}
-use Rattle.swarm_model.specs.Effects.{no_of_task, no_of_bot, new_row, task_at, started_run, ended_run_at, after}
+use Rattle.swarm_model.specs.Bytes.{brings, held_after}
+use Rattle.swarm_model.specs.Effects.{no_of_task, no_of_bot, new_row, task_at, started_run, ended_run_at, chunk_at, fresh_chunk, if_some, after}
 use Rattle.row_changes.specs.declared.parts.TaskParts.{TaskParts}
 use Rattle.row_changes.specs.declared.parts.TaskParts.TheVariants as parts
+use Rattle.row_changes.specs.Output.{run_of, StaysShort, TakesFresh}
 use Rattle.row_changes.specs.Rows.{HasFewSlices}
+use Rattle.swarm_plain.specs.Blobs.{held_in, IsOfPool}
 use Rattle.swarm_plain.specs.declared.rows.Rows.{Rows}
 
 -- the state that the rows stand for
 abbrev pub state_of : Rows → PoolState
-state_of rows = record { settings = rows.settings; last = rows.last; tasks = rows.tasks.items; bots = rows.bots.items; blobs = []; placed = 0 }
+state_of rows = record { settings = rows.settings; last = rows.last; tasks = rows.tasks.items; bots = rows.bots.items; blobs = rows.blobs.rows; placed = rows.blobs.placed }
 
 -- the rows are numbered by their places, and each request names few slices
 pub record IsInOrder (rows : Rows) : Type 0 where
@@ -28,10 +34,26 @@ pub record HasRoom (rows : Rows) : Type 0 where
   pub task : vec_len rows.tasks < vec_capacity rows.tasks
   pub bot : vec_len rows.bots < vec_capacity rows.bots
 
--- the rows go on by an entry of this kind
-pub record Becomes (old new : Rows) (moment : ℕ) (k : EntryKind) : Type 0 where
+-- there is room for the chunk of an entry, with a spare buffer of this size
+abbrev pub HasChunkRoom : List TaskRow → ℕ → EntryKind → Type 0
+HasChunkRoom tasks spare (kind.Update b t try_no chunk last) = TakesFresh spare (run_of tasks t) chunk
+HasChunkRoom tasks spare entry = ⊤
+
+-- the output with the chunk of an entry is short
+abbrev pub KeepsShort : List TaskRow → EntryKind → Type 0
+KeepsShort tasks (kind.Update b t try_no chunk last) = StaysShort (run_of tasks t) chunk
+KeepsShort tasks entry = ⊤
+
+-- bytes that come are those that an entry of this kind brings
+abbrev pub AreBrought : EntryKind → Option (List ℕ) → Type 0
+AreBrought k bytes = IfSome bytes (λ b. brings k ≡ Some (sha256 b, length b))
+
+-- the rows, and the bytes that are held, go on by an entry of this kind, with which these bytes come
+pub record Becomes (old new : Rows) (moment : ℕ) (k : EntryKind) (bytes : Option (List ℕ)) : Type 0 where
   pub state : state_of new ≡ after (state_of old) (entry_at moment 0 k)
   pub settings : new.settings ≡ old.settings
+  pub held : held_in new.blobs ≡ held_after (state_of old) k bytes (held_in old.blobs)
+  pub of_pool : IsOfPool new.settings new.blobs
 
 -- ---- the rows of the tasks with what is moved into them
 
@@ -43,6 +65,7 @@ abbrev pub with_claim : ℕ → ℕ → ℕ → TaskParts → List TaskRow → L
 with_claim moment b t (parts.Claim claim) rows = map (task_at t (started_run moment b claim)) rows
 with_claim moment b t other rows = rows
 
-abbrev pub with_report : ℕ → ℕ → TaskParts → List TaskRow → List TaskRow
-with_report moment t (parts.Report task chunk (Some last)) rows = map (ended_run_at moment t chunk last) rows
-with_report moment t other rows = rows
+abbrev pub with_report : ℕ → ℕ → Option Chunk → TaskParts → List TaskRow → List TaskRow
+with_report moment t chunk (parts.Report task same last) rows =
+    map (λ row. if_some (ended_run_at moment t chunk) last (if_some (chunk_at t) (fresh_chunk (run_of rows t) chunk) row)) rows
+with_report moment t chunk other rows = rows

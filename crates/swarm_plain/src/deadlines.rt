@@ -1,16 +1,16 @@
 //! The earliest deadline, by a scan of the rows.
-ghost use Rattle.std.specs.Prelude.{◌≡◌, None, IfSome};
+ghost use Rattle.std.specs.Prelude.{◌≡◌, map, None, IfSome};
 ghost use Rattle.std.specs.List.{fold, filter_map, All};
 ghost use Rattle.std.specs.Option.{option_copied};
 ghost use Rattle.swarm_model.specs.Finding.{bot_of};
 ghost use Rattle.swarm_model.specs.Soundness.{IsSound};
-ghost use Rattle.swarm_model.specs.Deadlines.{slice_end, runner_of, silence_end, bot_end, sooner, next_deadline};
+ghost use Rattle.swarm_model.specs.Deadlines.{slice_end, runner_of, silence_end, bot_end, blob_end, sooner, next_deadline};
 ghost use Rattle.row_changes.specs.Rows.{IsEarly, IsHeard};
 ghost use Rattle.swarm_plain.specs.Inside.{state_of};
 
 use crate::rows::Rows;
-use row_changes::{death_of, row_of, silence_limit, slice_end, sooner_of};
-use swarm_model::{BotRow, Deadline, TaskRow, TaskState};
+use row_changes::{blob_end, death_of, row_of, silence_limit, slice_end, sooner_of};
+use swarm_model::{BlobRow, BotRow, Deadline, TaskRow, TaskState};
 
 fn bot_of(rows: &Rows, number: u32) -> Option<&BotRow>
     requires { IsSound (state_of rows.now) }
@@ -85,6 +85,16 @@ fn bots_ends(rows: &Rows, best: Option<Deadline>) -> Option<Deadline>
     soonest
 }
 
+fn blobs_ends(blobs: &[BlobRow], best: Option<Deadline>) -> Option<Deadline>
+    ensures { result ≡ fold sooner best (map blob_end blobs.now) }
+{
+    let mut soonest = best;
+    for blob in blobs {
+        soonest = sooner_of(soonest, Some(blob_end(blob)));
+    }
+    soonest
+}
+
 /// The earliest of all deadlines.
 pub(crate) fn next_deadline(rows: &Rows) -> Option<Deadline>
     requires { IsSound (state_of rows.now) }
@@ -92,5 +102,6 @@ pub(crate) fn next_deadline(rows: &Rows) -> Option<Deadline>
 {
     let slices = slices_ends(rows);
     let silences = silences_ends(rows, slices);
-    bots_ends(rows, silences)
+    let bots = bots_ends(rows, silences);
+    blobs_ends(rows.blobs.rows(), bots)
 }

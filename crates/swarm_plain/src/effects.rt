@@ -1,19 +1,24 @@
 //! What each entry does to the rows, in place.
-ghost use Rattle.std.specs.Prelude.{◌≡◌, ◌<◌, ◌++◌, ◌∷◌, [], map, IsTrue, vec_len, vec_capacity};
+ghost use Rattle.std.specs.Prelude.{◌≡◌, ◌<◌, ◌≤◌, ◌^◌, ◌++◌, ◌∷◌, [], map, vec_len, vec_capacity};
+ghost use Rattle.std.specs.Option.{option_map};
 ghost use Rattle.swarm_model.specs.Numbers.{AreNumbered};
 ghost use Rattle.swarm_model.specs.Effects.{no_of_task, if_some, lost_run_at, run_of_bot, task_after, added_tasks};
-ghost use Rattle.swarm_laws.specs.Served.{is_served, ends_run};
+ghost use Rattle.swarm_model.specs.History.{MayFollow};
+ghost use Rattle.swarm_model.specs.Soundness.{IsSound};
+ghost use Rattle.row_changes.specs.Output.{run_of, StaysShort, TakesFresh};
 ghost use Rattle.row_changes.specs.Parts.{task_parts};
-ghost use Rattle.swarm_plain.specs.Inside.{state_of, IsInOrder, HasRoom, Becomes, with_claim, with_new, with_report};
+ghost use Rattle.swarm_plain.specs.Blobs.{IsOfPool};
+ghost use Rattle.swarm_plain.specs.Inside.{state_of, IsInOrder, HasRoom, HasChunkRoom, KeepsShort, AreBrought, Becomes, with_claim, with_new, with_report};
 
+use crate::blobs::change_blobs;
 use crate::rows::Rows;
-use reserved_vec::ReservedVec;
+use reserved_vec::{ReservedVec, SpareBuffer};
 use row_changes::{
-    Cancel, ExpireSlice, Finish, LoseRun, MarkKill, StartRun, TaskParts, change_bots, change_row,
-    new_row, row_of, split,
+    Cancel, ExpireSlice, LoseRun, MarkKill, StartRun, TaskParts, change_bots, change_row, new_row,
+    record_report, row_of, split,
 };
 use std::alloc::Global;
-use swarm_model::{Entry, EntryKind, TaskRow, TaskState};
+use swarm_model::{Chunk, Entry, EntryKind, TaskRow, TaskState};
 
 /// The run of a bot is lost, where it has one.
 fn lose_if_some(tasks: &mut Vec<TaskRow>, moment: u64, run: Option<u32>)
@@ -66,25 +71,26 @@ fn start(tasks: &mut Vec<TaskRow>, alloc: Global, moment: u64, b: u32, t: u32, p
     }
 }
 
-/// The run of a task ends with the last report that the parts are.
-fn finish(tasks: &mut Vec<TaskRow>, moment: u64, t: u32, parts: TaskParts)
-    requires { AreNumbered no_of_task 1 tasks.old.items }
-    ensures { tasks.new.items ≡ with_report moment t parts tasks.old.items }
+/// The bot of a task reports what the parts are.
+fn report(
+    tasks: &mut Vec<TaskRow>,
+    moment: u64,
+    t: u32,
+    chunk: Option<Chunk>,
+    parts: TaskParts,
+    spare: &mut SpareBuffer<Chunk>,
+)
+    requires numbered { AreNumbered no_of_task 1 tasks.old.items }
+    requires room { TakesFresh spare.old (run_of tasks.old.items t) chunk }
+    requires short { StaysShort (run_of tasks.old.items t) chunk }
+    ensures { tasks.new.items ≡ with_report moment t chunk parts tasks.old.items }
 {
     match parts {
         TaskParts::Report {
             task: _,
-            chunk,
-            last: Some(last),
-        } => change_row(
-            tasks,
-            t,
-            Finish {
-                moment,
-                chunk,
-                last,
-            },
-        ),
+            chunk: _,
+            last,
+        } => record_report(tasks, moment, t, chunk, last, spare),
         other => drop(other),
     }
 }
@@ -101,13 +107,22 @@ impl Rows {
         }
     }
 
+    /// How many seconds a blob is kept.
+    fn blob_life(&self) -> u64
+        ensures value { result ≡ self.now.settings.blob_life_secs }
+        ensures short { result ≤ 2 ^ 32 }
+    {
+        u64::from(self.settings.blob_life_secs)
+    }
+
     fn change_tasks(&mut self, alloc: Global, moment: u64, kind: &EntryKind, parts: TaskParts)
-        requires ends { IsTrue (ends_run kind.now) }
         requires order { IsInOrder self.old }
         requires room { HasRoom self.old }
+        requires chunk { HasChunkRoom self.old.tasks.items self.old.spare kind.now }
+        requires short { KeepsShort self.old.tasks.items kind.now }
         requires parts { parts ≡ task_parts kind.now }
         ensures tasks { self.new.tasks.items ≡ map (task_after (state_of self.old) moment kind.now) self.old.tasks.items ++ added_tasks moment kind.now }
-        ensures rest { self.new ≡ record self.old { tasks = self.new.tasks } }
+        ensures rest { self.new ≡ record self.old { tasks = self.new.tasks; spare = self.new.spare } }
     {
         match kind {
             EntryKind::Slice { t, to } => {
@@ -128,7 +143,9 @@ impl Rows {
                 lose_if_some(&mut self.tasks, moment, run);
             }
             EntryKind::Claim { b, t, .. } => start(&mut self.tasks, alloc, moment, *b, *t, parts),
-            EntryKind::Update { t, .. } => finish(&mut self.tasks, moment, *t, parts),
+            EntryKind::Update { t, chunk, .. } => {
+                report(&mut self.tasks, moment, *t, *chunk, parts, &mut self.spare);
+            }
             EntryKind::Dead { .. }
             | EntryKind::Blob { .. }
             | EntryKind::Poll { .. }
@@ -139,14 +156,18 @@ impl Rows {
         }
     }
 
-    /// What the entry does; the parts of its copy move into the rows.
-    pub(crate) fn apply(&mut self, alloc: Global, entry: &Entry, copy: Entry)
-        requires served { IsTrue (is_served entry.now.kind) }
-        requires ends { IsTrue (ends_run entry.now.kind) }
-        requires order { IsInOrder self.old }
+    /// What the entry does; the parts of its copy move into the rows, and the bytes of a blob that it
+    /// places are held.
+    pub(crate) fn apply(&mut self, alloc: Global, entry: &Entry, copy: Entry, bytes: Option<&[u8]>)
+        requires sound { IsSound (state_of self.old) }
+        requires follows { MayFollow (state_of self.old) entry.now }
         requires room { HasRoom self.old }
+        requires chunk { HasChunkRoom self.old.tasks.items self.old.spare entry.now.kind }
+        requires of_pool { IsOfPool self.old.settings self.old.blobs }
+        requires few { self.old.blobs.placed < self.old.settings.most_entries }
         requires copy { copy ≡ entry.now }
-        ensures { Becomes self.old self.new entry.now.moment entry.now.kind }
+        requires bytes { AreBrought entry.now.kind (option_map (λ b. b.now) bytes) }
+        ensures { Becomes self.old self.new entry.now.moment entry.now.kind (option_map (λ b. b.now) bytes.entry) }
     {
         let Entry {
             moment: _,
@@ -154,8 +175,13 @@ impl Rows {
             kind,
         } = copy;
         let (task, bot) = split(kind);
+        let effect = self.blob_effect(&entry.kind);
+        let life = self.blob_life();
+        // For the proof: the limits of the settings.
+        let _most = self.settings.most_entries;
         self.change_tasks(alloc, entry.moment, &entry.kind, task);
         change_bots(&mut self.bots, alloc, entry.moment, &entry.kind, bot);
+        change_blobs(&mut self.blobs, life, entry.moment, effect, bytes);
         self.last = entry.moment;
     }
 }

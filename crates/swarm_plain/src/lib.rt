@@ -1,10 +1,12 @@
 //! The plain machine: one pool as lists of rows that are scanned in full.
 //!
 //! [`ListPool`] is a [`Machine`](swarm_model::Machine): its rows are the replay of its log, and the
-//! log is legal. It implements the queries of `swarm_rules` by scans, and has no index. It is what
+//! log is legal. It implements the queries of `swarm_rules` by scans, and has no index but the store's
+//! own. The rows of the blobs, with the bytes that are held, are those of `blob_rows`. It is what
 //! every faster machine is held against.
 #![tactic(auto)]
 
+mod blobs;
 mod deadlines;
 mod effects;
 mod list_pool;

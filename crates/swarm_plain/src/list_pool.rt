@@ -5,10 +5,11 @@ ghost use Rattle.swarm_model.specs.Answers.{entry_at};
 use crate::deadlines::next_deadline;
 use crate::rows::Rows;
 use crate::{pages, scans, sources};
-use content_store::Filled;
+use blob_rows::Blobs;
+use content_store::{Filled, Held};
 use dimensions::{BotDims, DimSet, Text, TryCopy};
+use reserved_vec::SpareBuffer;
 use row_changes::{is_capable, row_of};
-use sha2::{Digest as Hash, Sha256};
 use std::alloc::{AllocError, Global};
 use std::marker::Model;
 use std::mem;
@@ -19,6 +20,9 @@ use swarm_model::{
 };
 use swarm_rules::{PoolQueries, decide, due_entry};
 use task_props::Digest;
+
+/// The most blobs of a pool.
+const MOST_BLOBS: u32 = 262144;
 
 /// What lies ready for an entry: its copy, whose texts move into the rows, and its weight.
 #[derive(Drop)]
@@ -39,9 +43,9 @@ pub struct ListPool {
 }
 
 impl Model for ListPool {
-    ghost use Rattle.swarm_model.specs.MachineState.{MachineState};
+    ghost use Rattle.swarm_plain.specs.Plain.{ListPoolState};
 
-    ghost Value = { MachineState };
+    ghost Value = { ListPoolState };
 
     ghost use Rattle.swarm_plain.specs.Invariant.{kept_of, IsKept};
 
@@ -80,8 +84,9 @@ impl PoolQueries for ListPool {
     }
 
     fn task_of<L: Ledger>(&self, number: u32, steps: &mut Steps<L>) -> Option<&TaskRow> {
+        let row = row_of(self.rows.tasks.as_slice(), number)?;
         steps.tick();
-        row_of(self.rows.tasks.as_slice(), number)
+        Some(row)
     }
 
     fn newest_below<L: Ledger>(
@@ -150,17 +155,38 @@ impl PoolQueries for ListPool {
         is_capable(self.rows.bots.as_slice(), dims)
     }
 
+    fn blob_count(&self) -> usize {
+        self.rows.blobs.rows().len()
+    }
+
+    fn blob_of<'a>(&'a self, digest: &Digest) -> Option<&'a BlobRow> {
+        self.rows.blobs.blob_of(digest)
+    }
+
+    fn blob_numbered(&self, number: u32) -> Option<&BlobRow> {
+        self.rows.blobs.blob_numbered(number)
+    }
+
+    fn probe(&self, digest: &Digest, size: u32) -> Held {
+        self.rows.blobs.probe(digest, size)
+    }
+
+    fn is_used(&self, digest: &Digest) -> bool {
+        scans::is_used(self.rows.tasks.as_slice(), digest)
+    }
+
     fn next_deadline(&self) -> Option<Deadline> {
         next_deadline(&self.rows)
     }
 }
 
 impl Machine for ListPool {
-    ghost use Rattle.std.specs.Prelude.{◌≡◌};
+    ghost use Rattle.swarm_plain.specs.Plain.{machine_of};
 
-    ghost kept = { λ p. p };
+    ghost kept = { machine_of };
 
     fn new(alloc: Global, settings: PoolSettings) -> Result<ListPool, AllocError> {
+        let blobs = Blobs::new(alloc, settings.store_units, MOST_BLOBS)?;
         Ok(ListPool {
             alloc,
             rows: Rows {
@@ -168,6 +194,8 @@ impl Machine for ListPool {
                 last: 0,
                 tasks: Vec::new(alloc),
                 bots: Vec::new(alloc),
+                blobs,
+                spare: SpareBuffer::new(alloc),
             },
             log: Vec::new(alloc),
             weight: 0,
@@ -202,10 +230,7 @@ impl Machine for ListPool {
         {
             return Err(ReserveFault::LogFull);
         }
-        if self.log.reserve(1).is_err()
-            || self.rows.tasks.reserve(1).is_err()
-            || self.rows.bots.reserve(1).is_err()
-        {
+        if self.log.reserve(1).is_err() || self.rows.make_room(&entry.kind).is_err() {
             return Err(ReserveFault::Memory);
         }
         match entry.try_copy(self.alloc) {
@@ -217,7 +242,7 @@ impl Machine for ListPool {
         }
     }
 
-    fn commit(&mut self, entry: Entry, _bytes: Option<&[u8]>) {
+    fn commit(&mut self, entry: Entry, bytes: Option<&[u8]>) {
         match self.ready.take() {
             None => unreachable!(),
             Some(ready) => {
@@ -225,7 +250,7 @@ impl Machine for ListPool {
                     entry: copy,
                     weight,
                 } = ready;
-                self.rows.apply(self.alloc, &entry, copy);
+                self.rows.apply(self.alloc, &entry, copy, bytes);
                 // For the proof: the limits of the settings.
                 let _most = self.rows.settings.most_weight;
                 self.weight += weight;
@@ -236,19 +261,15 @@ impl Machine for ListPool {
 
     fn fill(&mut self, digest: &Digest, bytes: &[u8]) -> Filled {
         drop(self.ready.take());
-        let actual = Sha256::digest(bytes);
-        if actual == *digest {
-            Filled::Unknown
-        } else {
-            Filled::Differs(actual)
-        }
+        // For the proof: the rows of the blobs are tied to the store.
+        let _rows = self.rows.blobs.rows();
+        self.rows.blobs.fill(digest, bytes)
     }
 
-    fn bytes(&self, _digest: &Digest) -> Option<&[u8]> {
-        // No blob has a row yet, so nothing is held.
-        // For the proof: the invariant of the rows.
-        let _rows = &self.rows;
-        None
+    fn bytes(&self, digest: &Digest) -> Option<&[u8]> {
+        // For the proof: the rows of the blobs are tied to the store.
+        let _rows = self.rows.blobs.rows();
+        self.rows.blobs.bytes(digest)
     }
 
     fn length(&self) -> u64 {
@@ -267,16 +288,12 @@ impl Machine for ListPool {
         self.rows.last
     }
 
-    fn blob(&self, _no: u32) -> Option<&BlobRow> {
-        // For the proof: the invariant of the rows.
-        let _rows = &self.rows;
-        None
+    fn blob(&self, no: u32) -> Option<&BlobRow> {
+        self.blob_numbered(no)
     }
 
-    fn blob_at(&self, _at: u32) -> Option<&BlobRow> {
-        // For the proof: the invariant of the rows.
-        let _rows = &self.rows;
-        None
+    fn blob_at(&self, at: u32) -> Option<&BlobRow> {
+        self.rows.blobs.rows().get(at as usize)
     }
 
     fn task<L: Ledger>(&self, no: u32, steps: &mut Steps<L>) -> Option<&TaskRow> {

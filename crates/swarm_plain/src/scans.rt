@@ -1,16 +1,18 @@
 ghost use Rattle.std.specs.Prelude.{◌≡◌, map, None, if◌then◌else◌};
 ghost use Rattle.swarm_model.specs.History.{states};
-ghost use Rattle.std.specs.List.{find, filter, fold, count_by};
+ghost use Rattle.std.specs.List.{find, filter, fold, count_by, list_any};
 ghost use Rattle.std.specs.Option.{option_copied};
 ghost use Rattle.swarm_model.specs.Finding.{is_task, is_bot, is_called, has_state, is_wanted};
 ghost use Rattle.swarm_model.specs.Slices.{waits_for, goes_before, foremost};
 ghost use Rattle.swarm_model.specs.Answers.{is_claimed};
 ghost use Rattle.swarm_model.specs.Reuse.{is_sent};
+ghost use Rattle.swarm_model.specs.Uses.{needs};
 ghost use Rattle.dimensions.specs.Rules.{is_empty};
 
 use dimensions::{BotDims, Text};
-use row_changes::{is_claimed, is_sent, waits_for};
+use row_changes::{is_claimed, is_sent, needs, waits_for};
 use swarm_model::{BotRow, TaskRow, TaskState};
+use task_props::Digest;
 
 pub(crate) fn is_wanted(wanted: Option<TaskState>, task: &TaskRow) -> bool
     ensures { result ≡ is_wanted wanted task.now }
@@ -123,4 +125,11 @@ pub(crate) fn first<'a>(tasks: &'a [TaskRow], dims: &BotDims) -> Option<&'a Task
         }
     }
     best
+}
+
+/// Whether a task needs the blob of a digest.
+pub(crate) fn is_used(tasks: &[TaskRow], digest: &Digest) -> bool
+    ensures { result ≡ list_any (needs digest.now) tasks.now }
+{
+    tasks.iter().any(|task| needs(digest, task))
 }

@@ -1,4 +1,1 @@
-pub mod Beyond
-pub mod Listed
-pub mod Pages
-pub mod Sorted
+pub mod Inputs

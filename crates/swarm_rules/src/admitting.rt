@@ -2,7 +2,7 @@
 ghost use Rattle.std.specs.Prelude.{◌≡◌, ◌<◌, length, IfSome};
 ghost use Rattle.swarm_model.specs.Slices.{is_open, admit};
 
-use crate::PoolQueries;
+use pool_queries::PoolQueries;
 use task_props::Slice;
 
 fn is_open<P: PoolQueries>(pool: &P, slice: &Slice) -> bool

@@ -2,11 +2,8 @@ ghost use Rattle.std.specs.Prelude.{◌≡◌, IfOk};
 ghost use Rattle.swarm_model.specs.declared.rule.Rule.TheVariants as rule;
 ghost use Rattle.swarm_model.specs.Answers.{cancels, is_killed, stop, cancel_row, with, named_task, cancel};
 
-use crate::PoolQueries;
-use crate::permitting::{denied, may};
-use crate::reading::named_task;
-use crate::replies::refusal;
 use dimensions::Text;
+use pool_queries::{PoolQueries, denied, may, named_task, refusal};
 use std::alloc::{AllocError, Global};
 use std::sync::ledger::Ledger;
 use swarm_model::{

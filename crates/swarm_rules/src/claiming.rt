@@ -1,12 +1,11 @@
-ghost use Rattle.std.specs.Prelude.{◌≡◌, IfOk};
+ghost use Rattle.std.specs.Prelude.{◌≡◌, ◌≤◌, ◌+◌, IfOk};
 ghost use Rattle.swarm_model.specs.declared.rule.Rule.TheVariants as rule;
 ghost use Rattle.swarm_model.specs.Finding.{bot_named};
 ghost use Rattle.swarm_model.specs.Answers.{with, claim_again, unfit_of, claims, claim};
 
-use crate::PoolQueries;
-use crate::replies::{refusal, reply_with_entry, unfit_refusal};
 use crate::runs::{busy_refusal, run};
 use dimensions::{Text, TryCopy};
+use pool_queries::{PoolQueries, refusal, reply_with_entry, unfit_refusal};
 use std::alloc::{AllocError, Global};
 use std::sync::ledger::Ledger;
 use swarm_model::{BotRow, Decision, EntryKind, Reply, Rule, Steps, TaskRow, Unfit};
@@ -64,7 +63,8 @@ fn claim_row<P: PoolQueries, L: Ledger>(
     bot: &BotRow,
     steps: &mut Steps<L>,
 ) -> Result<Decision, AllocError>
-    ensures { IfOk result (λ decision. decision ≡ claim (P.state pool.now) id.now bot.now) }
+    ensures value { IfOk result (λ decision. decision ≡ claim (P.state pool.now) id.now bot.now) }
+    ensures cost { steps.new ≤ steps.old + 1 }
 {
     if let Some(task) = pool.by_claim(bot.no, id, steps) {
         return claim_again(alloc, bot, task);
@@ -89,7 +89,8 @@ pub(crate) fn claim<P: PoolQueries, L: Ledger>(
     id: &Text,
     steps: &mut Steps<L>,
 ) -> Result<Decision, AllocError>
-    ensures { IfOk result (λ decision. decision ≡ with (bot_named (P.state pool.now) name.now) rule.NoBot (claim (P.state pool.now) id.now)) }
+    ensures value { IfOk result (λ decision. decision ≡ with (bot_named (P.state pool.now) name.now) rule.NoBot (claim (P.state pool.now) id.now)) }
+    ensures cost { steps.new ≤ steps.old + 1 }
 {
     match pool.bot_named(name) {
         None => Ok(refusal(Rule::NoBot)),

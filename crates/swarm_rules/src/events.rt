@@ -3,9 +3,8 @@ ghost use Rattle.swarm_model.specs.declared.rule.Rule.TheVariants as rule;
 ghost use Rattle.swarm_model.specs.Finding.{bot_named};
 ghost use Rattle.swarm_model.specs.Answers.{with, event};
 
-use crate::PoolQueries;
-use crate::replies::{refusal, reply_with_entry, unfit_refusal};
 use dimensions::{Text, TryCopy};
+use pool_queries::{PoolQueries, refusal, reply_with_entry, unfit_refusal};
 use std::alloc::{AllocError, Global};
 use swarm_model::{BotRow, Decision, EntryKind, EventKind, Reply, Rule, Unfit};
 

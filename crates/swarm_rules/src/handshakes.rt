@@ -4,9 +4,8 @@ ghost use Rattle.swarm_model.specs.declared.reply.Reply.TheVariants as reply;
 ghost use Rattle.swarm_model.specs.declared.entry.EntryKind.TheVariants as kind;
 ghost use Rattle.swarm_model.specs.Answers.{reply_with_entry, known_bot, bots_full, handshake};
 
-use crate::PoolQueries;
-use crate::replies::{refusal, reply_with_entry};
 use dimensions::{BotDims, Text, TryCopy};
+use pool_queries::{PoolQueries, refusal, reply_with_entry};
 use std::alloc::{AllocError, Global};
 use swarm_model::{BotRow, Decision, EntryKind, Reply, Rule};
 

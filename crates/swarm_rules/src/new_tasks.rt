@@ -2,11 +2,11 @@ ghost use Rattle.std.specs.Prelude.{◌≡◌, ◌+◌, ◌<◌, ◌≤◌, ◌^
 ghost use Rattle.dimensions.specs.Choosing.{when};
 ghost use Rattle.swarm_model.specs.Answers.{new_task, resubmitted, new_task_decision, accepted, reuse_outcome, tasks_full};
 
-use crate::PoolQueries;
 use crate::admitting::admit;
-use crate::replies::{refusal, reply_only, reply_with_entry};
+use crate::missing::{file_missing, missing_input};
 use crate::reusing::reuse;
 use dimensions::{Text, TryCopy};
+use pool_queries::{PoolQueries, refusal, reply_only, reply_with_entry};
 use std::alloc::{AllocError, Global};
 use std::sync::ledger::Ledger;
 use swarm_model::{Decision, EntryKind, Reply, Reuse, Rule, Steps, TaskRow, TaskState};
@@ -130,10 +130,13 @@ pub(crate) fn new_task<P: PoolQueries, L: Ledger>(
     if let Some(task) = pool.sent(who, &request.request_uuid, steps) {
         return Ok(resubmitted(request, task));
     }
+    let slices = request.task_slices.as_slice();
+    if let Some(file) = missing_input(pool, slices) {
+        return Ok(file_missing(file));
+    }
     if let Some(decision) = full_refusal(pool) {
         return Ok(decision);
     }
-    let slices = request.task_slices.as_slice();
     if let Some(found) = reuse(alloc, pool, moment, slices, steps)? {
         return reuse_outcome(alloc, pool, who, request, found);
     }

@@ -1,12 +1,11 @@
-ghost use Rattle.std.specs.Prelude.{◌≡◌, IfOk};
+ghost use Rattle.std.specs.Prelude.{◌≡◌, ◌≤◌, ◌+◌, IfOk};
 ghost use Rattle.swarm_model.specs.declared.rule.Rule.TheVariants as rule;
 ghost use Rattle.swarm_model.specs.Finding.{bot_named};
 ghost use Rattle.swarm_model.specs.Answers.{with, sleep_secs, dims_unless, text_unless, polls, poll};
 
-use crate::PoolQueries;
-use crate::replies::{refusal, reply_with_entry, unfit_refusal};
 use crate::runs::busy_refusal;
 use dimensions::{BotDims, Text, TryCopy};
+use pool_queries::{PoolQueries, refusal, reply_with_entry, unfit_refusal};
 use std::alloc::{AllocError, Global};
 use std::sync::ledger::Ledger;
 use swarm_model::{BotRow, Decision, EntryKind, Reply, Rule, Steps, Unfit};
@@ -70,7 +69,8 @@ fn poll_row<P: PoolQueries, L: Ledger>(
     bot: &BotRow,
     steps: &mut Steps<L>,
 ) -> Result<Decision, AllocError>
-    ensures { IfOk result (λ decision. decision ≡ poll (P.state pool.now) dims.now quarantined.now bot.now) }
+    ensures value { IfOk result (λ decision. decision ≡ poll (P.state pool.now) dims.now quarantined.now bot.now) }
+    ensures cost { steps.new ≤ steps.old + 1 }
 {
     if bot.dead {
         return Ok(unfit_refusal(Unfit::Dead));
@@ -102,7 +102,8 @@ pub(crate) fn poll<P: PoolQueries, L: Ledger>(
     quarantined: &Text,
     steps: &mut Steps<L>,
 ) -> Result<Decision, AllocError>
-    ensures { IfOk result (λ decision. decision ≡ with (bot_named (P.state pool.now) name.now) rule.NoBot (poll (P.state pool.now) dims.now quarantined.now)) }
+    ensures value { IfOk result (λ decision. decision ≡ with (bot_named (P.state pool.now) name.now) rule.NoBot (poll (P.state pool.now) dims.now quarantined.now)) }
+    ensures cost { steps.new ≤ steps.old + 1 }
 {
     match pool.bot_named(name) {
         None => Ok(refusal(Rule::NoBot)),

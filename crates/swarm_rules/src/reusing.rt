@@ -3,7 +3,7 @@ ghost use Rattle.std.specs.Prelude.{◌≡◌, ◌≤◌, length, IfOk};
 ghost use Rattle.std.specs.Option.{option_copied};
 ghost use Rattle.swarm_model.specs.Reuse.{source_for, reuse};
 
-use crate::PoolQueries;
+use pool_queries::PoolQueries;
 use std::alloc::{AllocError, Global};
 use std::sync::ledger::Ledger;
 use swarm_model::{Reuse, Steps, TaskRow};

@@ -1,11 +1,10 @@
 //! What a bot runs, and what it is to run.
-ghost use Rattle.std.specs.Prelude.{◌≡◌, IfOk};
+ghost use Rattle.std.specs.Prelude.{◌≡◌, ◌≤◌, ◌+◌, IfOk, IsNone};
 ghost use Rattle.std.specs.Option.{option_copied, option_map};
 ghost use Rattle.swarm_model.specs.Answers.{run_on, busy, run_from, run};
 
-use crate::PoolQueries;
-use crate::replies::refusal;
 use dimensions::TryCopy;
+use pool_queries::{PoolQueries, refusal};
 use std::alloc::{AllocError, Global};
 use std::sync::ledger::Ledger;
 use swarm_model::{BotRow, Decision, Reply, Rule, Steps, TaskRow};
@@ -17,7 +16,9 @@ fn run_on<'a, P: PoolQueries, L: Ledger>(
     bot: &BotRow,
     steps: &mut Steps<L>,
 ) -> Option<&'a TaskRow>
-    ensures { option_copied result ≡ run_on (P.state pool.now) bot.now }
+    ensures value { option_copied result ≡ run_on (P.state pool.now) bot.now }
+    ensures cost { steps.new ≤ steps.old + 1 }
+    ensures free { IsNone result → steps.new ≡ steps.old }
 {
     match bot.task {
         None => None,
@@ -40,7 +41,9 @@ pub(crate) fn busy_refusal<P: PoolQueries, L: Ledger>(
     bot: &BotRow,
     steps: &mut Steps<L>,
 ) -> Option<Decision>
-    ensures { result ≡ option_map busy (run_on (P.state pool.now) bot.now) }
+    ensures value { result ≡ option_map busy (run_on (P.state pool.now) bot.now) }
+    ensures cost { steps.new ≤ steps.old + 1 }
+    ensures free { IsNone result → steps.new ≡ steps.old }
 {
     match run_on(pool, bot, steps) {
         None => None,

@@ -1,14 +1,15 @@
 //! What a deadline that has come adds to the log.
-ghost use Rattle.std.specs.Prelude.{◌≡◌, IfSome, Option, None};
+ghost use Rattle.std.specs.Prelude.{◌≡◌, ◌≤◌, ◌+◌, IfSome, false, Option, None};
 ghost use Rattle.std.specs.Option.{option_copied, option_map_or};
 ghost use Rattle.swarm_model.specs.declared.entry.Outcome.TheVariants as outcome;
 ghost use Rattle.swarm_model.specs.declared.task_state.TaskState.TheVariants.{NoResource};
-ghost use Rattle.swarm_model.specs.Finding.{task_of};
+ghost use Rattle.swarm_model.specs.Finding.{task_of, blob_numbered};
 ghost use Rattle.swarm_model.specs.Soundness.{IsSoundTask};
 ghost use Rattle.swarm_model.specs.Deadlines.{if_come, last_state, next_of, settled, entry_of, due_entry};
+ghost use Rattle.swarm_model.specs.Uses.{is_used};
 
-use crate::PoolQueries;
 use crate::admitting::admit;
+use pool_queries::PoolQueries;
 use std::sync::ledger::Ledger;
 use swarm_model::{Cause, Deadline, Entry, EntryKind, Outcome, Steps, TaskRow, TaskState};
 
@@ -53,17 +54,29 @@ fn sound_task<'a, P: PoolQueries, L: Ledger>(
 ) -> Option<&'a TaskRow>
     ensures found { option_copied result ≡ task_of (P.state pool.now) number }
     ensures sound { IfSome (option_copied result) (IsSoundTask (P.state pool.now)) }
+    ensures cost { steps.new ≤ steps.old + 1 }
 {
     pool.sound();
     pool.task_of(number, steps)
 }
 
 fn outcome_of<P: PoolQueries, L: Ledger>(pool: &P, number: u32, steps: &mut Steps<L>) -> Outcome
-    ensures { result ≡ option_map_or (next_of (P.state pool.now)) (task_of (P.state pool.now) number) (outcome.Ended NoResource) }
+    ensures value { result ≡ option_map_or (next_of (P.state pool.now)) (task_of (P.state pool.now) number) (outcome.Ended NoResource) }
+    ensures cost { steps.new ≤ steps.old + 1 }
 {
     match sound_task(pool, number, steps) {
         Some(task) => next_of(pool, task),
         None => Outcome::Ended(TaskState::NoResource),
+    }
+}
+
+/// Whether a task that waits or runs needs the blob of a number.
+fn is_needed<P: PoolQueries>(pool: &P, number: u32) -> bool
+    ensures { result ≡ option_map_or (λ blob. is_used (P.state pool.now) blob.digest) (blob_numbered (P.state pool.now) number) false }
+{
+    match pool.blob_numbered(number) {
+        None => false,
+        Some(blob) => pool.is_used(&blob.digest),
     }
 }
 
@@ -74,7 +87,8 @@ fn settled<P: PoolQueries, L: Ledger>(
     number: u32,
     steps: &mut Steps<L>,
 ) -> EntryKind
-    ensures { result ≡ settled (P.state pool.now) cause number }
+    ensures value { result ≡ settled (P.state pool.now) cause number }
+    ensures cost { steps.new ≤ steps.old + 1 }
 {
     match cause {
         Cause::Slice => EntryKind::Slice {
@@ -83,6 +97,10 @@ fn settled<P: PoolQueries, L: Ledger>(
         },
         Cause::Silence => EntryKind::Silence { t: number },
         Cause::Bot => EntryKind::Dead { b: number },
+        Cause::Blob => EntryKind::Blob {
+            n: number,
+            kept: is_needed(pool, number),
+        },
     }
 }
 
@@ -92,7 +110,8 @@ fn entry_of<P: PoolQueries, L: Ledger>(
     deadline: Deadline,
     steps: &mut Steps<L>,
 ) -> Entry
-    ensures { result ≡ entry_of (P.state pool.now) pass deadline }
+    ensures value { result ≡ entry_of (P.state pool.now) pass deadline }
+    ensures cost { steps.new ≤ steps.old + 1 }
 {
     Entry {
         moment: deadline.moment,
@@ -101,14 +120,15 @@ fn entry_of<P: PoolQueries, L: Ledger>(
     }
 }
 
-/// The entry of the earliest deadline, where it has come by the moment.
+/// The entry of the earliest deadline, where it has come by the moment. It costs at most one step.
 pub fn due_entry<P: PoolQueries, L: Ledger>(
     pool: &P,
     moment: u64,
     pass: u32,
     steps: &mut Steps<L>,
 ) -> Option<Entry>
-    ensures { result ≡ due_entry (P.state pool.now) moment pass }
+    ensures value { result ≡ due_entry (P.state pool.now) moment pass }
+    ensures cost { steps.new ≤ steps.old + 1 }
 {
     let deadline = if_come(moment, pool.next_deadline()?)?;
     Some(entry_of(pool, pass, deadline, steps))

@@ -3,9 +3,8 @@ ghost use Rattle.swarm_model.specs.declared.rule.Rule.TheVariants as rule;
 ghost use Rattle.swarm_model.specs.Finding.{bot_named};
 ghost use Rattle.swarm_model.specs.Answers.{with, terminate};
 
-use crate::PoolQueries;
-use crate::replies::{refusal, reply_only, reply_with_entry};
 use dimensions::Text;
+use pool_queries::{PoolQueries, refusal, reply_only, reply_with_entry};
 use swarm_model::{BotRow, Decision, EntryKind, Reply, Rule};
 
 fn terminate_row(bot: &BotRow) -> Decision

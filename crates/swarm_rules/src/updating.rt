@@ -1,15 +1,18 @@
 ghost use Rattle.std.specs.Prelude.{◌≡◌, IfOk};
 ghost use Rattle.swarm_model.specs.declared.rule.Rule.TheVariants as rule;
 ghost use Rattle.swarm_model.specs.Finding.{bot_named};
-ghost use Rattle.swarm_model.specs.Answers.{is_kept, updates, report_again, report, not_claimant, report_on, update_row, update, with};
+ghost use Rattle.swarm_model.specs.Views.{files_of};
+ghost use Rattle.swarm_model.specs.Answers.{is_kept, updates, report_again, report_running, report, not_claimant, report_on, update_row, update, with};
 
-use crate::PoolQueries;
-use crate::reading::named_task;
-use crate::replies::{refusal, reply_with_entry};
+use crate::chunks::{fresh_chunk, output_rule, unplaced_chunk};
+use crate::missing::{file_missing, missing_file};
+use crate::putting::store_full;
 use dimensions::{Text, TryCopy};
+use pool_queries::{PoolQueries, named_task, refusal, reply_with_entry};
 use std::alloc::{AllocError, Global};
 use std::sync::ledger::Ledger;
 use swarm_model::{Attempt, BotRow, Chunk, Decision, EntryKind, Last, Reply, Rule, Steps, TaskRow};
+use task_props::File;
 
 /// Whether the report is the one that ended the run.
 fn is_kept(attempt: &Attempt, chunk: Option<Chunk>, last: &Option<Last>) -> bool
@@ -47,33 +50,66 @@ fn report_again(
     }
 }
 
-fn report(
+fn files_of(last: &Option<Last>) -> &[File]
+    ensures { result.now ≡ files_of last.now }
+{
+    match last {
+        None => &[],
+        Some(last) => last.files.as_slice(),
+    }
+}
+
+/// A report of a run that goes on. What brings nothing new is a sign of life.
+fn report_running<P: PoolQueries>(
     alloc: Global,
+    pool: &P,
     bot: &BotRow,
     task: &TaskRow,
     chunk: Option<Chunk>,
     last: &Option<Last>,
     attempt: &Attempt,
 ) -> Result<Decision, AllocError>
-    ensures { IfOk result (λ decision. decision ≡ report bot.now task.now chunk last.now attempt.now) }
+    ensures { IfOk result (λ decision. decision ≡ report_running (P.state pool.now) bot.now task.now chunk last.now attempt.now) }
+{
+    let fresh = fresh_chunk(attempt, chunk);
+    if let Some(why) = output_rule(attempt, chunk) {
+        return Ok(refusal(why));
+    }
+    if let Some(file) = missing_file(pool, files_of(last)) {
+        return Ok(file_missing(file));
+    }
+    if let Some(chunk) = unplaced_chunk(pool, fresh) {
+        return Ok(store_full(pool, chunk.size));
+    }
+    if last.is_none() && fresh.is_none() {
+        return Ok(updates(attempt, EntryKind::Contact { b: bot.no }));
+    }
+    let last = last.try_copy(alloc)?;
+    let entry = EntryKind::Update {
+        b: bot.no,
+        t: task.no,
+        try_no: attempt.try_no,
+        chunk,
+        last,
+    };
+    Ok(updates(attempt, entry))
+}
+
+fn report<P: PoolQueries>(
+    alloc: Global,
+    pool: &P,
+    bot: &BotRow,
+    task: &TaskRow,
+    chunk: Option<Chunk>,
+    last: &Option<Last>,
+    attempt: &Attempt,
+) -> Result<Decision, AllocError>
+    ensures { IfOk result (λ decision. decision ≡ report (P.state pool.now) bot.now task.now chunk last.now attempt.now) }
 {
     if task.state.is_final() {
         return Ok(report_again(bot, task, chunk, last, attempt));
     }
-    if last.is_none() {
-        return Ok(updates(attempt, EntryKind::Contact { b: bot.no }));
-    }
-    let last = last.try_copy(alloc)?;
-    Ok(updates(
-        attempt,
-        EntryKind::Update {
-            b: bot.no,
-            t: task.no,
-            try_no: attempt.try_no,
-            chunk,
-            last,
-        },
-    ))
+    report_running(alloc, pool, bot, task, chunk, last, attempt)
 }
 
 /// The run is another bot's.
@@ -105,7 +141,7 @@ fn report_on<P: PoolQueries>(
     if attempt.bot != bot.no {
         return not_claimant(alloc, pool, attempt);
     }
-    report(alloc, bot, task, chunk, last, attempt)
+    report(alloc, pool, bot, task, chunk, last, attempt)
 }
 
 fn update_row<P: PoolQueries>(

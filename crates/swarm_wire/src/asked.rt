@@ -1,6 +1,6 @@
 use dimensions::{Seq, Text};
 use std::alloc::AllocError;
-use swarm_model::{Request, Unbuilt};
+use swarm_model::Request;
 use task_props::{PropFault, PropRule};
 
 /// What a body asks for.
@@ -9,7 +9,8 @@ pub struct Asked {
     /// The place of the pool in the settings.
     pub place: u32,
     pub request: Request,
-    /// The bytes that the request carries.
+    /// The bytes that come with the request: those of the blob that it puts, or of the chunk that it
+    /// reports.
     pub bytes: Seq<u8>,
 }
 
@@ -26,8 +27,6 @@ pub enum WireFault {
     NoPool,
     /// The settings have no pool at the place of the id.
     NoTask,
-    /// It breaks no rule, and isn't served.
-    NotBuilt { what: Unbuilt },
 }
 
 impl From<AllocError> for WireFault {

@@ -6,18 +6,19 @@ ghost use Rattle.task_props.specs.declared.prop_fault.PropFault.{PropFault};
 ghost use Rattle.json_fields.specs.Readings.{Reads};
 ghost use Rattle.swarm_model.specs.Fits.{is_task_number};
 ghost use Rattle.bot_bodies.specs.declared.pool_request.PoolRequest.{PoolRequest as SpecPoolRequest};
-ghost use Rattle.bot_bodies.specs.BotCalls.{FitsNamed};
-ghost use Rattle.swarm_wire.specs.Asking.{Asks, FitsPool, new_of, cancel_of, result_of, below_of, list_of, count_of, named_of, update_of};
+ghost use Rattle.bot_bodies.specs.BotCalls.{FitsNamed, IsBare};
+ghost use Rattle.swarm_wire.specs.Asking.{Asks, FitsPool, CarriesBytes, new_of, cancel_of, result_of, stdout_of, below_of, list_of, count_of, named_of, update_of};
 
 use crate::pools::{pool_at, pool_place};
 use crate::{Asked, WireFault};
-use bot_bodies::{PoolRequest, ending_of, is_bare, read_report};
+use blob_bodies::read_stdout;
+use bot_bodies::{PoolRequest, read_report};
 use dimensions::Seq;
 use json_fields::{broken, place_of_number, task_of_id, task_of_number, try_of_id};
 use serde_json::Value;
 use std::alloc::Global;
-use swarm_model::{PoolSettings, Request, Unbuilt};
-use task_bodies::{is_built, read_cancel, read_count, read_list, read_task, read_task_id};
+use swarm_model::{PoolSettings, Request};
+use task_bodies::{read_cancel, read_count, read_list, read_task, read_task_id};
 use task_props::{PropFault, PropRule};
 
 /// The task in a body, asked of the pool of its dimensions.
@@ -30,22 +31,17 @@ pub(crate) fn ask_new(
     requires few { length pools.now ≤ 4 }
     ensures asks { Asks result (new_of pools.now (view body.now)) }
     ensures fits { IfOk result (λ asked. FitsPool pools.now asked) }
+    ensures carries { IfOk result CarriesBytes }
 {
     let task = read_task(alloc, body)?;
     let Some(place) = pool_place(pools, task.pool()) else {
         return Err(WireFault::NoPool);
     };
-    if is_built(body) {
-        Ok(Asked {
-            place,
-            request: Request::New(task),
-            bytes: Seq::new(alloc),
-        })
-    } else {
-        Err(WireFault::NotBuilt {
-            what: Unbuilt::Task,
-        })
-    }
+    Ok(Asked {
+        place,
+        request: Request::New(task),
+        bytes: Seq::new(alloc),
+    })
 }
 
 /// That a task come to an end, asked of the pool at the place of its id.
@@ -57,6 +53,7 @@ pub(crate) fn ask_cancel(
 ) -> Result<Asked, WireFault>
     ensures asks { Asks result (cancel_of pools.now (view body.now)) }
     ensures fits { IfOk result (λ asked. FitsPool pools.now asked) }
+    ensures carries { IfOk result CarriesBytes }
 {
     let (id, kill) = read_cancel(alloc, body)?;
     let place = pool_at(pools, id)?;
@@ -80,6 +77,7 @@ pub(crate) fn ask_result(
 ) -> Result<Asked, WireFault>
     ensures asks { Asks result (result_of pools.now (view body.now)) }
     ensures fits { IfOk result (λ asked. FitsPool pools.now asked) }
+    ensures carries { IfOk result CarriesBytes }
 {
     let id = read_task_id(alloc, body)?;
     let place = pool_at(pools, id)?;
@@ -88,6 +86,31 @@ pub(crate) fn ask_result(
         request: Request::Result {
             task: task_of_id(id),
             try_no: try_of_id(id),
+        },
+        bytes: Seq::new(alloc),
+    })
+}
+
+/// The output of a run, asked of the pool at the place of its id.
+#[tactic(auto, unfolding(crate::specs::Asking::stdout_of))]
+pub(crate) fn ask_stdout(
+    alloc: Global,
+    pools: &[PoolSettings],
+    body: &Value,
+) -> Result<Asked, WireFault>
+    ensures asks { Asks result (stdout_of pools.now (view body.now)) }
+    ensures fits { IfOk result (λ asked. FitsPool pools.now asked) }
+    ensures carries { IfOk result CarriesBytes }
+{
+    let stdout = read_stdout(alloc, body)?;
+    let place = pool_at(pools, stdout.id)?;
+    Ok(Asked {
+        place,
+        request: Request::Stdout {
+            task: task_of_id(stdout.id),
+            try_no: try_of_id(stdout.id),
+            offset: stdout.offset,
+            length: stdout.length,
         },
         bytes: Seq::new(alloc),
     })
@@ -118,6 +141,7 @@ pub(crate) fn ask_list(
     requires few { length pools.now ≤ 4 }
     ensures asks { Asks result (list_of pools.now (view body.now)) }
     ensures fits { IfOk result (λ asked. FitsPool pools.now asked) }
+    ensures carries { IfOk result CarriesBytes }
 {
     let list = read_list(alloc, body)?;
     let Some(place) = pool_place(pools, list.pool.as_str()) else {
@@ -145,6 +169,7 @@ pub(crate) fn ask_count(
     requires few { length pools.now ≤ 4 }
     ensures asks { Asks result (count_of pools.now (view body.now)) }
     ensures fits { IfOk result (λ asked. FitsPool pools.now asked) }
+    ensures carries { IfOk result CarriesBytes }
 {
     let (pool, state) = read_count(alloc, body)?;
     let Some(place) = pool_place(pools, pool) else {
@@ -166,8 +191,10 @@ pub(crate) fn ask_named(
 ) -> Result<Asked, WireFault>
     requires few { length pools.now ≤ 4 }
     requires fits { IfOk read FitsNamed }
+    requires bare { IfOk read IsBare }
     ensures asks { (reading : Result SpecPoolRequest PropFault) → Reads read reading → Asks result (named_of pools.now reading) }
     ensures fits { IfOk result (λ asked. FitsPool pools.now asked) }
+    ensures carries { IfOk result CarriesBytes }
 {
     let named = read?;
     let Some(place) = pool_place(pools, named.pool.as_str()) else {
@@ -189,23 +216,19 @@ pub(crate) fn ask_update(
 ) -> Result<Asked, WireFault>
     ensures asks { Asks result (update_of pools.now (view body.now)) }
     ensures fits { IfOk result (λ asked. FitsPool pools.now asked) }
+    ensures carries { IfOk result CarriesBytes }
 {
     let report = read_report(alloc, body)?;
     let place = pool_at(pools, report.run)?;
-    if !is_bare(&report) {
-        return Err(WireFault::NotBuilt {
-            what: Unbuilt::Update,
-        });
-    }
     Ok(Asked {
         place,
         request: Request::Update {
             bot: report.bot,
             task: task_of_id(report.run),
             try_no: try_of_id(report.run),
-            chunk: None,
-            last: ending_of(report.end),
+            chunk: report.output.chunk,
+            last: report.last,
         },
-        bytes: Seq::new(alloc),
+        bytes: report.output.bytes,
     })
 }

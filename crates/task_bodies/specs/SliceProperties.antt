@@ -3,11 +3,12 @@ use Rattle.std.specs.Prelude.{ℕ, ℤ, pos, Bool, List, [], ◌∷◌, unwrap_o
 use Rattle.serde_json.specs.Data.{Data}
 use Rattle.task_props.specs.declared.cache.Cache.{Cache}
 use Rattle.task_props.specs.declared.prop_fault.PropFault.{PropFault}
+use Rattle.task_checks.specs.declared.raw_task.RawFile.{RawFile}
 use Rattle.task_checks.specs.declared.raw_task.RawProperties.{RawProperties}
 use Rattle.task_bodies.specs.declared.slice_properties.RawLists.{RawLists}
 use Rattle.task_bodies.specs.declared.slice_properties.RawTimes.{RawTimes}
 use Rattle.json_fields.specs.Readings.{inside, ◌>>=◌}
-use Rattle.json_fields.specs.Fields.{text_at, number_at, optional_number_at, flag_at, object_at, object_item, text_item, each_at, items_at, unknown_key, unless_unknown}
+use Rattle.json_fields.specs.Fields.{text_at, required_text_at, number_at, optional_number_at, flag_at, object_at, object_item, text_item, each_at, items_at, unknown_key, unless_unknown}
 
 -- ---- the items of the lists
 
@@ -34,6 +35,20 @@ cache_in d = do
   path ← text_at (codes "path") d
   unless_unknown (cache_with name path) (unknown_key cache_keys d)
 
+abbrev pub input_keys : List (List ℕ)
+input_keys = codes "path" ∷ codes "digest" ∷ codes "size" ∷ []
+
+abbrev pub input_with : List ℕ → List ℕ → ℤ → RawFile
+input_with path digest size = record { path = path; digest = digest; size = size }
+
+-- a file by its path, with the digest and the size of its content; the digest must be there
+unfoldable pub input_in : Data → Result RawFile PropFault
+input_in d = do
+  path ← text_at (codes "path") d
+  digest ← required_text_at (codes "digest") d
+  size ← number_at (codes "size") d
+  unless_unknown (input_with path digest size) (unknown_key input_keys d)
+
 -- ---- properties
 
 -- the lists; a command and dimensions must be there
@@ -43,8 +58,9 @@ lists_in d = do
   env ← items_at (object_item pair_in) (codes "env") d
   dimensions ← each_at (object_item pair_in) (codes "dimensions") d
   caches ← items_at (object_item cache_in) (codes "caches") d
+  inputs ← items_at (object_item input_in) (codes "inputs") d
   outputs ← items_at text_item (codes "outputs") d
-  Ok (record { command = command; env = env; dimensions = dimensions; caches = caches; outputs = outputs })
+  Ok (record { command = command; env = env; dimensions = dimensions; caches = caches; inputs = inputs; outputs = outputs })
 
 -- an absent grace period is 30 seconds
 unfoldable pub grace_at : List ℕ → Data → Result ℤ PropFault
@@ -65,6 +81,7 @@ properties_with lists times idempotent = record {
   env = lists.env;
   dimensions = lists.dimensions;
   caches = lists.caches;
+  inputs = lists.inputs;
   outputs = lists.outputs;
   execution_timeout_secs = times.execution_timeout_secs;
   io_timeout_secs = times.io_timeout_secs;
@@ -72,7 +89,6 @@ properties_with lists times idempotent = record {
   idempotent = idempotent;
 }
 
--- `inputs` is known, whatever it holds
 abbrev pub property_keys : List (List ℕ)
 property_keys =
     codes "command" ∷ codes "env" ∷ codes "dimensions" ∷ codes "caches" ∷ codes "inputs" ∷ codes "outputs"

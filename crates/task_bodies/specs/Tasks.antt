@@ -1,7 +1,5 @@
--- The request for a task in a body: its fields, in the order of their rules, and what isn't served.
-use Rattle.std.specs.Prelude.{ℕ, ℤ, Bool, false, not, ◌==◌, List, length, Option, Some, None, Result, Ok, Err, codes}
-use Rattle.std.specs.List.{list_any}
-use Rattle.std.specs.Option.{option_map_or}
+-- The request for a task in a body: its fields, in the order of their rules.
+use Rattle.std.specs.Prelude.{ℕ, ℤ, Bool, List, Option, Some, None, Result, Ok, Err, codes}
 use Rattle.serde_json.specs.Data.{Data}
 use Rattle.task_props.specs.declared.prop_rule.PropRule.{PropRule}
 use Rattle.task_props.specs.declared.prop_fault.PropFault.{PropFault}
@@ -12,7 +10,7 @@ use Rattle.task_props.specs.declared.new_task.NewTask.{NewTask}
 use Rattle.task_checks.specs.Broken.{first_broken_task}
 use Rattle.task_checks.specs.Reading.{task_of}
 use Rattle.json_fields.specs.Readings.{◌>>=◌}
-use Rattle.json_fields.specs.Fields.{values_of, present, text_at, number_at, flag_at, list_in, object_item, each_at}
+use Rattle.json_fields.specs.Fields.{text_at, number_at, flag_at, object_item, each_at}
 use Rattle.task_bodies.specs.SliceProperties.{properties_at}
 
 -- when a slice expires, and whether it waits
@@ -50,28 +48,3 @@ unfoldable pub task_in : Data → Result NewTask PropFault
 task_in d = do
   raw ← fields_of d
   checked raw
-
--- ---- what isn't served
-
-abbrev pub is_empty_list : Result (List Data) PropRule → Bool
-is_empty_list (Ok ds) = length ds == 0
-is_empty_list (Err rule) = false
-
--- anything but an empty list
-abbrev pub is_not_empty : Data → Bool
-is_not_empty d = not (is_empty_list (values_of d))
-
--- properties name inputs
-unfoldable pub has_inputs : Data → Bool
-has_inputs properties = option_map_or is_not_empty (present (codes "inputs") properties) false
-
-unfoldable pub is_slice_with_inputs : Data → Bool
-is_slice_with_inputs slice = option_map_or has_inputs (present (codes "properties") slice) false
-
-abbrev pub any_item : (Data → Bool) → Result (List Data) PropRule → Bool
-any_item test (Ok ds) = list_any test ds
-any_item test (Err rule) = false
-
--- no slice names inputs
-unfoldable pub is_built : Data → Bool
-is_built d = not (any_item is_slice_with_inputs (list_in (codes "task_slices") d))

@@ -1,12 +1,11 @@
 //! The bodies of the calls on tasks, in JSON (RFC 8259) with the names of `swarming.v2`.
 //!
-//! [`read_task`] reads the request for a task, and [`is_built`] says whether all of it is served;
-//! [`read_cancel`], [`read_task_id`], [`read_list`] and [`read_count`] read the bodies of CancelTask,
-//! GetResult, ListTasks and CountTasks. Each gives what the body says or the first rule that it
-//! breaks, exactly as its definition says, but for want of memory: `missing`, `type` and `unknown`
-//! are tried for all fields in their order, then the other rules. `specs/` has a module a call:
-//! `Tasks`, which reads its `SliceProperties`, `Cancels`, `Results`, and `Lists` and `Counts`, which
-//! read the state by `States`.
+//! [`read_task`] reads the request for a task; [`read_cancel`], [`read_task_id`], [`read_list`] and
+//! [`read_count`] read the bodies of CancelTask, GetResult, ListTasks and CountTasks. Each gives what
+//! the body says or the first rule that it breaks, exactly as its definition says, but for want of
+//! memory: `missing`, `type` and `unknown` are tried for all fields in their order, then the other
+//! rules. `specs/` has a module a call: `Tasks`, which reads its `SliceProperties`, `Cancels`,
+//! `Results`, and `Lists` and `Counts`, which read the state by `States`.
 //!
 //! Fields, lists, ids, numbers within a range and how many rows a page shows are read by
 //! `json_fields`, and a task is checked by `task_checks`; the crate stands on those two, on
@@ -20,11 +19,9 @@ mod results;
 mod slice_properties;
 mod states;
 mod tasks;
-mod unserved;
 
 pub use cancels::read_cancel;
 pub use counts::read_count;
 pub use lists::{ListBody, read_list};
 pub use results::read_task_id;
 pub use tasks::read_task;
-pub use unserved::is_built;

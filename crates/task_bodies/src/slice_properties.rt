@@ -3,17 +3,17 @@ ghost use Rattle.std.specs.Prelude.{◌≡◌, option_map};
 ghost use Rattle.serde_json.specs.View.{view};
 ghost use Rattle.json_fields.specs.Readings.{Reads};
 ghost use Rattle.json_fields.specs.Fields.{unknown_key as spec_unknown_key};
-ghost use Rattle.task_bodies.specs.SliceProperties.{pair_in, cache_in, lists_in, grace_at, times_in, property_keys, properties_in, properties_at};
+ghost use Rattle.task_bodies.specs.SliceProperties.{pair_in, cache_in, input_in, lists_in, grace_at, times_in, property_keys, properties_in, properties_at};
 
 use dimensions::{Seq, Text};
 use json_fields::{
     ReadFields, below, broken, read_flag, read_number, read_object, read_objects,
-    read_optional_number, read_optional_objects, read_optional_texts, read_text, read_texts,
-    unknown_key,
+    read_optional_number, read_optional_objects, read_optional_texts, read_required_text,
+    read_text, read_texts, unknown_key,
 };
 use serde_json::Value;
 use std::alloc::Global;
-use task_checks::RawProperties;
+use task_checks::{RawFile, RawProperties};
 use task_props::{Cache, PropFault, PropRule};
 
 /// The keys of properties.
@@ -37,6 +37,7 @@ pub(crate) struct RawLists {
     pub env: Seq<(Text, Text)>,
     pub dimensions: Seq<(Text, Text)>,
     pub caches: Seq<Cache>,
+    pub inputs: Seq<RawFile>,
     pub outputs: Seq<Text>,
 }
 
@@ -86,6 +87,27 @@ impl ReadFields for CacheFields {
     }
 }
 
+/// A file by its path, with the digest and the size of its content.
+struct InputFields;
+
+impl ReadFields for InputFields {
+    type Value = RawFile;
+
+    ghost fields = { input_in };
+
+    #[tactic(auto, unfolding(crate::specs::SliceProperties::input_in))]
+    fn read_fields(alloc: Global, input: &Value) -> Result<RawFile, PropFault> {
+        let path = read_text(alloc, input, "path")?;
+        let digest = read_required_text(alloc, input, "digest")?;
+        let size = read_number(alloc, input, "size")?;
+        let digest = Text::from_str(alloc, digest)?;
+        match unknown_key(input, &["path", "digest", "size"]) {
+            Some(key) => Err(broken(alloc, key, PropRule::Unknown)),
+            None => Ok(RawFile { path, digest, size }),
+        }
+    }
+}
+
 #[tactic(auto, unfolding(crate::specs::SliceProperties::lists_in))]
 fn read_lists(alloc: Global, properties: &Value) -> Result<RawLists, PropFault>
     ensures { Reads result (lists_in (view properties.now)) }
@@ -94,12 +116,14 @@ fn read_lists(alloc: Global, properties: &Value) -> Result<RawLists, PropFault>
     let env = read_optional_objects::<PairFields>(alloc, properties, "env")?;
     let dimensions = read_objects::<PairFields>(alloc, properties, "dimensions")?;
     let caches = read_optional_objects::<CacheFields>(alloc, properties, "caches")?;
+    let inputs = read_optional_objects::<InputFields>(alloc, properties, "inputs")?;
     let outputs = read_optional_texts(alloc, properties, "outputs")?;
     Ok(RawLists {
         command,
         env,
         dimensions,
         caches,
+        inputs,
         outputs,
     })
 }
@@ -146,6 +170,7 @@ fn read_properties(alloc: Global, properties: &Value) -> Result<RawProperties, P
             env: lists.env,
             dimensions: lists.dimensions,
             caches: lists.caches,
+            inputs: lists.inputs,
             outputs: lists.outputs,
             execution_timeout_secs: times.execution_timeout_secs,
             io_timeout_secs: times.io_timeout_secs,

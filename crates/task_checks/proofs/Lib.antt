@@ -1,4 +1,6 @@
 pub mod Bytes
+pub mod Digests
+mod InputFiles
 mod Items
 mod Lists
 mod SliceParts

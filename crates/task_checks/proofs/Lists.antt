@@ -33,22 +33,22 @@ use Rattle.task_checks.proofs.Items.{list_all-unbroken, count-unbroken}
 
 -- ---- each rule by itself
 
-at-none : {A B : Type 0} (f : A → B) (x : Option A) (y : Option B) → (option_map f x or_else y) ≡ None → x ≡ None
+pub at-none : {A B : Type 0} (f : A → B) (x : Option A) (y : Option B) → (option_map f x or_else y) ≡ None → x ≡ None
 at-none f x y none = option_map-none f x (none-first (option_map f x) y none)
 
-after-none : {A B : Type 0} (f : A → B) (x : Option A) (y : Option B) → (option_map f x or_else y) ≡ None → y ≡ None
+pub after-none : {A B : Type 0} (f : A → B) (x : Option A) (y : Option B) → (option_map f x or_else y) ≡ None → y ≡ None
 after-none f x y none = none-other (option_map f x) y none
 
-is_none-from : {A : Type 0} (x : Option A) → x ≡ None → is_none x ≡ true
+pub is_none-from : {A : Type 0} (x : Option A) → x ≡ None → is_none x ≡ true
 is_none-from x none = rw none refl
 
 -- a text that was not found among the earlier ones
-not-again : {X : Type 0} (text_of : X → Text) (earlier : List X) (text q : Text) → list_any (λ x. same (text_of x) text) earlier ≡ false → same text q ≡ true → list_any (λ x. same (text_of x) q) earlier ≡ false
+pub not-again : {X : Type 0} (text_of : X → Text) (earlier : List X) (text q : Text) → list_any (λ x. same (text_of x) text) earlier ≡ false → same text q ≡ true → list_any (λ x. same (text_of x) q) earlier ≡ false
 not-again text_of earlier text q new own =
     let alike : text ≡ q = same_text text q (sym own) in
     ap (λ (t : Text). list_any (λ x. same (text_of x) t) earlier) (sym alike) ∙ new
 
-few_enough : (most n : ℕ) → nat_lt most n ≡ false → nat_le n most ≡ true
+pub few_enough : (most n : ℕ) → nat_lt most n ≡ false → nat_le n most ≡ true
 few_enough most n h = le-leb n most (ltb-false most n h)
 
 module _ {X : Type 0} (below low : X → X → Bool) (weaker : (a b : X) → below a b ≡ false → low a b ≡ false) where
@@ -58,7 +58,7 @@ module _ {X : Type 0} (below low : X → X → Bool) (weaker : (a b : X) → bel
   in_order-weaker (a ∷ b ∷ items) up =
       and-both (not (low b a)) _ (ap not (weaker b a (not-true (below b a) (and-first _ (in_order below (b ∷ items)) up)))) (in_order-weaker (b ∷ items) (and-other (not (below b a)) _ up))
 
-first-weaker : (o p : Ordering) → is_lt (ordering_then o p) ≡ false → is_lt o ≡ false
+pub first-weaker : (o p : Ordering) → is_lt (ordering_then o p) ≡ false → is_lt o ≡ false
 first-weaker Less p h = absurd (cc)
 first-weaker Equal p h = refl
 first-weaker Greater p h = refl
@@ -68,7 +68,7 @@ module _ {X : Type 0} (text_of : X → Text) (below : X → X → Bool) (weaker 
   abbrev low : X → X → Bool
   low a b = is_text_below (text_of a) (text_of b)
 
-  rising-texts : (items : List X) → in_order below items ≡ true → ((q : Text) → count_by (λ x. same (text_of x) q) items ≤ 1) → is_rising_by low items ≡ true
+  pub rising-texts : (items : List X) → in_order below items ≡ true → ((q : Text) → count_by (λ x. same (text_of x) q) items ≤ 1) → is_rising_by low items ≡ true
   rising-texts items up few =
       rising-in_order low (λ a b. same (text_of b) (text_of a)) (λ a. nat_list_eq_equiv.refl (text_of a)) (λ a b h k. below-by_cmp (on_total text_of nat_list_cmp_total) a b h (sym (texts_ties (text_of a) (text_of b)) ∙ nat_list_eq_equiv.symm (text_of a) (text_of b) ∙ k)) items (in_order-weaker below low weaker items up) (λ q. few (text_of q))
 

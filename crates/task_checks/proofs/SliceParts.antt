@@ -10,7 +10,9 @@ use Rattle.task_checks.specs.Broken.{broken_slice}
 use Rattle.task_props.specs.Checked.{is_sound_slice}
 use Rattle.task_props.specs.FieldRules.{range_rule, expiration_rule, timeout_rule, grace_rule, broken_at, broken_command, broken_dimensions}
 use Rattle.task_props.specs.ItemRules.{broken_env, broken_caches, broken_outputs}
+use Rattle.task_checks.specs.Inputs.{broken_inputs}
 use Rattle.task_checks.specs.Reading.{natural, slice_of}
+use Rattle.task_checks.proofs.InputFiles.{are_inputs-sorted}
 use Rattle.task_checks.proofs.Lists.{is_env-sorted, are_caches-sorted, are_outputs-sorted}
 
 pub record SliceParts (raw : RawSlice) : Type 0 where
@@ -19,6 +21,7 @@ pub record SliceParts (raw : RawSlice) : Type 0 where
   pub env : broken_env raw.properties.env ≡ None
   pub dimensions : broken_dimensions raw.properties.dimensions ≡ None
   pub caches : broken_caches raw.properties.caches ≡ None
+  pub inputs : broken_inputs raw.properties.inputs ≡ None
   pub outputs : broken_outputs raw.properties.outputs ≡ None
   pub execution : timeout_rule raw.properties.execution_timeout_secs ≡ None
   pub io : timeout_rule raw.properties.io_timeout_secs ≡ None
@@ -34,7 +37,8 @@ slice_parts raw none =
     let at_env = none-other (broken_command p.command) _ at_command in
     let at_dimensions = none-other (broken_env p.env) _ at_env in
     let at_caches = none-other (broken_dimensions p.dimensions) _ at_dimensions in
-    let at_outputs = none-other (broken_caches p.caches) _ at_caches in
+    let at_inputs = none-other (broken_caches p.caches) _ at_caches in
+    let at_outputs = none-other (broken_inputs p.inputs) _ at_inputs in
     let at_execution = none-other (broken_outputs p.outputs) _ at_outputs in
     let at_io = none-other execution _ at_execution in
     let at_grace = none-other io _ at_io in
@@ -44,6 +48,7 @@ slice_parts raw none =
       env = none-first (broken_env p.env) _ at_env;
       dimensions = none-first (broken_dimensions p.dimensions) _ at_dimensions;
       caches = none-first (broken_caches p.caches) _ at_caches;
+      inputs = none-first (broken_inputs p.inputs) _ at_inputs;
       outputs = none-first (broken_outputs p.outputs) _ at_outputs;
       execution = option_map-none (broken_at slice_field.ExecutionTimeoutSecs) _ (none-first execution _ at_execution);
       io = option_map-none (broken_at slice_field.IoTimeoutSecs) _ (none-first io _ at_io);
@@ -64,5 +69,6 @@ slice_unbroken raw none checked =
     let grace = natural_in_range 0 3600 raw.properties.grace_period_secs p.grace in
     let env = is_env-sorted raw.properties.env p.env in
     let caches = are_caches-sorted raw.properties.caches p.caches in
+    let inputs = are_inputs-sorted raw.properties.inputs p.inputs in
     let outputs = are_outputs-sorted raw.properties.outputs p.outputs in
-    rw (expiration, p.command, checked, env, caches, outputs, execution, io, grace) refl
+    rw (expiration, p.command, checked, env, caches, inputs, outputs, execution, io, grace) refl

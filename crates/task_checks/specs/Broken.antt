@@ -15,6 +15,7 @@ use Rattle.task_checks.specs.declared.raw_task.RawSlice.{RawSlice}
 use Rattle.task_props.specs.Fields.{task_path}
 use Rattle.task_props.specs.FieldRules.{name_rule, priority_rule, meant_tolerance, tolerance_rule, uuid_rule, expiration_rule, timeout_rule, grace_rule, count_rule, broken_at, broken_command, broken_dimensions}
 use Rattle.task_props.specs.ItemRules.{broken_env, broken_caches, broken_outputs}
+use Rattle.task_checks.specs.Inputs.{broken_inputs}
 use Rattle.task_checks.specs.Reading.{slice_of}
 use Rattle.task_props.specs.Slices.{slices_rule}
 
@@ -26,6 +27,7 @@ broken_slice slice =
     or_else broken_env slice.properties.env
     or_else broken_dimensions slice.properties.dimensions
     or_else broken_caches slice.properties.caches
+    or_else broken_inputs slice.properties.inputs
     or_else broken_outputs slice.properties.outputs
     or_else option_map (broken_at slice_field.ExecutionTimeoutSecs) (timeout_rule slice.properties.execution_timeout_secs)
     or_else option_map (broken_at slice_field.IoTimeoutSecs) (timeout_rule slice.properties.io_timeout_secs)

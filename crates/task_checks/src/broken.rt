@@ -12,6 +12,7 @@ use crate::field_rules::{
     MOST_SLICES, broken_command, broken_dimensions, count_rule, expiration_rule, grace_rule,
     meant_tolerance, name_rule, priority_rule, timeout_rule, tolerance_rule, uuid_rule,
 };
+use crate::inputs::broken_inputs;
 use crate::{RawProperties, RawSlice, RawTask};
 use dimensions::Text;
 use std::alloc::Global;
@@ -46,6 +47,9 @@ fn broken_slice(slice: &RawSlice) -> Option<(SliceField, PropRule)>
         return Some(broken);
     }
     if let Some(broken) = broken_caches(slice.properties.caches.as_slice()) {
+        return Some(broken);
+    }
+    if let Some(broken) = broken_inputs(slice.properties.inputs.as_slice()) {
         return Some(broken);
     }
     if let Some(broken) = broken_outputs(slice.properties.outputs.as_slice()) {

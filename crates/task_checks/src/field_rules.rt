@@ -1,12 +1,13 @@
 //! The rules on the fields of a request for a task, one function each.
-ghost use Rattle.std.specs.Prelude.{◌≡◌, ◌≤◌, length, pos};
+ghost use Rattle.std.specs.Prelude.{◌≡◌, ◌≤◌, length, pos, None};
 ghost use Rattle.std.specs.List.{list_any, list_all};
 ghost use Rattle.std.specs.Char.{is_ascii_control};
-ghost use Rattle.task_props.specs.FieldRules.{name_rule, range_rule, priority_rule, meant_tolerance, tolerance_rule, expiration_rule, timeout_rule, grace_rule, is_uuid_byte, uuid_rule, count_rule, text_rule, is_nul, first_broken_text, broken_command, field_of, broken_dimensions};
+ghost use Rattle.task_props.specs.FieldRules.{name_rule, range_rule, priority_rule, meant_tolerance, tolerance_rule, expiration_rule, timeout_rule, grace_rule, digest_rule, size_rule, is_uuid_byte, uuid_rule, count_rule, text_rule, is_nul, first_broken_text, broken_command, field_of, broken_dimensions};
+ghost use Rattle.task_checks.specs.Reading.{natural};
 
 use dimensions::{DimRule, DimSet, Text};
 use memchr::memchr;
-use task_props::{PropRule, SliceField};
+use task_props::{PropRule, SliceField, read_digest};
 
 pub(crate) const HIGHEST_PRIORITY: u32 = 255;
 
@@ -19,6 +20,9 @@ pub(crate) const LONGEST_EXPIRATION_SECS: u32 = 604_800;
 pub(crate) const LONGEST_TIMEOUT_SECS: u32 = 604_800;
 
 pub(crate) const LONGEST_GRACE_SECS: u32 = 3600;
+
+/// The bytes of the largest content.
+pub const LARGEST_CONTENT: u32 = 16_777_216;
 
 pub const MOST_SLICES: usize = 8;
 
@@ -98,6 +102,31 @@ pub fn grace_rule(seconds: i128) -> Option<PropRule>
     ensures { result ≡ grace_rule seconds }
 {
     range_rule(0, LONGEST_GRACE_SECS, seconds)
+}
+
+/// A digest as 64 hexadecimal digits in lower case.
+pub fn digest_rule(text: &str) -> Option<PropRule>
+    ensures { result ≡ digest_rule text.now }
+{
+    if read_digest(text).is_none() {
+        return Some(PropRule::Grammar);
+    }
+    None
+}
+
+/// The bytes of a content.
+pub fn size_rule(bytes: i128) -> Option<PropRule>
+    ensures { result ≡ size_rule bytes }
+{
+    range_rule(0, LARGEST_CONTENT, bytes)
+}
+
+/// A number that keeps its range.
+pub(crate) fn natural(low: u32, high: u32, number: i128) -> u32
+    requires { range_rule low high number ≡ None }
+    ensures { result ≡ natural number }
+{
+    number as u32
 }
 
 fn are_uuid_bytes(uuid: &[u8]) -> bool

@@ -11,6 +11,7 @@ mod broken;
 mod broken_items;
 mod check;
 mod field_rules;
+mod inputs;
 mod item_rule;
 mod item_rules;
 mod paths;
@@ -21,10 +22,10 @@ mod slices;
 pub use broken_items::has_path;
 pub use check::check_task;
 pub use field_rules::{
-    MOST_SLICES, broken_command, count_rule, expiration_rule, grace_rule, name_rule, priority_rule,
-    timeout_rule, tolerance_rule, uuid_rule,
+    LARGEST_CONTENT, MOST_SLICES, broken_command, count_rule, digest_rule, expiration_rule,
+    grace_rule, name_rule, priority_rule, size_rule, timeout_rule, tolerance_rule, uuid_rule,
 };
 pub use item_rules::{cache_name_rule, env_key_rule, env_value_rule};
 pub use paths::path_rule;
-pub use raw_task::{RawProperties, RawSlice, RawTask};
+pub use raw_task::{RawFile, RawProperties, RawSlice, RawTask};
 pub use slices::slices_rule;

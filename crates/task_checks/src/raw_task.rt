@@ -20,13 +20,22 @@ pub struct RawSlice {
     pub properties: RawProperties,
 }
 
-/// The properties of a slice as they were read. A request can name no inputs yet.
+/// A file as it was read.
+#[derive(Debug, Drop)]
+pub struct RawFile {
+    pub path: Text,
+    pub digest: Text,
+    pub size: i128,
+}
+
+/// The properties of a slice as they were read.
 #[derive(Debug, Drop)]
 pub struct RawProperties {
     pub command: Seq<Text>,
     pub env: Seq<(Text, Text)>,
     pub dimensions: Seq<(Text, Text)>,
     pub caches: Seq<Cache>,
+    pub inputs: Seq<RawFile>,
     pub outputs: Seq<Text>,
     pub execution_timeout_secs: i128,
     pub io_timeout_secs: i128,

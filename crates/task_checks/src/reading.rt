@@ -5,27 +5,21 @@ ghost use Rattle.dimensions.specs.Order.{sorted_by, sorted_pairs, sorted_texts};
 ghost use Rattle.dimensions.specs.Rules.{are_checked};
 ghost use Rattle.task_checks.specs.Broken.{broken_slice, first_broken_field};
 ghost use Rattle.task_props.specs.Checked.{is_sound_slice, is_checked};
-ghost use Rattle.task_props.specs.FieldRules.{range_rule, timeout_rule, grace_rule, broken_dimensions};
-ghost use Rattle.task_checks.specs.Reading.{natural, properties_of, slice_of, task_of};
+ghost use Rattle.task_props.specs.FieldRules.{timeout_rule, grace_rule, broken_dimensions};
+ghost use Rattle.task_checks.specs.Inputs.{broken_inputs};
+ghost use Rattle.task_checks.specs.Reading.{properties_of, slice_of, task_of};
 ghost use Rattle.task_props.specs.Slices.{slices_rule};
 ghost use Rattle.task_props.specs.Sorted.{is_cache_below};
 
 use crate::field_rules::{
     HIGHEST_PRIORITY, LONGEST_EXPIRATION_SECS, LONGEST_GRACE_SECS, LONGEST_TIMEOUT_SECS,
-    LONGEST_TOLERANCE_SECS, SHORTEST_TOLERANCE_SECS, meant_tolerance,
+    LONGEST_TOLERANCE_SECS, SHORTEST_TOLERANCE_SECS, meant_tolerance, natural,
 };
+use crate::inputs::read_inputs;
 use crate::{RawProperties, RawSlice, RawTask};
 use dimensions::{DimSet, Seq, Text};
 use std::alloc::{AllocError, Global};
 use task_props::{Cache, NewTask, Properties, Slice};
-
-/// A number that keeps its range.
-fn natural(low: u32, high: u32, number: i128) -> u32
-    requires { range_rule low high number ≡ None }
-    ensures { result ≡ natural number }
-{
-    number as u32
-}
 
 /// The pairs of dimensions that break no rule.
 fn read_dimensions(alloc: Global, pairs: &[(Text, Text)]) -> Result<DimSet, AllocError>
@@ -63,6 +57,7 @@ fn sorted_outputs(paths: Seq<Text>) -> Result<Seq<Text>, AllocError>
 
 fn read_properties(alloc: Global, raw: RawProperties) -> Result<Properties, AllocError>
     requires dimensions { broken_dimensions raw.dimensions ≡ None }
+    requires inputs { broken_inputs raw.inputs ≡ None }
     requires execution { timeout_rule raw.execution_timeout_secs ≡ None }
     requires io { timeout_rule raw.io_timeout_secs ≡ None }
     requires grace { grace_rule raw.grace_period_secs ≡ None }
@@ -75,7 +70,7 @@ fn read_properties(alloc: Global, raw: RawProperties) -> Result<Properties, Allo
         env: sorted_env(raw.env)?,
         dimensions,
         caches: sorted_caches(raw.caches)?,
-        inputs: Seq::new(alloc),
+        inputs: read_inputs(alloc, raw.inputs)?,
         outputs: sorted_outputs(raw.outputs)?,
         execution_timeout_secs: natural(0, LONGEST_TIMEOUT_SECS, raw.execution_timeout_secs),
         io_timeout_secs: natural(0, LONGEST_TIMEOUT_SECS, raw.io_timeout_secs),

@@ -1,19 +1,17 @@
 -- Which tasks have been checked.
-use Rattle.std.specs.Prelude.{pos, Bool, not, ◌&&◌, ◌==◌, nat_le, List, length, is_none}
+use Rattle.std.specs.Prelude.{pos, Bool, not, ◌&&◌, nat_le, List, length, is_none}
 use Rattle.std.specs.List.{list_all}
 use Rattle.dimensions.specs.declared.text.Text.{Text}
 use Rattle.dimensions.specs.Order.{is_rising_by, is_text_below}
 use Rattle.dimensions.specs.Rules.{are_checked}
 use Rattle.task_props.specs.declared.cache.Cache.{Cache}
+use Rattle.task_props.specs.declared.file.File.{File}
 use Rattle.task_props.specs.declared.properties.Properties.{Properties}
 use Rattle.task_props.specs.declared.slice.Slice.{Slice}
 use Rattle.task_props.specs.declared.new_task.NewTask.{NewTask}
 use Rattle.task_props.specs.FieldRules.{name_rule, priority_rule, tolerance_rule, uuid_rule, expiration_rule, timeout_rule, grace_rule, count_rule, broken_command}
-use Rattle.task_props.specs.Sorted.{is_pair, is_key_below, is_cache, is_name_below, is_path, has_path_twice}
+use Rattle.task_props.specs.Sorted.{is_pair, is_key_below, is_cache, is_name_below, is_file, is_path_below, is_path, has_path_twice}
 use Rattle.task_props.specs.Slices.{pool_of_slices, slices_rule}
-
-abbrev pub is_empty : {A : Type 0} → List A → Bool
-is_empty list = length list == 0
 
 -- at most 64 pairs, the keys rising
 abbrev pub is_env : List (Text × Text) → Bool
@@ -27,9 +25,12 @@ are_caches caches = nat_le (length caches) 8 && (list_all is_cache caches && (is
 abbrev pub are_outputs : List Text → Bool
 are_outputs paths = nat_le (length paths) 64 && (list_all is_path paths && is_rising_by is_text_below paths)
 
--- a request can name no inputs yet
+-- at most 64 files, the paths rising
+abbrev pub are_inputs : List File → Bool
+are_inputs files = nat_le (length files) 64 && (list_all is_file files && is_rising_by is_path_below files)
+
 abbrev pub has_lists : Properties → Bool
-has_lists properties = is_env properties.env && (are_caches properties.caches && (is_empty properties.inputs && are_outputs properties.outputs))
+has_lists properties = is_env properties.env && (are_caches properties.caches && (are_inputs properties.inputs && are_outputs properties.outputs))
 
 abbrev pub has_times : Properties → Bool
 has_times properties =

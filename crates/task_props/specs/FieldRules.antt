@@ -1,5 +1,5 @@
 -- The rule of each field of a request for a task: the first one that a value breaks.
-use Rattle.std.specs.Prelude.{ℕ, ◌+◌, ℤ, pos, int_le, if◌then◌else◌, Bool, not, ◌&&◌, ◌||◌, ◌==◌, nat_le, nat_lt, List, [], ◌∷◌, length, Option, None}
+use Rattle.std.specs.Prelude.{ℕ, ◌+◌, ℤ, pos, int_le, if◌then◌else◌, Bool, not, ◌&&◌, ◌||◌, ◌==◌, nat_le, nat_lt, List, [], ◌∷◌, length, Option, None, is_none}
 use Rattle.std.specs.Ordering.{int_eq}
 use Rattle.std.specs.List.{list_any, list_all}
 use Rattle.std.specs.Option.{option_map}
@@ -13,6 +13,7 @@ use Rattle.task_props.specs.declared.prop_rule.PropRule.{PropRule}
 use Rattle.task_props.specs.declared.prop_rule.PropRule.TheVariants as prop_rule
 use Rattle.task_props.specs.declared.task_field.SliceField.{SliceField}
 use Rattle.task_props.specs.declared.task_field.SliceField.TheVariants as slice_field
+use Rattle.task_props.specs.Digests.{digest_in}
 
 -- 0 to 256 bytes without control characters
 abbrev pub name_rule : Text → Option PropRule
@@ -47,6 +48,14 @@ grace_rule seconds = range_rule 0 3600 seconds
 -- an ASCII letter or digit, or '-'
 abbrev pub is_uuid_byte : ℕ → Bool
 is_uuid_byte byte = is_ascii_alphanumeric byte || byte == 45
+
+-- 64 hexadecimal digits in lower case
+abbrev pub digest_rule : Text → Option PropRule
+digest_rule text = when (is_none (digest_in text)) prop_rule.Grammar
+
+-- a content of at most 16777216 bytes
+abbrev pub size_rule : ℤ → Option PropRule
+size_rule bytes = range_rule 0 16777216 bytes
 
 -- at most 64 letters, digits and '-'; empty where a request has none
 abbrev pub uuid_rule : Text → Option PropRule

@@ -4,7 +4,7 @@ use Rattle.std.specs.Fmt.{decimal}
 use Rattle.task_props.specs.declared.task_field.TaskField.{TaskField}
 use Rattle.task_props.specs.declared.task_field.TaskField.TheVariants.{Name, Priority, BotPingToleranceSecs, RequestUuid, TaskSlices, InSlice}
 use Rattle.task_props.specs.declared.task_field.SliceField.{SliceField}
-use Rattle.task_props.specs.declared.task_field.SliceField.TheVariants.{ExpirationSecs, Command, CommandText, Env, EnvKey, EnvValue, Dimensions, Dimension, Caches, CacheName, CachePath, Outputs, Output, ExecutionTimeoutSecs, IoTimeoutSecs, GracePeriodSecs}
+use Rattle.task_props.specs.declared.task_field.SliceField.TheVariants.{ExpirationSecs, Command, CommandText, Env, EnvKey, EnvValue, Dimensions, Dimension, Caches, CacheName, CachePath, Inputs, InputPath, InputDigest, InputSize, Outputs, Output, ExecutionTimeoutSecs, IoTimeoutSecs, GracePeriodSecs}
 
 -- within its slice
 abbrev pub slice_path : SliceField → List ℕ
@@ -19,6 +19,10 @@ slice_path (Dimension place) = codes "properties.dimensions." ++ decimal place
 slice_path Caches = codes "properties.caches"
 slice_path (CacheName place) = codes "properties.caches." ++ (decimal place ++ codes ".name")
 slice_path (CachePath place) = codes "properties.caches." ++ (decimal place ++ codes ".path")
+slice_path Inputs = codes "properties.inputs"
+slice_path (InputPath place) = codes "properties.inputs." ++ (decimal place ++ codes ".path")
+slice_path (InputDigest place) = codes "properties.inputs." ++ (decimal place ++ codes ".digest")
+slice_path (InputSize place) = codes "properties.inputs." ++ (decimal place ++ codes ".size")
 slice_path Outputs = codes "properties.outputs"
 slice_path (Output place) = codes "properties.outputs." ++ decimal place
 slice_path ExecutionTimeoutSecs = codes "properties.execution_timeout_secs"

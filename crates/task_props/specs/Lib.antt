@@ -1,6 +1,7 @@
 pub mod Alike
 pub mod Canonical
 pub mod Checked
+pub mod Digests
 pub mod Examples
 pub mod FieldRules
 pub mod Fields

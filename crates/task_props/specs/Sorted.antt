@@ -1,11 +1,14 @@
 -- The items of a slice's lists by themselves, and their order.
-use Rattle.std.specs.Prelude.{Bool, false, ◌&&◌, ◌||◌, List, [], ◌∷◌, is_none}
+use Rattle.std.specs.Prelude.{Bool, false, ◌&&◌, ◌||◌, nat_le, List, [], ◌∷◌, is_none}
 use Rattle.std.specs.List.{list_any}
-use Rattle.std.specs.Ordering.{ordering_then, is_lt}
+use Rattle.std.specs.Cmp.Lexicographic.{slice_cmp}
+use Rattle.std.specs.Ordering.{nat_cmp, ordering_then, is_lt}
 use Rattle.std.specs.declared.cmp.Ordering.{Ordering}
 use Rattle.dimensions.specs.declared.text.Text.{Text}
 use Rattle.dimensions.specs.Order.{text_cmp, is_text_below}
 use Rattle.task_props.specs.declared.cache.Cache.{Cache}
+use Rattle.task_props.specs.declared.file.File.{File}
+use Rattle.task_props.specs.Digests.{is_digest}
 use Rattle.task_props.specs.ItemRules.{env_key_rule, env_value_rule, cache_name_rule, has_path}
 use Rattle.task_props.specs.Paths.{path_rule}
 
@@ -35,3 +38,17 @@ cache_cmp a b = ordering_then (text_cmp a.name b.name) (text_cmp a.path b.path)
 
 abbrev pub is_cache_below : Cache → Cache → Bool
 is_cache_below a b = is_lt (cache_cmp a b)
+
+-- a file below a folder, of at most 16777216 bytes
+abbrev pub is_file : File → Bool
+is_file file = is_path file.path && (is_digest file.digest && nat_le file.size 16777216)
+
+abbrev pub is_path_below : File → File → Bool
+is_path_below a b = is_text_below a.path b.path
+
+-- by path, then digest, then size
+abbrev pub file_cmp : File → File → Ordering
+file_cmp a b = ordering_then (text_cmp a.path b.path) (ordering_then (slice_cmp nat_cmp a.digest b.digest) (nat_cmp a.size b.size))
+
+abbrev pub is_file_below : File → File → Bool
+is_file_below a b = is_lt (file_cmp a b)

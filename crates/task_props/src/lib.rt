@@ -22,7 +22,7 @@ mod slice;
 mod task_field;
 
 pub use cache::Cache;
-pub use digest::Digest;
+pub use digest::{Digest, are_hex_digits, read_digest};
 pub use examples::{hash_of_a_small_task, text_of_a_small_task};
 pub use file::File;
 pub use laws::{a_canonical_text_is_of_one_properties, checked_properties_have_one_text_each};

@@ -29,6 +29,11 @@ pub enum SliceField {
     /// The name of a cache, by its place from 0.
     CacheName { place: u32 },
     CachePath { place: u32 },
+    Inputs,
+    /// The path of an input, by its place from 0.
+    InputPath { place: u32 },
+    InputDigest { place: u32 },
+    InputSize { place: u32 },
     Outputs,
     /// The path of an output, by its place from 0.
     Output { place: u32 },
@@ -57,6 +62,10 @@ impl fmt::Display for SliceField {
             SliceField::Caches => write!(f, "properties.caches"),
             SliceField::CacheName { place } => write!(f, "properties.caches.{place}.name"),
             SliceField::CachePath { place } => write!(f, "properties.caches.{place}.path"),
+            SliceField::Inputs => write!(f, "properties.inputs"),
+            SliceField::InputPath { place } => write!(f, "properties.inputs.{place}.path"),
+            SliceField::InputDigest { place } => write!(f, "properties.inputs.{place}.digest"),
+            SliceField::InputSize { place } => write!(f, "properties.inputs.{place}.size"),
             SliceField::Outputs => write!(f, "properties.outputs"),
             SliceField::Output { place } => write!(f, "properties.outputs.{place}"),
             SliceField::ExecutionTimeoutSecs => write!(f, "properties.execution_timeout_secs"),

@@ -1,9 +1,7 @@
 -- What an entry does to the rows, and what each call needs of it.
-use Rattle.std.specs.Prelude.{◌≡◌, ℕ, ◌+◌, ◌<◌, ◌^◌, List, Option, Some, None, IfSome, ⊤}
+use Rattle.std.specs.Prelude.{◌≡◌, ℕ, List, Option, Some, None, ⊤}
 use Rattle.std.specs.List.{find}
-use Rattle.std.specs.Option.{option_and_then}
 use Rattle.swarm_model.specs.declared.task_row.TaskRow.{TaskRow}
-use Rattle.swarm_model.specs.declared.attempt.Attempt.{Attempt}
 use Rattle.swarm_model.specs.declared.attempt.Chunk.{Chunk}
 use Rattle.swarm_model.specs.declared.pool_state.PoolState.{PoolState}
 use Rattle.swarm_model.specs.declared.entry.Entry.{Entry}
@@ -15,10 +13,6 @@ use Rattle.swarm_model.specs.Effects.{after, run_of_bot}
 -- the row of a number
 abbrev pub row_of : List TaskRow → ℕ → Option TaskRow
 row_of rows number = find (is_task number) rows
-
--- the run of the task of a number
-abbrev pub run_of : List TaskRow → ℕ → Option Attempt
-run_of rows number = option_and_then (λ task. task.attempt) (row_of rows number)
 
 -- the rows after the entry are those of every pool that had the rows before it
 abbrev pub IsAfter : List TaskRow → Entry → List TaskRow → Type 0
@@ -73,11 +67,3 @@ EndsSlice number entry = ⊥
 abbrev pub chunk_in : EntryKind → Option Chunk
 chunk_in (kind.Update b t try_no chunk last) = chunk
 chunk_in entry = None
-
--- the output with the chunk is shorter than 2^32 bytes
-abbrev pub FitsBehind : Chunk → Attempt → Type 0
-FitsBehind chunk attempt = attempt.length + chunk.size < 2 ^ 32
-
--- where the chunk goes on from the output of the run, it fits behind it
-abbrev pub StaysShort : Option Attempt → Option Chunk → Type 0
-StaysShort run chunk = IfSome chunk (λ c. IfSome run (λ attempt. c.start ≡ attempt.length → FitsBehind c attempt))

@@ -1,27 +1,16 @@
 -- What the rows keep, and what holds of it.
-use Rattle.std.specs.Prelude.{◌≡◌, ℕ, ◌<◌, List, length, Option, IfSome, ⊤, vec_capacity}
-use Rattle.reserved_vec.specs.Room.{Takes}
+use Rattle.std.specs.Prelude.{◌≡◌, ℕ, ◌<◌, List, length, IfSome, ⊤, vec_capacity}
 use Rattle.swarm_model.specs.declared.task_row.TaskRow.{TaskRow}
-use Rattle.swarm_model.specs.declared.attempt.Attempt.{Attempt}
-use Rattle.swarm_model.specs.declared.attempt.Chunk.{Chunk}
 use Rattle.row_changes.specs.declared.parts.TaskParts.{TaskParts}
 use Rattle.row_changes.specs.declared.parts.TaskParts.TheVariants as parts
 use Rattle.swarm_model.specs.Numbers.{AreNumbered}
-use Rattle.swarm_model.specs.Effects.{no_of_task, fresh_chunk}
+use Rattle.swarm_model.specs.Effects.{no_of_task}
+use Rattle.row_changes.specs.Output.{run_of, TakesFresh}
 use Rattle.task_rows.specs.declared.rows.TaskRows.TheInside.{Inside}
 use Rattle.task_rows.specs.Plain.{TaskRowsState}
-use Rattle.task_rows.specs.Acting.{run_of}
 
 abbrev pub kept_of : Inside → TaskRowsState
 kept_of rows = record { rows = rows.rows.items; ready = rows.ready }
-
--- the output of the run takes one chunk more, with a spare buffer of this size
-abbrev pub TakesChunk : ℕ → Option Attempt → Type 0
-TakesChunk spare run = IfSome run (λ attempt. Takes (length attempt.chunks) spare)
-
--- where the chunk goes on from the output of the run, it takes it
-abbrev pub TakesFresh : ℕ → Option Attempt → Option Chunk → Type 0
-TakesFresh spare run chunk = IfSome (fresh_chunk run chunk) (λ c. TakesChunk spare run)
 
 -- there is room for what is made ready
 abbrev pub HasRoom : List TaskRow → ℕ → ℕ → TaskParts → Type 0

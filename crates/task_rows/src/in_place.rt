@@ -1,17 +1,17 @@
-//! Rows that are found and changed at their places.
-ghost use Rattle.std.specs.Prelude.{◌≡◌, map, IfSome, vec_capacity};
+//! Rows that are found by their numbers and changed.
+ghost use Rattle.std.specs.Prelude.{◌≡◌, map, vec_capacity};
 ghost use Rattle.swarm_model.specs.Numbers.{AreNumbered};
-ghost use Rattle.swarm_model.specs.Effects.{no_of_task, task_at, fresh_chunk, chunk_at, ended_run_at, if_some};
+ghost use Rattle.swarm_model.specs.Effects.{no_of_task, task_at};
+ghost use Rattle.row_changes.specs.Output.{run_of, StaysShort};
 ghost use Rattle.row_changes.specs.Rows.{HoldsAt};
 ghost use Rattle.row_changes.specs.Parts.{task_parts};
-ghost use Rattle.task_rows.specs.Acting.{run_of, chunk_in, FitsBehind, StaysShort, Claims, EndsRun, IsAfter, IsAfterRun};
-ghost use Rattle.task_rows.specs.Inside.{KeepsNumber, TakesChunk, TakesFresh, HasRoom};
+ghost use Rattle.task_rows.specs.Acting.{chunk_in, Claims, EndsRun, IsAfter, IsAfterRun};
+ghost use Rattle.task_rows.specs.Inside.{KeepsNumber, HasRoom};
 
-use crate::output;
 use reserved_vec::{ReservedVec, SpareBuffer};
-use row_changes::{Change, Finish, LoseRun, StartRun, TaskParts, change_row, place_of, row_of};
+use row_changes::{Change, LoseRun, StartRun, TaskParts, change_row, record_report};
 use std::alloc::Global;
-use swarm_model::{Chunk, Entry, EntryKind, Last, TaskRow};
+use swarm_model::{Chunk, Entry, EntryKind, TaskRow};
 
 /// Changes the row of a number, where there is one.
 pub(crate) fn change<C: Change<TaskRow> + Drop>(rows: &mut Vec<TaskRow>, no: u32, by: C)
@@ -22,71 +22,6 @@ pub(crate) fn change<C: Change<TaskRow> + Drop>(rows: &mut Vec<TaskRow>, no: u32
     ensures numbered { AreNumbered no_of_task 1 rows.new.items }
 {
     change_row(rows, no, by);
-}
-
-fn lengthen(rows: &mut Vec<TaskRow>, no: u32, chunk: Chunk, spare: &mut SpareBuffer<Chunk>)
-    requires numbered { AreNumbered no_of_task 1 rows.old.items }
-    requires room { TakesChunk spare.old (run_of rows.old.items no) }
-    requires short { IfSome (run_of rows.old.items no) (FitsBehind chunk) }
-    ensures rows { rows.new.items ≡ map (chunk_at no chunk) rows.old.items }
-    ensures numbered { AreNumbered no_of_task 1 rows.new.items }
-{
-    if let Some(place) = place_of(rows, no) {
-        output::lengthen(&mut rows[place], chunk, spare);
-    }
-}
-
-/// The chunk, where it goes on from the output of the task of a number.
-pub(crate) fn fresh(rows: &[TaskRow], no: u32, chunk: Option<Chunk>) -> Option<Chunk>
-    requires { AreNumbered no_of_task 1 rows.now }
-    ensures { result ≡ fresh_chunk (run_of rows.now no) chunk }
-{
-    match row_of(rows, no) {
-        None => None,
-        Some(row) => output::fresh_chunk(&row.attempt, chunk),
-    }
-}
-
-/// The output of the task of a number goes on by the chunk, where that goes on from it.
-pub(crate) fn keep_chunk(
-    rows: &mut Vec<TaskRow>,
-    no: u32,
-    chunk: Option<Chunk>,
-    spare: &mut SpareBuffer<Chunk>,
-)
-    requires numbered { AreNumbered no_of_task 1 rows.old.items }
-    requires room { TakesFresh spare.old (run_of rows.old.items no) chunk }
-    requires short { StaysShort (run_of rows.old.items no) chunk }
-    ensures rows { rows.new.items ≡ map (if_some (chunk_at no) (fresh_chunk (run_of rows.old.items no) chunk)) rows.old.items }
-    ensures numbered { AreNumbered no_of_task 1 rows.new.items }
-{
-    if let Some(chunk) = fresh(rows, no, chunk) {
-        lengthen(rows, no, chunk, spare);
-    }
-}
-
-/// The run of the task of a number ends with a last report, whose chunk is kept likewise.
-pub(crate) fn close(
-    rows: &mut Vec<TaskRow>,
-    no: u32,
-    moment: u64,
-    chunk: Option<Chunk>,
-    last: Last,
-    spare: &mut SpareBuffer<Chunk>,
-)
-    requires numbered { AreNumbered no_of_task 1 rows.old.items }
-    requires room { TakesFresh spare.old (run_of rows.old.items no) chunk }
-    requires short { StaysShort (run_of rows.old.items no) chunk }
-    ensures rows { rows.new.items ≡ map (λ task. ended_run_at moment no chunk last (if_some (chunk_at no) (fresh_chunk (run_of rows.old.items no) chunk) task)) rows.old.items }
-    ensures numbered { AreNumbered no_of_task 1 rows.new.items }
-{
-    keep_chunk(rows, no, chunk, spare);
-    let finish = Finish {
-        moment,
-        chunk,
-        last,
-    };
-    change(rows, no, finish);
 }
 
 /// A bot begins the task of a number, under the id that the entry's parts are.
@@ -146,7 +81,7 @@ pub(crate) fn end_run(
             task: _,
             chunk,
             last: Some(last),
-        } => close(rows, no, moment, chunk, last, spare),
+        } => record_report(rows, moment, no, chunk, Some(last), spare),
         other => {
             drop(other);
             change(rows, no, LoseRun { moment });

@@ -12,7 +12,6 @@
 
 mod in_place;
 mod making;
-mod output;
 mod rows;
 
 pub use rows::TaskRows;

@@ -3,13 +3,11 @@ ghost use Rattle.std.specs.Prelude.{◌≡◌, ◌∷◌, [], OnOk, vec_capacity
 ghost use Rattle.swarm_model.specs.Numbers.{AreNumbered};
 ghost use Rattle.swarm_model.specs.Effects.{no_of_task, added_tasks};
 ghost use Rattle.row_changes.specs.Parts.{task_parts};
-ghost use Rattle.task_rows.specs.Acting.{AddsRow, run_of, chunk_in};
-ghost use Rattle.task_rows.specs.Inside.{HasRoom, TakesChunk, TakesFresh};
+ghost use Rattle.task_rows.specs.Acting.{AddsRow, chunk_in};
+ghost use Rattle.task_rows.specs.Inside.{HasRoom};
 
-use crate::in_place::fresh;
-use crate::output::make_chunk_room;
 use reserved_vec::SpareBuffer;
-use row_changes::{TaskParts, new_row, row_of};
+use row_changes::{TaskParts, make_fresh_room, new_row};
 use std::alloc::AllocError;
 use swarm_model::{Chunk, Entry, EntryKind, TaskRow};
 
@@ -27,35 +25,6 @@ pub(crate) fn make_room(
         EntryKind::New { .. } => rows.reserve(1),
         EntryKind::Update { t, chunk, .. } => make_fresh_room(rows, spare, *t, *chunk),
         _ => Ok(()),
-    }
-}
-
-fn make_fresh_room(
-    rows: &[TaskRow],
-    spare: &mut SpareBuffer<Chunk>,
-    no: u32,
-    chunk: Option<Chunk>,
-) -> Result<(), AllocError>
-    requires { AreNumbered no_of_task 1 rows.now }
-    ensures { OnOk result (TakesFresh spare.new (run_of rows.now no) chunk) }
-{
-    match fresh(rows, no, chunk) {
-        None => Ok(()),
-        Some(_) => make_run_room(rows, spare, no),
-    }
-}
-
-fn make_run_room(
-    rows: &[TaskRow],
-    spare: &mut SpareBuffer<Chunk>,
-    no: u32,
-) -> Result<(), AllocError>
-    requires { AreNumbered no_of_task 1 rows.now }
-    ensures { OnOk result (TakesChunk spare.new (run_of rows.now no)) }
-{
-    match row_of(rows, no) {
-        None => Ok(()),
-        Some(row) => make_chunk_room(row, spare),
     }
 }
 

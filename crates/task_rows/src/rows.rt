@@ -1,12 +1,13 @@
 ghost use Rattle.std.specs.Prelude.{◌≡◌, ◌+◌, [], length, Some, None, IfSome, OnOk, OnErr};
+ghost use Rattle.row_changes.specs.Output.{run_of, StaysShort};
 ghost use Rattle.row_changes.specs.Rows.{HasFewSlices};
 ghost use Rattle.row_changes.specs.Parts.{task_parts};
-ghost use Rattle.task_rows.specs.Acting.{row_of, run_of, chunk_in, IsAfter, IsAfterRun, AddsRow, Claims, Reports, EndsRun, Cancels, Kills, EndsSlice, StaysShort};
+ghost use Rattle.task_rows.specs.Acting.{row_of, chunk_in, IsAfter, IsAfterRun, AddsRow, Claims, Reports, EndsRun, Cancels, Kills, EndsSlice};
 
-use crate::in_place::{change, end_run, keep_chunk, start};
+use crate::in_place::{change, end_run, start};
 use crate::making::{chunk_of, make_room, row_from};
 use reserved_vec::SpareBuffer;
-use row_changes::{Cancel, ExpireSlice, MarkKill, TaskParts, row_of};
+use row_changes::{Cancel, ExpireSlice, MarkKill, TaskParts, keep_chunk, row_of};
 use std::alloc::{AllocError, Global};
 use std::marker::Model;
 use std::mem;

@@ -15,7 +15,9 @@
 //! | `caller NAME` | who sends the requests from here on, also in the transcripts that follow |
 //! | `field TEXT` | one more field in the head of the next request |
 //! | `> MOMENT PATH BODY` | a request: the clock's second at which its pool is asked, or `-` where no pool is asked, its path and its body |
+//! | `>put MOMENT PATH BODY`, `>get MOMENT PATH` | the same by PUT, and by GET |
 //! | `< STATUS \| FRONT \| BODY` | its reply: the status, the `X-Swarming-Front` or `-` for none, and the body |
+//! | `<blob STATUS \| FRONT \| BYTES` | the same, where the body are the bytes of a blob, as `application/octet-stream` |
 //! | `>> TEXT` | bytes that are sent as they stand |
 //! | `<< TEXT` | bytes that are answered as they stand |
 //! | `moment SECONDS` | one more second at which a pool is asked, for a request that is sent by `>>` |
@@ -27,7 +29,7 @@
 //! | `file_fails CALL ..` | the loads of files that fail, counted from 0 |
 //! | `ends STATUS` | the status with which the program ends; 0 where the line is absent |
 //!
-//! Each TEXT and BODY may be empty, and white space at its end counts. In it `${NAME}` and
+//! Each TEXT and BODY may be empty, and white space at its end counts. In it, and in a PATH, `${NAME}` and
 //! `${NAME*9}` are put in, `${0x0a}` stands for one byte, and `${0x61*65}` for 65 of them. A name is
 //! letters, digits and `_`. It is given once in a text, and used below the line that gives it.
 //!

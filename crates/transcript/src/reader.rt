@@ -53,8 +53,11 @@ impl Reader {
             "ends" => self.set_status(entry),
             "field" => self.add_field(entry),
             "moment" => self.add_moment(entry),
-            ">" => self.add_request(entry),
-            "<" => self.add_reply(entry),
+            ">" => self.add_request("POST", entry),
+            ">put" => self.add_request("PUT", entry),
+            ">get" => self.add_request("GET", entry),
+            "<" => self.add_reply("application/json", entry),
+            "<blob" => self.add_reply("application/octet-stream", entry),
             ">>" => self.add_sent(entry),
             "<<" => self.add_answered(entry),
             _ => Err(self.form_error("a key", key)),
@@ -205,7 +208,7 @@ impl Reader {
         Ok(())
     }
 
-    fn add_request(&mut self, entry: &str) -> Result<(), TranscriptError> {
+    fn add_request(&mut self, method: &str, entry: &str) -> Result<(), TranscriptError> {
         let Some((moment, target)) = entry.split_once(' ') else {
             return Err(self.form_error("MOMENT PATH BODY", entry));
         };
@@ -213,6 +216,7 @@ impl Reader {
             self.add_moment(moment)?;
         }
         let (path, body) = target.split_once(' ').unwrap_or((target, ""));
+        let path = self.expand(path)?;
         let body = self.expand(body)?;
         let alloc = self.alloc;
         let fields = self.draft()?.take_fields(alloc);
@@ -220,12 +224,19 @@ impl Reader {
             return Err(TextFault::RequestWithoutCaller.at(self.line));
         };
         let caller = caller.as_str();
-        let bytes = request_bytes(alloc, path, caller, fields.as_slice(), body.as_slice())?;
+        let bytes = request_bytes(
+            alloc,
+            method,
+            path.as_slice(),
+            caller,
+            fields.as_slice(),
+            body.as_slice(),
+        )?;
         self.draft()?.add_request(bytes.as_slice())?;
         Ok(())
     }
 
-    fn add_reply(&mut self, entry: &str) -> Result<(), TranscriptError> {
+    fn add_reply(&mut self, content_type: &str, entry: &str) -> Result<(), TranscriptError> {
         let line = self.line;
         let Some((status, rest)) = entry.split_once(" | ") else {
             return Err(self.form_error("STATUS | FRONT | BODY", entry));
@@ -240,7 +251,7 @@ impl Reader {
             return Err(self.form_error("a front or `-`", front));
         }
         let body = self.expand(body)?;
-        let bytes = reply_bytes(self.alloc, status, front, body.as_slice())?;
+        let bytes = reply_bytes(self.alloc, status, content_type, front, body.as_slice())?;
         self.draft()?.add_reply(line, bytes)
     }
 

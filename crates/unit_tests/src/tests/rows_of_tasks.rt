@@ -3,8 +3,9 @@
 ghost use Rattle.std.specs.Prelude.{◌≡◌, ◌<◌, IfSome, IfOk};
 ghost use Rattle.std.specs.Bool.{OnTrue};
 ghost use Rattle.std.specs.Option.{option_copied, option_and_then};
+ghost use Rattle.row_changes.specs.Output.{StaysShort};
 ghost use Rattle.row_changes.specs.Rows.{HasFewSlices};
-ghost use Rattle.task_rows.specs.Acting.{AddsRow, EndsSlice, StaysShort};
+ghost use Rattle.task_rows.specs.Acting.{AddsRow, EndsSlice};
 
 use crate::tests::{bot_pairs, pairs};
 use dimensions::{BotDims, DimSet, Seq, Text};

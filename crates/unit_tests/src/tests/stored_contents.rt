@@ -4,6 +4,7 @@
 use blob_rows::{BlobRow, Blobs};
 use content_store::{ContentStore, Digest, Filled, Held};
 use region::{Extent, Region};
+use sha2::{Digest as Hash, Sha256};
 use std::test::Fail;
 
 const SHORT: &str = "abc";
@@ -102,5 +103,10 @@ fn a_blob_has_a_row_and_its_content(rt: HostRuntime) -> Result<(), Fail> {
     };
     assert!(rt; blobs.blob_numbered(1).is_none());
     assert!(rt; blobs.blob_numbered(2) == Some(&next));
+
+    let digest = Sha256::digest(LONG.as_bytes());
+    assert_eq!(rt; digest, LONG_DIGEST);
+    assert_eq!(rt; blobs.fill_known(&digest, LONG.as_bytes()), Filled::Done);
+    assert!(rt; blobs.bytes(&LONG_DIGEST) == Some(LONG.as_bytes()));
     Ok(())
 }

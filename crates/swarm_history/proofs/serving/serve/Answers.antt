@@ -8,6 +8,7 @@ use Rattle.swarm_model.specs.Deadlines.{due_entry}
 use Rattle.swarm_model.specs.Effects.{opening}
 use Rattle.swarm_model.specs.History.{moment_of}
 use Rattle.swarm_model.specs.Points.{is_ahead, Call}
+use Rattle.swarm_history.specs.declared.door.Answered.{Answered}
 use Rattle.swarm_history.specs.Settling.{IsOwnPoint}
 use Rattle.swarm_history.specs.Doors.{is_log_full}
 use Rattle.swarm_history.proofs.OwnPoints.{sound_history, early_point, due_next, own_next, settled_point, settled_stop}
@@ -67,8 +68,8 @@ returns-clause-point g c =
     let behind = ahead_is (length k.log) c.length-length.result c.args.after c.is_ahead.result false c.length-length.ensures.length c.is_ahead.ensures c.if-is_ahead.false in
     let at = moment_is k.pool c.args.moment c.last.result c.min.result c.max-moment.result c.last.ensures.last c.min.ensures c.max-moment.ensures in
     IfOk-weaker c.respond.result _ _
-    (settled_point the_call c.max-moment.result k m c.length-length.ensures.history behind at
-    c.in_ok-settle.ensures.settles n c.in_ok-settle.ensures.nothing_due)
+    (λ (a : Answered). settled_point the_call c.max-moment.result k m c.length-length.ensures.history behind at
+    c.in_ok-settle.ensures.settles n c.in_ok-settle.ensures.nothing_due a.reply)
     c.respond.ensures.answers
 
 pub returns-clause-stopped : goal.returns-clause-stopped

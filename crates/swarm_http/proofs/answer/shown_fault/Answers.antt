@@ -1,6 +1,6 @@
-use Rattle.std.proofs.Common.{refl, ap, sym, ◌∙◌, Err}
+use Rattle.std.proofs.Common.{refl, ap, ◌∙◌, Err}
 use Rattle.swarm_model.specs.declared.rule.Rule.TheVariants as rule
-use Rattle.swarm_http.specs.Requests.{unless_front_broken, with_front}
+use Rattle.swarm_http.specs.Requests.{with_front}
 use Rattle.swarm_http.specs.Sends.{rule_of}
 use Rattle.swarm_http.specs.Steps.{by_rule}
 use Rattle.swarm_http.proofs.answer.shown_fault.Goals as goal
@@ -23,9 +23,3 @@ pub returns-in-NoTask : goal.returns-in-NoTask
 returns-in-NoTask c = λ asked is.
     by_rule (rule_of c.unless_front_broken-in-NoTask.result)
     (ap (with_front c.args.after) (is (λ e. cc)) ∙ ap (λ f. with_front c.args.after (Err f)) c.in-NoTask.is ∙ c.unless_front_broken-in-NoTask.ensures) refl
-
-pub returns-in-NotBuilt : goal.returns-in-NotBuilt
-returns-in-NotBuilt c = λ asked is.
-    by_rule (rule_of c.unless_front_broken-in-NotBuilt.result)
-    (ap (with_front c.args.after) (is (λ e. cc)) ∙ ap (λ f. with_front c.args.after (Err f)) c.in-NotBuilt.is
-    ∙ ap (λ r. unless_front_broken c.args.after (Err r)) (sym c.not_built.ensures) ∙ c.unless_front_broken-in-NotBuilt.ensures) refl

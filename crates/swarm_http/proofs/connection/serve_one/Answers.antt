@@ -1,5 +1,9 @@
+use Rattle.swarm_http.proofs.Requests.{short_body}
 use Rattle.swarm_http.proofs.Serving.{goes_on, asked_last, reply_cut, head_refused, refusal_cut, taking_ended}
 use Rattle.swarm_http.proofs.connection.serve_one.Goals as goal
+
+pub answer_request-shown-requires-clause-short : goal.answer_request-shown-requires-clause-short
+answer_request-shown-requires-clause-short g c = short_body c.in-Asks.ensures
 
 pub returns-in-Ok-clause-step : goal.returns-in-Ok-clause-step
 returns-in-Ok-clause-step g c = let f = c.in-Ok.ensures in let w = f.sends in asked_last c.in-Asks.ensures c.answer_request-shown.ensures.answers w w.outcome w.faults f.flushed c.if-closes.true

@@ -1,7 +1,7 @@
 use Rattle.std.proofs.Common.{sym, ap, ◌∙◌, None}
 use Rattle.swarm_http.specs.Replies.{refusal}
 use Rattle.swarm_http.specs.Sends.{rule_of}
-use Rattle.swarm_http.proofs.Texts.{bad_head, length_required, body_too_large, blob_too_large, no_route, bad_method, bad_json, front_broken, no_caller, no_pool, no_task, task_not_built, update_not_built, log_full, want_of_memory}
+use Rattle.swarm_http.proofs.Texts.{bad_head, length_required, body_too_large, blob_too_large, no_route, bad_method, bad_json, front_broken, no_caller, no_pool, no_task, log_full, want_of_memory}
 use Rattle.swarm_http.proofs.send.refusal_bytes.Goals as goal
 
 pub returns-in-BadHead : goal.returns-in-BadHead
@@ -33,12 +33,6 @@ returns-in-NoPool c = sym (ap (λ why. refusal None (rule_of why)) c.in-NoPool.i
 
 pub returns-in-NoTask : goal.returns-in-NoTask
 returns-in-NoTask c = sym (ap (λ why. refusal None (rule_of why)) c.in-NoTask.is ∙ no_task)
-
-pub returns-in-TaskNotBuilt : goal.returns-in-TaskNotBuilt
-returns-in-TaskNotBuilt c = sym (ap (λ why. refusal None (rule_of why)) c.in-TaskNotBuilt.is ∙ task_not_built)
-
-pub returns-in-UpdateNotBuilt : goal.returns-in-UpdateNotBuilt
-returns-in-UpdateNotBuilt c = sym (ap (λ why. refusal None (rule_of why)) c.in-UpdateNotBuilt.is ∙ update_not_built)
 
 pub returns-in-LogFull : goal.returns-in-LogFull
 returns-in-LogFull c = sym (ap (λ why. refusal None (rule_of why)) c.in-LogFull.is ∙ log_full)

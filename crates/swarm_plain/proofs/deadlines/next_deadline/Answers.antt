@@ -6,5 +6,5 @@ use Rattle.swarm_plain.proofs.deadlines.next_deadline.Goals as goal
 pub slices_ends-slices-requires : goal.slices_ends-slices-requires
 slices_ends-slices-requires c = all_early (state_of c.args.rows.now) c.requires
 
-pub bots_ends-requires : goal.bots_ends-requires
-bots_ends-requires c = all_heard (state_of c.args.rows.now) c.requires
+pub bots_ends-bots-requires : goal.bots_ends-bots-requires
+bots_ends-bots-requires c = all_heard (state_of c.args.rows.now) c.requires

@@ -8,6 +8,9 @@ use Rattle.task_checks.specs.Reading.{slice_of}
 use Rattle.task_checks.proofs.SliceParts.{slice_parts, slice_unbroken}
 use Rattle.task_checks.proofs.reading.read_slice.Goals as goal
 
+pub read_properties-requires-clause-inputs : goal.read_properties-requires-clause-inputs
+read_properties-requires-clause-inputs c = (slice_parts c.args.raw c.requires).inputs
+
 pub read_properties-requires-clause-execution : goal.read_properties-requires-clause-execution
 read_properties-requires-clause-execution c = (slice_parts c.args.raw c.requires).execution
 

@@ -5,30 +5,38 @@ use Rattle.swarm_model.specs.declared.entry.Entry.{Entry}
 use Rattle.swarm_model.specs.Answers.{entry_at}
 use Rattle.swarm_model.specs.declared.reply.Reply.{Reply}
 use Rattle.swarm_model.specs.declared.answer.Decision.{Decision}
-use Rattle.swarm_model.specs.MachineState.{IsHistory, ShowsVerdict, ActsOnce, TakesOutcome}
-use Rattle.swarm_laws.proofs.MachineLaws.{shows_verdict, repeats_once, takes_outcome}
+use Rattle.swarm_model.specs.MachineState.{IsHistory, ShowsVerdict, ShowsOutput, ActsOnce, TakesOutcome}
+use Rattle.swarm_laws.proofs.MachineLaws.{shows_verdict, shows_output, repeats_once, takes_outcome}
+use Rattle.swarm_plain.specs.Plain.{ListPoolState, machine_of}
 use Rattle.swarm_plain.proofs.Holding.{kept_history}
 use Rattle.swarm_plain.proofs.list_pool.ListPoolMachine.answer.Goals as goal
 
 pub returns-clause-verdict : goal.returns-clause-verdict
 returns-clause-verdict g c =
-    let kept = c.args.self.now in
-    let history : IsHistory kept = subst IsHistory c.self.view_is (kept_history c.self.inside c.self.invariant) in
-    subst (λ (r : Reply). ShowsVerdict kept r) (sym (ap (λ (t : Decision). t.reply) c.in_ok-reply.ensures))
+    let kept = machine_of c.args.self.now in
+    let history : IsHistory kept = subst (λ (pool : ListPoolState). IsHistory (machine_of pool)) c.self.view_is (kept_history c.self.inside c.self.invariant) in
+    subst (λ (r : Reply). ShowsVerdict kept r) (sym (ap (λ (t : Decision). t.reply) c.in_ok-reply.ensures.value))
     (shows_verdict kept history c.args.who.now c.args.moment c.args.pass c.args.request.now)
 
 pub returns-clause-repeats : goal.returns-clause-repeats
 returns-clause-repeats g c =
-    let kept = c.args.self.now in
-    let history : IsHistory kept = subst IsHistory c.self.view_is (kept_history c.self.inside c.self.invariant) in
+    let kept = machine_of c.args.self.now in
+    let history : IsHistory kept = subst (λ (pool : ListPoolState). IsHistory (machine_of pool)) c.self.view_is (kept_history c.self.inside c.self.invariant) in
     subst (λ (r : Option Entry). ActsOnce kept c.args.who.now c.args.request.now r)
-    (sym (c.entry_of.ensures ∙ ap (λ (d : Decision). option_map (entry_at c.args.moment c.args.pass) d.entry) c.in_ok-reply.ensures))
+    (sym (c.entry_of.ensures ∙ ap (λ (d : Decision). option_map (entry_at c.args.moment c.args.pass) d.entry) c.in_ok-reply.ensures.value))
     (repeats_once kept history c.args.who.now c.args.moment c.args.pass c.args.request.now)
+
+pub returns-clause-output : goal.returns-clause-output
+returns-clause-output g c =
+    let kept = machine_of c.args.self.now in
+    let history : IsHistory kept = subst (λ (pool : ListPoolState). IsHistory (machine_of pool)) c.self.view_is (kept_history c.self.inside c.self.invariant) in
+    subst (λ (r : Reply). ShowsOutput kept c.args.request.now r) (sym (ap (λ (t : Decision). t.reply) c.in_ok-reply.ensures.value))
+    (shows_output kept history c.args.who.now c.args.moment c.args.pass c.args.request.now)
 
 pub returns-clause-outcome : goal.returns-clause-outcome
 returns-clause-outcome g c =
-    let kept = c.args.self.now in
-    let history : IsHistory kept = subst IsHistory c.self.view_is (kept_history c.self.inside c.self.invariant) in
+    let kept = machine_of c.args.self.now in
+    let history : IsHistory kept = subst (λ (pool : ListPoolState). IsHistory (machine_of pool)) c.self.view_is (kept_history c.self.inside c.self.invariant) in
     subst (λ (r : Option Entry). IfSome r (TakesOutcome kept))
-    (sym (c.entry_of.ensures ∙ ap (λ (d : Decision). option_map (entry_at c.args.moment c.args.pass) d.entry) c.in_ok-reply.ensures))
+    (sym (c.entry_of.ensures ∙ ap (λ (d : Decision). option_map (entry_at c.args.moment c.args.pass) d.entry) c.in_ok-reply.ensures.value))
     (takes_outcome kept history c.args.who.now c.args.moment c.args.pass c.args.request.now c.requires.not_before c.requires.not_late c.requires.nothing_due c.requires.fits)

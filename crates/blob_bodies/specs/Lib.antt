@@ -1,0 +1,2 @@
+pub mod BlobLists
+pub mod Stdouts

@@ -1,0 +1,5 @@
+pub mod Beyond
+pub mod Filtered
+pub mod Listed
+pub mod Pages
+pub mod Sorted

@@ -1,0 +1,26 @@
+//! What the rules ask of a pool, and the answers to the requests that only read.
+//!
+//! A machine implements [`PoolQueries`]: each query is a scan of the rows by its contract. Over any
+//! rows that meet it stand the views of tasks and bots, their pages, what a blob or an output is
+//! answered, and whether a caller may see a task, each as `swarm_model`'s `Answers` defines it. The
+//! crate stands on `swarm_model`, `permissions` and `row_changes`.
+#![tactic(auto)]
+
+mod blobs;
+mod bot_pages;
+mod output;
+mod permitting;
+mod pool_queries;
+mod reading;
+mod replies;
+mod task_pages;
+mod views;
+
+pub use blobs::{find_missing, get_blob, has_blob};
+pub use bot_pages::list_bots;
+pub use output::stdout;
+pub use permitting::{denied, may};
+pub use pool_queries::PoolQueries;
+pub use reading::{named_task, show_bot, task_count, task_result};
+pub use replies::{refusal, reply_only, reply_with_entry, unfit_refusal};
+pub use task_pages::list_tasks;

@@ -1,0 +1,27 @@
+ghost use Rattle.std.specs.Prelude.{◌≡◌, IfOk};
+ghost use Rattle.swarm_model.specs.Answers.{may, denied};
+
+use crate::PoolQueries;
+use crate::replies::refusal;
+use dimensions::{Text, TryCopy};
+use permissions::allowed;
+use std::alloc::{AllocError, Global};
+use swarm_model::{Decision, Permission, Rule, TaskRow};
+
+/// Whether the caller sent the task, or may do this with every task of the pool.
+pub fn may<P: PoolQueries>(pool: &P, who: &Text, permission: Permission, task: &TaskRow) -> bool
+    ensures { result ≡ may (P.state pool.now) who.now permission task.now }
+{
+    task.creator == *who || allowed(pool.settings(), who, permission)
+}
+
+pub fn denied<P: PoolQueries>(
+    alloc: Global,
+    pool: &P,
+    permission: Permission,
+) -> Result<Decision, AllocError>
+    ensures { IfOk result (λ decision. decision ≡ denied (P.state pool.now) permission) }
+{
+    let pool = pool.settings().name.try_copy(alloc)?;
+    Ok(refusal(Rule::Denied { permission, pool }))
+}
