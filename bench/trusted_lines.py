@@ -24,16 +24,19 @@ NAME = r"[A-Za-z_][A-Za-z0-9_']*"
 HEADLINE = [
     ("Rattle.swarm_cli.specs.Run", "AreSession RunsSession PrintsUsage"),
     ("Rattle.swarm_cli.specs.SettingsFile", "RunsFile"),
+    ("Rattle.swarm_cli.specs.KeptRecords", "RunsKept"),
     ("Rattle.swarm_policy.specs.Open", "open_settings"),
     ("Rattle.swarm_http.specs.Answered", "IsAnswered KeepsDoor"),
     ("Rattle.swarm_model.specs.Settings", "are_settings"),
-    ("Rattle.swarm_history.specs.Doors", "DoorState IsCall"),
+    ("Rattle.swarm_door.specs.Doors", "DoorState IsCall"),
     ("Rattle.sw_base.specs.Link", "LinkState IsClean Reads Writes Flushes"),
     ("Rattle.sw_base.specs.Clock", "HandsIn"),
     ("Rattle.sw_base.specs.Files", "FilesState Loads"),
+    ("Rattle.swarm_keeper.specs.Stores", "StoreState HasPlace PlacesStay IsAttached NotAttached Detaches"),
+    ("Rattle.swarm_keeper.specs.Tables", "Tables Counts appended bytes_of"),
 ]
 # The traits whose contracts cite these.
-TRAITS = [("sw_base", "link", "Link"), ("sw_base", "clock", "Clock"), ("sw_base", "files", "Files"), ("swarm_history", "door", "Door")]
+TRAITS = [("sw_base", "link", "Link"), ("sw_base", "clock", "Clock"), ("sw_base", "files", "Files"), ("swarm_keeper", "keeper", "Keeper"), ("swarm_keeper", "store", "Store"), ("swarm_door", "door", "Door")]
 LAWS = [
     ("Rattle.swarm_model.specs.Claims", "ClaimsAreRight"),
     ("Rattle.swarm_model.specs.Verdicts", "VerdictsAreStates FinalsStay TallyCountsVerdicts TallyAddsUp"),
@@ -47,6 +50,9 @@ LAWS = [
 # What runs at the edge of the process.
 EDGE = [
     "crates/swarm/src/main.rt",
+    "crates/sqlite_keeper/src/sqlite_keeper.rt",
+    "crates/sqlite_keeper/src/sqlite_store.rt",
+    "crates/sqlite_keeper/src/tables.rt",
     "crates/sw_base/src/console_link.rt",
     "crates/sw_base/src/disk_files.rt",
     "crates/sw_base/src/system_clock.rt",

@@ -5,3 +5,6 @@ pub mod Marking
 pub mod Parts
 pub mod Telling
 pub mod Texts
+pub mod Counts
+pub mod Tied
+pub mod Puts

@@ -1,23 +1,37 @@
-//! The contents that a pool holds, named by their SHA-256 digests (FIPS 180-4).
+//! The contents that a pool holds, named by their SHA-256 digests (FIPS 180-4), and the rows of its
+//! blobs beside them.
 //!
 //! A [`ContentStore`] is seen as the contents that it holds, sorted by digest, each with its size,
 //! its extent and, once they came, its bytes (`specs/Contents.antt`, `specs/Plain.antt`). A name
 //! is held first, at the least place of a [`Region`](region::Region) of 64-byte units, and its
 //! bytes are brought later: they are copied once, to that place, and lent from there. Each answer
-//! is a function of what is held (`hold_result`, `fill_result`). `new` takes all the memory; no
-//! other call takes any, and the memory of the units is written to no further than some content
-//! has reached. The crate stands on `region` and the kit's `sha2`.
+//! is a function of what is held (`hold_result`, `fill_result`).
+//!
+//! [`Blobs`] keeps a row for each blob, in the order in which they were placed, and a store that
+//! holds exactly the digests of the rows, each with the size and at the extent of its row
+//! (`AreStored` of `specs/StoredRows.antt`). What a call does to the rows is said of the rows alone
+//! (`specs/BlobRows.antt`): a machine over them needs to know nothing of the store, and finds a row
+//! by a scan or by an index of its own.
+//!
+//! `new` takes all the memory; no other call takes any, and the memory of the units is written to
+//! no further than some content has reached. The crate stands on `region` and the kit's `sha2`.
 #![tactic(auto)]
 
+mod blob_row;
+mod blobs;
 mod content_store;
 mod filled;
 mod filling;
 mod held;
 mod holding;
+mod row_changing;
+mod row_scans;
 mod searching;
 mod slot;
 mod writing;
 
+pub use blob_row::BlobRow;
+pub use blobs::Blobs;
 pub use content_store::ContentStore;
 pub use filled::Filled;
 pub use held::Held;

@@ -22,7 +22,7 @@ use Rattle.swarm_model.specs.Finding.{is_wanted}
 use Rattle.swarm_model.specs.Numbers.{AreNumbered}
 use Rattle.swarm_model.specs.Pages.{is_older, is_listed, listed_tasks, is_named_before, is_after, listed_bots}
 use Rattle.swarm_model.specs.Soundness.{IsSound}
-use Rattle.row_changes.proofs.Numbered.{number_at}
+use Rattle.swarm_model.proofs.Numbers.{number_at}
 use Rattle.pool_queries.proofs.Sorted.{Differ, Rises-sorted_by, below-trans, below-itself}
 use Rattle.pool_queries.proofs.Beyond.{Precedes, beyond_first}
 use Rattle.pool_queries.proofs.Pages.{GoesOn}

@@ -3,7 +3,7 @@
 //! A machine implements [`PoolQueries`]: each query is a scan of the rows by its contract. Over any
 //! rows that meet it stand the views of tasks and bots, their pages, what a blob or an output is
 //! answered, and whether a caller may see a task, each as `swarm_model`'s `Answers` defines it. The
-//! crate stands on `swarm_model`, `permissions` and `row_changes`.
+//! crate stands on `swarm_model`.
 #![tactic(auto)]
 
 mod blobs;

@@ -4,9 +4,8 @@ ghost use Rattle.swarm_model.specs.Answers.{may, denied};
 use crate::PoolQueries;
 use crate::replies::refusal;
 use dimensions::{Text, TryCopy};
-use permissions::allowed;
 use std::alloc::{AllocError, Global};
-use swarm_model::{Decision, Permission, Rule, TaskRow};
+use swarm_model::{Decision, Permission, Rule, TaskRow, allowed};
 
 /// Whether the caller sent the task, or may do this with every task of the pool.
 pub fn may<P: PoolQueries>(pool: &P, who: &Text, permission: Permission, task: &TaskRow) -> bool

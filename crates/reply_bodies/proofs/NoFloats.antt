@@ -46,6 +46,7 @@ refusal_is_plain place (rule.StoreFull names size) = refl
 refusal_is_plain place (rule.PoolTasksFull limit) = refl
 refusal_is_plain place (rule.PoolBotsFull limit) = refl
 refusal_is_plain place rule.LogFull = refl
+refusal_is_plain place rule.KeeperFault = refl
 refusal_is_plain place (rule.FrontAhead length) = refl
 refusal_is_plain place rule.WantOfMemory = refl
 refusal_is_plain place (rule.OutputGone digest) = refl

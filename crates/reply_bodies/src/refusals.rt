@@ -50,6 +50,7 @@ pub(crate) fn status_and_code(why: &Rule) -> (u16, &'static str)
         Rule::PoolTasksFull { .. } => (503, "pool_tasks_full"),
         Rule::PoolBotsFull { .. } => (503, "pool_bots_full"),
         Rule::LogFull => (503, "log_full"),
+        Rule::KeeperFault => (503, "keeper_fault"),
         Rule::FrontAhead { .. } => (409, "front_ahead"),
         Rule::WantOfMemory => (503, "want_of_memory"),
         Rule::OutputGone { .. } => (410, "output_gone"),
@@ -173,6 +174,7 @@ fn told_members(alloc: Global, place: u32, why: &Rule) -> Result<Map<String, Val
         | Rule::NoTask
         | Rule::NoBot
         | Rule::LogFull
+        | Rule::KeeperFault
         | Rule::WantOfMemory => Ok(Map::new(alloc)),
     }
 }

@@ -5,6 +5,7 @@ use Rattle.std.proofs.lemmas.Grind.{common_steps}
 use Rattle.std.proofs.lemmas.List.{get_or_default}
 use Rattle.std.proofs.lemmas.Option.{slice_get_read, slice_get_past}
 use Rattle.swarm_model.specs.Numbers.{AreNumbered, change_at}
+use Rattle.swarm_model.proofs.Numbers.{number_at}
 use Rattle.row_changes.specs.Rows.{row_of, StandsAt, HoldsAt}
 use Rattle.row_changes.proofs.Changed.{at_place}
 
@@ -56,17 +57,11 @@ module _ {R : Type 0} (number_of : R → ℕ) where
       by_test true h rest = absurd (cc (h))
       by_test false h rest = let e = rest h in cc
 
-  -- the number of the row at a place
-  pub number_at : (n place : ℕ) (rows : List R) (d : R) → AreNumbered number_of n rows → place < length rows → number_of (get_or rows place d) ≡ n + place
-  number_at n place [] d counts low = absurd (omega arith)
-  number_at n zero (row ∷ rows) d counts low = omega (arith, counts.0)
-  number_at n (suc place) (row ∷ rows) d counts low = omega (arith, number_at (n + 1) place rows d counts.1 (omega arith))
-
   -- what holds of the row that is found holds of each row of the number
   pub holds_at : (P : R → Type 0) (rows : List R) (number : ℕ) → AreNumbered number_of 1 rows → IfSome (row_of number_of number rows) P → HoldsAt number_of number P rows
   holds_at P rows number numbered holds = λ k d low is.
       let row = get_or rows k d in
-      let stands : StandsAt rows number k = record { within = low; number_is = omega (arith, number_at 1 k rows d numbered low, is) } in
+      let stands : StandsAt rows number k = record { within = low; number_is = omega (arith, number_at number_of 1 k rows d numbered low, is) } in
       let here = found rows number k row numbered stands (get_or_default rows k d row low) in
       subst (λ (o : Option R). IfSome o P) here holds
 

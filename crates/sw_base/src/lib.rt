@@ -10,6 +10,7 @@
 //! [`Files`] are loaded whole, by their paths. Their state is what they hold at each path, which may
 //! be untold as the bytes of a link, and how often a call failed. An answer of a load is what is
 //! held, and [`FileFault::Failed`] comes only from a call in which that count rose.
+//! [`StartFault`] is why what must stand before the first request could not be reached.
 //! [`MemoryLink`], [`StepClock`], [`ListClock`] and [`MemoryFiles`] tell all; [`ConsoleLink`] tells
 //! what its reader and writer do; [`SystemClock`] and [`DiskFiles`] tell nothing.
 #![tactic(auto)]
@@ -25,6 +26,7 @@ mod link;
 mod list_clock;
 mod memory_files;
 mod memory_link;
+mod start_fault;
 mod step_clock;
 mod system_clock;
 
@@ -32,11 +34,13 @@ pub use clock::Clock;
 pub use console_link::ConsoleLink;
 pub use disk_files::DiskFiles;
 pub use failed::Failed;
+pub use failing::is_failing;
 pub use file_fault::FileFault;
 pub use files::Files;
 pub use link::Link;
 pub use list_clock::ListClock;
 pub use memory_files::MemoryFiles;
 pub use memory_link::MemoryLink;
+pub use start_fault::StartFault;
 pub use step_clock::StepClock;
 pub use system_clock::SystemClock;

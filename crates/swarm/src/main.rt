@@ -1,7 +1,8 @@
-//! The program `swarm`: it hands the words of the command line, the console and the system's clock
-//! to `swarm_cli`, and ends with its answer.
+//! The program `swarm`: it hands the words of the command line, the console, the system's clock, the
+//! disk and the store of records to `swarm_cli`, and ends with its answer.
 #![tactic(auto)]
 
+use sqlite_keeper::SqliteStore;
 use std::env;
 use std::process::ExitCode;
 use sw_base::{ConsoleLink, DiskFiles, SystemClock};
@@ -21,5 +22,13 @@ fn main(rt: HostRuntime) -> ExitCode {
     let mut console = ConsoleLink::new(rt.stdin(), rt.stdout());
     let mut clock = SystemClock::new(&rt);
     let mut files = DiskFiles::new(&rt);
-    ExitCode::from(run(alloc, &words, &mut console, &mut clock, &mut files))
+    let mut store = SqliteStore::new(&rt);
+    ExitCode::from(run(
+        alloc,
+        &words,
+        &mut console,
+        &mut clock,
+        &mut files,
+        &mut store,
+    ))
 }

@@ -5,7 +5,7 @@ use Rattle.dimensions.specs.Alike.{same}
 use Rattle.sw_base.specs.Faults.{Rose}
 use Rattle.sw_base.specs.Link.{LinkState, IsClean, NoFault}
 use Rattle.swarm_model.specs.declared.pool_settings.Settings.{Settings}
-use Rattle.swarm_history.specs.Doors.{DoorState, IsNewDoor}
+use Rattle.swarm_door.specs.Doors.{DoorState, IsFreshDoor}
 use Rattle.swarm_http.specs.declared.ended.Ended.{Ended}
 use Rattle.swarm_http.specs.declared.ended.Ended.TheVariants.{Closed, LastAsked, CutShort, BadHead, Retired, ReadFault, WriteFault, Memory}
 use Rattle.swarm_http.specs.Sends.{Written}
@@ -35,13 +35,13 @@ settings_path (word ∷ option ∷ []) = None
 settings_path (word ∷ option ∷ path ∷ []) = if same word (codes "session") && same option (codes "--settings") then Some path else None
 settings_path (word ∷ option ∷ path ∷ more ∷ words) = None
 
--- One connection over a new door of these settings, which writes alone, under the number 0, to an
+-- One connection over a fresh door of these settings, which writes alone, under the number 0, to an
 -- empty log of each pool. In the end each log is the entries of the exchanges, in order.
 pub record RunsSession (settings : Settings) (s t : LinkState) (a b : ℕ → Option (List ℕ)) (status : ℕ) : Type 0 where
   pub ended : Ended
   pub before : DoorState
   pub after : DoorState
-  pub new_door : IsNewDoor settings before
+  pub fresh_door : IsFreshDoor settings (λ p. []) before
   pub answered : IsAnswered (record { link = s; clock = a; door = before }) (record { link = t; clock = b; door = after }) ended
   pub logs_are : (p : ℕ) → after.seen p ≡ flat_map (entries_of p) answered.xs
   pub status_is : status ≡ exit_status ended

@@ -1,9 +1,13 @@
 //! The lines that the program prints.
 ghost use Rattle.std.specs.Prelude.{◌≡◌, ℕ, IfOk, List, Option, string_bytes};
 ghost use Rattle.sw_base.specs.Link.{IsClean};
+ghost use Rattle.swarm_keeper.specs.Stores.{StoreState};
 ghost use Rattle.swarm_cli.specs.Run.{Prints};
+ghost use Rattle.swarm_cli.specs.KeptRecords.{store_line as spec_store_line};
 ghost use Rattle.swarm_cli.specs.SettingsFile.{Refuses, settings_line as spec_settings_line};
 
+use arrayvec::ArrayString;
+use itoa::Buffer;
 use std::alloc::{AllocError, Global};
 use swarm_http::{Link, send_flushed};
 
@@ -25,11 +29,33 @@ fn settings_line(alloc: Global, place: &str, rule: &str) -> Result<String, Alloc
 
 /// Prints what is wrong with the settings, and where.
 pub(crate) fn print_refusal<L: Link>(alloc: Global, console: &mut L, place: &str, rule: &str) -> u8
-    ensures { (clock : ℕ → Option (List ℕ)) →
-        Refuses (spec_settings_line place.now rule.now) (L.state console.old) (L.state console.new) clock clock result }
+    ensures { (clock : ℕ → Option (List ℕ)) (store : StoreState) →
+        Refuses (spec_settings_line place.now rule.now) store store (L.state console.old) (L.state console.new) clock clock result }
 {
     match settings_line(alloc, place, rule) {
         Ok(line) => print(console, line.as_bytes(), 3),
         Err(_) => 5,
     }
+}
+
+/// The line for refused records. It takes no memory.
+fn store_line(place: u32, at: u64) -> ArrayString<64>
+    ensures { result.bytes ≡ spec_store_line place at }
+{
+    let mut place_digits = Buffer::new();
+    let mut at_digits = Buffer::new();
+    let mut line = ArrayString::new();
+    line.push_str("store ");
+    line.push_str(place_digits.format(place));
+    line.push_str(" ");
+    line.push_str(at_digits.format(at));
+    line.push_str("\n");
+    line
+}
+
+/// Prints which records are refused: the place of their pool, and that of the line.
+pub(crate) fn print_bad_store<L: Link>(console: &mut L, place: u32, at: u64) -> u8
+    ensures { Prints (spec_store_line place at) 3 (L.state console.old) (L.state console.new) result }
+{
+    print(console, store_line(place, at).as_str().as_bytes(), 3)
 }

@@ -5,7 +5,8 @@
 //!
 //! - a client that sends a request only once it has the reply to the one before, which takes a link
 //!   of its own;
-//! - an input that is cut behind each of its bytes, which would take 252 transcripts.
+//! - an input that is cut behind each of its bytes, which would take 252 transcripts;
+//! - kept records that were changed between two runs.
 //!
 //! The crate has no code that runs.
 #![tactic(auto)]

@@ -1,4 +1,5 @@
 mod cuts;
+mod records;
 mod turns;
 
 /// A request for a task.

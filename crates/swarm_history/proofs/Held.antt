@@ -1,19 +1,19 @@
 -- What a machine holds of the blobs that are there.
-use Rattle.std.proofs.Common.{◌≡◌, ℕ, ◌==◌, ◌+◌, ◌<◌, ◌≤◌, List, [], ◌∷◌, ◌++◌, length, take, get_or, true, false, Option, Some, None, IsTrue, is_some, refl, sym, subst, ◌∙◌}
+use Rattle.std.proofs.Common.{◌≡◌, ℕ, ◌==◌, ◌+◌, ◌<◌, ◌≤◌, List, [], ◌∷◌, ◌++◌, length, take, get_or, true, false, Option, Some, None, IsTrue, is_some, refl, sym, ap, subst, ◌∙◌}
 use Rattle.std.specs.List.{AllZip}
 use Rattle.std.specs.Option.{option_map_or}
-use Rattle.std.proofs.lemmas.Bool.{eqb-true, false≢true}
+use Rattle.std.proofs.lemmas.Bool.{eq-eqb, eqb-true, false≢true}
 use Rattle.std.proofs.lemmas.List.{take_more}
 use Rattle.sha2.specs.Sha256.{sha256}
-use Rattle.blob_rows.specs.declared.blob_row.BlobRow.{BlobRow}
-use Rattle.blob_rows.specs.Rows.{has_digest}
+use Rattle.content_store.specs.declared.blob_row.BlobRow.{BlobRow}
+use Rattle.content_store.specs.BlobRows.{has_digest}
 use Rattle.swarm_model.specs.declared.pool_state.PoolState.{PoolState}
 use Rattle.swarm_model.specs.declared.reply.Part.{Part}
 use Rattle.swarm_model.specs.Finding.{blob_of, has_blob}
 use Rattle.swarm_model.specs.MachineState.{MachineState, AreHeld}
 use Rattle.swarm_laws.proofs.Alike.{same_is}
 use Rattle.swarm_laws.proofs.Lists.{each, find_is}
-use Rattle.swarm_history.specs.Doors.{IsPieceOf}
+use Rattle.swarm_door.specs.Doors.{IsPieceOf}
 use Rattle.swarm_history.specs.Pieces.{HasPart}
 
 held_row : (kept : MachineState) → AreHeld kept → (digest : List ℕ) (size : ℕ) (o : Option BlobRow) → blob_of kept.pool digest ≡ o
@@ -27,6 +27,14 @@ held_row kept held digest size (Some blob) is has =
 -- the bytes of a blob that is there are held
 pub held_of : (kept : MachineState) → AreHeld kept → (digest : List ℕ) (size : ℕ) → IsTrue (has_blob kept.pool digest size) → IsTrue (is_some (kept.held digest))
 held_of kept held digest size has = held_row kept held digest size (blob_of kept.pool digest) refl has
+
+-- of a digest of which no bytes are held there is no blob
+pub absent_is : (kept : MachineState) → AreHeld kept → (digest : List ℕ) → kept.held digest ≡ None → blob_of kept.pool digest ≡ None
+absent_is kept held digest none = by_row (blob_of kept.pool digest) refl
+  where
+    by_row : (o : Option BlobRow) → blob_of kept.pool digest ≡ o → o ≡ None
+    by_row None is = refl
+    by_row (Some blob) is = absurd (false≢true (sym (ap is_some none) ∙ held_row kept held digest blob.size (Some blob) is (eq-eqb blob.size blob.size refl)))
 
 row_sizes : (a b : ℕ) (o : Option BlobRow) → option_map_or (λ blob. blob.size == a) o false ≡ true → option_map_or (λ blob. blob.size == b) o false ≡ true → a ≡ b
 row_sizes a b None has_a has_b = absurd (false≢true has_a)

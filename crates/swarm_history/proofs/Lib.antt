@@ -1,6 +1,9 @@
-mod Adding
+mod Additions
 mod Bringing
 mod Held
+mod Keepers
+mod Keeping
+mod LoadedMachines
 mod Named
 pub mod OwnPoints
 pub mod Machines

@@ -1,18 +1,18 @@
 -- Calls of one machine among several.
-use Rattle.std.proofs.Common.{◌≡◌, ℕ, zero, suc, ◌+◌, ◌<◌, true, List, [], ◌∷◌, map, length, get_or, set, refl, arith, ap, sym, subst, ◌∙◌, Option, Result}
+use Rattle.std.proofs.Common.{◌≡◌, ℕ, zero, suc, ◌+◌, ◌<◌, ◌≤◌, true, List, [], ◌∷◌, map, length, get_or, set, refl, arith, ap, sym, subst, ◌∙◌, Option, Result}
 use Rattle.std.specs.Prelude.{IsSomeAnd, slice_get}
 use Rattle.std.specs.List.{All}
-use Rattle.std.proofs.lemmas.List.Elements.{All-map, All-set}
+use Rattle.std.proofs.lemmas.List.Elements.{All-set}
 use Rattle.std.proofs.lemmas.List.{map-set, get_or-map, get_or-set_other, length-map}
 use Rattle.swarm_model.specs.declared.pool_settings.Settings.{Settings}
 use Rattle.swarm_model.specs.declared.pool_settings.PoolSettings.{PoolSettings}
 use Rattle.swarm_model.specs.declared.entry.Entry.{Entry}
 use Rattle.swarm_model.specs.MachineState.{MachineState, AreHeld}
 use Rattle.swarm_model.specs.Points.{Call, Growth}
-use Rattle.swarm_history.specs.declared.door.Answered.{Answered}
-use Rattle.swarm_history.specs.declared.door.CallFault.{CallFault}
-use Rattle.swarm_history.specs.Doors.{IsPoolCall, IsCall, IsNewDoor, Elsewhere}
-use Rattle.swarm_history.specs.Machines.{new_machine, pools_of, logs_of, own_door}
+use Rattle.swarm_door.specs.declared.door.Answered.{Answered}
+use Rattle.swarm_door.specs.declared.door.CallFault.{CallFault}
+use Rattle.swarm_door.specs.Doors.{IsPoolCall, IsCall, CountsKeeper, Elsewhere}
+use Rattle.swarm_history.specs.Machines.{pools_of, logs_of, own_door}
 
 -- what holds of the pool at a place holds of its machine's settings
 of_machine : (Q : PoolSettings → Type 0) (machines : List MachineState) (place : ℕ) (old : MachineState) → old ≡ get_or machines place old
@@ -48,45 +48,21 @@ pools_stay (m ∷ machines) (suc place) old new is same =
 abbrev with_pools : Option (List ℕ) → List PoolSettings → Settings
 with_pools store pools = record { store = store; pools = pools }
 
-called : (store : Option (List ℕ)) (machines : List MachineState) (calls place : ℕ) (call : Call) (result : Result Answered CallFault) (old new : MachineState)
+called : (store : Option (List ℕ)) (machines : List MachineState) (before now calls place : ℕ) (call : Call) (result : Result Answered CallFault) (old new : MachineState)
     → place < length machines → old ≡ get_or machines place old → new.pool.settings ≡ old.pool.settings
+    → before ≤ now → CountsKeeper result before now
     → (growth : Growth) × IsPoolCall old.pool.settings true call old.log new.log growth result
-    → IsCall (own_door store machines calls) (own_door store (set machines place new) (calls + 1)) place call result
-called store machines calls place call result old new low is same did = record {
+    → IsCall (own_door store machines before calls) (own_door store (set machines place new) now (calls + 1)) place call result
+called store machines before now calls place call result old new low is same grows failed did = record {
   growth = did.0;
   done = of_pool (λ (pool : PoolSettings) (before after : List Entry). IsPoolCall pool true call before after did.0 result) machines place old new low is did.1;
   elsewhere = elsewhere machines place new;
   settings = ap (λ (pools : List PoolSettings). with_pools store pools) (pools_stay machines place old new is same);
   writer = refl;
-  faults = omega arith;
+  faults = grows;
+  keeper = failed;
   calls = omega arith;
 }
-
--- new machines
-
-new_pools : (pools : List PoolSettings) → pools_of (map new_machine pools) ≡ pools
-new_pools [] = refl
-new_pools (pool ∷ pools) = ap (λ (rest : List PoolSettings). pool ∷ rest) (new_pools pools)
-
-new_logs : (pools : List PoolSettings) (place : ℕ) → logs_of (map new_machine pools) place ≡ []
-new_logs [] place = refl
-new_logs (pool ∷ pools) zero = refl
-new_logs (pool ∷ pools) (suc place) = new_logs pools place
-
-pub new_door : (settings : Settings) (store : Option (List ℕ)) (machines : List MachineState) → store ≡ settings.store → machines ≡ map new_machine settings.pools
-    → IsNewDoor settings (own_door store machines 0)
-new_door settings store machines stored are = rw (stored, are) (record {
-  settings_are = ap (λ (pools : List PoolSettings). with_pools settings.store pools) (new_pools settings.pools);
-  seen = new_logs settings.pools;
-  numbers = λ p. refl;
-  alone = refl;
-  faults = refl;
-  calls = refl;
-})
-
--- a new machine has no blobs
-pub new_held : (pools : List PoolSettings) → All AreHeld (map new_machine pools)
-new_held pools = All-map AreHeld new_machine pools (λ place pool low at blob less. absurd (omega arith))
 
 -- The machines of a type, each of which keeps its state.
 module _ {M : Type 0} (kept : M → MachineState) where
@@ -117,13 +93,14 @@ module _ {M : Type 0} (kept : M → MachineState) where
       subst (All AreHeld) (sym (map-set kept machines place new)) (All-set AreHeld (map kept machines) place (kept new) one held)
 
   -- a call of the machine at the place is a call of the door
-  pub own_call : (store : Option (List ℕ)) (machines : List M) (calls place : ℕ) (call : Call) (result : Result Answered CallFault) (old new : M)
+  pub own_call : (store : Option (List ℕ)) (machines : List M) (before now calls place : ℕ) (call : Call) (result : Result Answered CallFault) (old new : M)
       → place < length (pools_of (map kept machines)) → old ≡ get_or machines place old → (kept new).pool.settings ≡ (kept old).pool.settings
+      → before ≤ now → CountsKeeper result before now
       → (growth : Growth) × IsPoolCall (kept old).pool.settings true call (kept old).log (kept new).log growth result
-      → IsCall (own_door store (map kept machines) calls) (own_door store (map kept (set machines place new)) (calls + 1)) place call result
-  own_call store machines calls place call result old new low is same did =
+      → IsCall (own_door store (map kept machines) before calls) (own_door store (map kept (set machines place new)) now (calls + 1)) place call result
+  own_call store machines before now calls place call result old new low is same grows failed did =
       let low_state : place < length (map kept machines) = omega (arith, low, length-map (map kept machines) (λ (m : MachineState). m.pool.settings)) in
       let is_state = at machines place old (within machines place low) is in
-      subst (λ (after : List MachineState). IsCall (own_door store (map kept machines) calls) (own_door store after (calls + 1)) place call result)
+      subst (λ (after : List MachineState). IsCall (own_door store (map kept machines) before calls) (own_door store after now (calls + 1)) place call result)
       (sym (map-set kept machines place new))
-      (called store (map kept machines) calls place call result (kept old) (kept new) low_state is_state same did)
+      (called store (map kept machines) before now calls place call result (kept old) (kept new) low_state is_state same grows failed did)

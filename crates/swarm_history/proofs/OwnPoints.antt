@@ -18,9 +18,9 @@ use Rattle.swarm_model.specs.MachineState.{MachineState, IsHistory}
 use Rattle.swarm_model.specs.Soundness.{IsSound}
 use Rattle.swarm_laws.proofs.Sound.{sound_always}
 use Rattle.swarm_model.specs.declared.pool_settings.PoolSettings.{PoolSettings}
-use Rattle.swarm_history.specs.declared.door.Answered.{Answered}
-use Rattle.swarm_history.specs.declared.door.CallFault.{CallFault}
-use Rattle.swarm_history.specs.Doors.{ArePieces, is_log_full, IsPoolCall}
+use Rattle.swarm_door.specs.declared.door.Answered.{Answered}
+use Rattle.swarm_door.specs.declared.door.CallFault.{CallFault}
+use Rattle.swarm_door.specs.Doors.{ArePieces, is_log_full, IsPoolCall}
 use Rattle.swarm_history.proofs.Refusals.{refused_adds_nothing}
 use Rattle.swarm_history.specs.Settling.{Settles, Responds, Shows, IsOwnPoint, IsOwnStop}
 

@@ -1,4 +1,5 @@
-pub mod Doors
 pub mod Machines
 pub mod Pieces
 pub mod Settling
+pub mod Records
+pub mod OneProof

@@ -1,14 +1,8 @@
 -- Machines, one for each pool, in the order of the pools.
-use Rattle.std.specs.Prelude.{ℕ, true, List, [], map, Option, None, slice_index_or}
+use Rattle.std.specs.Prelude.{ℕ, true, List, [], map, Option, slice_index_or}
 use Rattle.swarm_model.specs.declared.pool_settings.PoolSettings.{PoolSettings}
-use Rattle.swarm_model.specs.Bytes.{nothing_held}
-use Rattle.swarm_model.specs.Effects.{opening}
 use Rattle.swarm_model.specs.MachineState.{MachineState}
-use Rattle.swarm_history.specs.Doors.{Logs, DoorState}
-
--- a machine that has added nothing
-abbrev pub new_machine : PoolSettings → MachineState
-new_machine settings = record { pool = opening settings; log = []; ready = None; held = nothing_held }
+use Rattle.swarm_door.specs.Doors.{Logs, DoorState}
 
 -- the settings of each machine's pool
 abbrev pub pools_of : List MachineState → List PoolSettings
@@ -18,12 +12,12 @@ pools_of machines = map (λ m. m.pool.settings) machines
 abbrev pub logs_of : List MachineState → Logs
 logs_of machines place = slice_index_or (map (λ m. m.log) machines) place []
 
--- a door to which these machines belong: it writes alone, with the number 0, and has no keepers that could fail
-abbrev pub own_door : Option (List ℕ) → List MachineState → ℕ → DoorState
-own_door store machines calls = record {
+-- a door to which these machines belong, whose keepers failed so often: it writes alone, with the number 0
+abbrev pub own_door : Option (List ℕ) → List MachineState → ℕ → ℕ → DoorState
+own_door store machines faults calls = record {
   settings = record { store = store; pools = pools_of machines };
   seen = logs_of machines;
   writer = record { numbers = λ p. 0; alone = true };
-  faults = 0;
+  faults = faults;
   calls = calls;
 }

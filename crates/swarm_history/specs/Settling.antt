@@ -1,5 +1,5 @@
 -- How a log grows in one call.
-use Rattle.std.specs.Prelude.{◌≡◌, ℕ, Bool, ◌≤◌, List, [], ◌∷◌, ◌++◌, length}
+use Rattle.std.specs.Prelude.{◌≡◌, ℕ, Bool, ◌≤◌, List, [], ◌∷◌, ◌++◌, length, Option, None}
 use Rattle.std.specs.Option.{option_to_list}
 use Rattle.std.specs.List.{AllByRecursion}
 use Rattle.swarm_model.specs.declared.pool_state.PoolState.{PoolState}
@@ -7,10 +7,17 @@ use Rattle.swarm_model.specs.declared.entry.Entry.{Entry}
 use Rattle.swarm_model.specs.declared.request.Request.{Request}
 use Rattle.swarm_model.specs.declared.reply.Reply.{Reply}
 use Rattle.swarm_model.specs.Answers.{answer}
+use Rattle.swarm_model.specs.Bytes.{held_after}
+use Rattle.swarm_model.specs.Effects.{after}
 use Rattle.swarm_model.specs.MachineState.{MachineState, IsHistory}
 use Rattle.swarm_model.specs.Points.{Call, Growth, IsSettled, IsPoint, IsStopped}
-use Rattle.swarm_history.specs.declared.door.Answered.{Answered}
-use Rattle.swarm_history.specs.Doors.{ArePieces}
+use Rattle.swarm_door.specs.declared.door.Answered.{Answered}
+use Rattle.swarm_door.specs.Doors.{ArePieces}
+
+-- the machine with an entry more, and the bytes that came with it
+abbrev pub with_entry : MachineState → Entry → Option (List ℕ) → MachineState
+with_entry kept entry bytes =
+    record kept { pool = after kept.pool entry; log = kept.log ++ entry ∷ []; ready = None; held = held_after kept.pool entry.kind bytes kept.held }
 
 -- nothing is added
 pub record Stays (old new : MachineState) : Type 0 where

@@ -1,20 +1,26 @@
-//! What stands between a session and the pools.
+//! A door over machines of its own, and over keepers of their records.
 //!
-//! A [`Door`] answers one request at one point of the log of its pool, after what is due by the
-//! call's moment was settled, and tells the list of the entries that it has seen of each pool.
-//! `IsCall` of `specs/Doors.antt` says what a call may do; its points are those of `swarm_model`'s
-//! `Points`. [`PlainDoor`] is a door over machines of its own, one for each pool of its settings; its
-//! state is that of `specs/Machines.antt`. It holds the bytes of each blob of its pools: those of a
-//! request are handed on with the entry that brings them, and those of the blobs that a reply names
-//! are copied before the answer's entry is added. The crate is generic over
-//! [`Machine`](swarm_model::Machine) and stands on `swarm_model`.
+//! [`PlainDoor`] has one machine and one keeper for each pool of its settings, in their order; its
+//! state is that of `specs/Machines.antt`. It is made of what the keepers have, and hands machines
+//! and keepers out at its end. Each entry is made ready in its machine, then its line is kept, with
+//! the bytes of the blob that it places and without those of the blob that it removes, and then it is
+//! added; where it cannot be kept, the machine stays as it was, and the call stops. So wherever a
+//! keeper tells its records, their lines are those of the log, and the blobs of the pool have their
+//! bytes in them (`specs/Records.antt`).
+//!
+//! The door holds the bytes of each blob of its pools: those of a request are handed on with the
+//! entry that brings them, and those of the blobs that a reply names are copied before the answer's
+//! entry is added. The crate is generic over [`Machine`](swarm_model::Machine) and
+//! [`Keeper`](swarm_keeper::Keeper), and stands on `swarm_door`, `pool_loading` and `entry_lines`.
 #![tactic(auto)]
 
-mod door;
+mod adding;
+mod load_fault;
+mod loading;
 mod pieces;
 mod plain_door;
 mod serving;
 mod settling;
 
-pub use door::{Answered, CallFault, Door};
+pub use load_fault::LoadFault;
 pub use plain_door::PlainDoor;

@@ -1,51 +1,46 @@
-ghost use Rattle.std.specs.Prelude.{◌≡◌, map, true, IsTrue, IfOk};
-ghost use Rattle.std.specs.List.{All, list_all};
+ghost use Rattle.std.specs.Prelude.{◌≡◌, ◌≤◌, ℕ, true, [], length, map, IsTrue, IfOk, IfErr};
+ghost use Rattle.std.specs.List.{All, sum_by};
+ghost use Rattle.sw_base.specs.Faults.{Rose};
 ghost use Rattle.swarm_model.specs.Bytes.{Carries};
 ghost use Rattle.swarm_model.specs.Fits.{fits};
 ghost use Rattle.swarm_model.specs.MachineState.{AreHeld};
 ghost use Rattle.swarm_model.specs.Points.{Growth};
-ghost use Rattle.swarm_model.specs.Settings.{keeps_rules, are_settings};
-ghost use Rattle.swarm_history.specs.Doors.{IsPoolCall, IsNewDoor};
-ghost use Rattle.swarm_history.specs.Machines.{new_machine, own_door};
+ghost use Rattle.swarm_model.specs.Settings.{are_settings};
+ghost use Rattle.swarm_door.specs.Doors.{IsPoolCall, IsFreshDoor, CountsKeeper};
+ghost use Rattle.swarm_history.specs.Machines.{logs_of, own_door};
+ghost use Rattle.swarm_history.specs.Records.{AreKept, AreRecordsOf, AreTold, TellsBadStore};
+ghost use Rattle.swarm_history.specs.OneProof.{are_records_one};
 
+use crate::LoadFault;
+use crate::loading::load_machines;
 use crate::serving::serve;
-use crate::{Answered, CallFault, Door};
 use dimensions::{Text, TryCopy};
-use std::alloc::{AllocError, Global};
-use swarm_model::{Machine, PoolSettings, Request, Settings};
+use std::alloc::Global;
+use swarm_door::{Answered, CallFault, Door};
+use swarm_keeper::Keeper;
+use swarm_model::{Machine, Request, Settings};
 
-/// A door over machines of its own, one for each pool, which no other door shares. Its pass has
-/// number 0.
+/// A door over machines and keepers of its own, one of each for each pool, which no other door
+/// shares. Its pass has number 0.
 #[derive(Drop)]
-pub struct PlainDoor<M: Machine + Drop> {
+pub struct PlainDoor<M: Machine + Drop, K: Keeper + Drop> {
     alloc: Global,
     store: Option<Text>,
     /// In the order of the pools.
     machines: Vec<M>,
+    /// In the order of the pools.
+    keepers: Vec<K>,
     calls: u64,
+    ghost paired: { length keepers.items ≡ length machines.items },
     ghost held: { All AreHeld (map M.kept machines.items) },
+    ghost records: { AreRecordsOf (map K.tables keepers.items) (map M.kept machines.items) } by { are_records_one _ _ },
 }
 
-/// A new machine for each pool, in their order.
-fn new_machines<M: Machine + Drop>(
-    alloc: Global,
-    pools: &[PoolSettings],
-) -> Result<Vec<M>, AllocError>
-    requires { IsTrue (list_all keeps_rules pools.now) }
-    ensures { IfOk result (λ machines. map M.kept machines.items ≡ map new_machine pools.now) }
-{
-    let mut machines = Vec::new(alloc);
-    for pool in pools {
-        let machine = M::new(alloc, pool.try_copy(alloc)?)?;
-        machines.push(machine)?;
-    }
-    Ok(machines)
-}
-
-/// Answers a request at the machine of its pool.
-fn call_machine<M: Machine>(
+/// Answers a request at the machine of its pool, whose records the keeper has.
+fn call_machine<M: Machine, K: Keeper>(
     alloc: Global,
     machine: &mut M,
+    keeper: &mut K,
     moment: u64,
     after: Option<u64>,
     who: &Text,
@@ -55,34 +50,77 @@ fn call_machine<M: Machine>(
     requires fits { IsTrue (fits (M.kept machine.old).pool.settings request.now) }
     requires carries { Carries request.now bytes.now }
     requires held { AreHeld (M.kept machine.old) }
+    requires records { AreTold (K.tables keeper.old) (M.kept machine.old) }
     ensures held { AreHeld (M.kept machine.new) }
+    ensures records { AreTold (K.tables keeper.new) (M.kept machine.new) }
     ensures settings { (M.kept machine.new).pool.settings ≡ (M.kept machine.old).pool.settings }
     ensures done { (growth : Growth) × IsPoolCall (M.kept machine.old).pool.settings true
         (record { pass = 0; caller = who.now; moment = moment; after = after; request = request.now })
         (M.kept machine.old).log (M.kept machine.new).log growth result }
+    ensures grows { K.faults keeper.old ≤ K.faults keeper.new }
+    ensures failed { CountsKeeper result (K.faults keeper.old) (K.faults keeper.new) }
 {
-    serve(alloc, machine, 0, moment, after, who, request, bytes)
+    serve(
+        alloc, machine, keeper, 0, moment, after, who, request, bytes,
+    )
 }
 
-impl<M: Machine + Drop> PlainDoor<M> {
-    /// A door that has seen nothing, over new machines of these settings.
-    pub fn new(alloc: Global, settings: &Settings) -> Result<PlainDoor<M>, AllocError>
+impl<M: Machine + Drop, K: Keeper + Drop> PlainDoor<M, K> {
+    /// A door over machines that are made of what the keepers have, one for each pool, in their
+    /// order.
+    ///
+    /// # Errors
+    ///
+    /// The keepers come back in their order, with what they had. [`LoadFault::BadStore`] tells the
+    /// first pool whose records are refused.
+    pub fn new(
+        alloc: Global,
+        settings: &Settings,
+        keepers: Vec<K>,
+    ) -> Result<PlainDoor<M, K>, (LoadFault, Vec<K>)>
         requires rules { IsTrue (are_settings settings.now) }
-        ensures { IfOk result (λ door. IsNewDoor settings.now (⟦<PlainDoor<M> as Door>⟧.state door)) }
+        requires keepers { length keepers.items ≡ length settings.now.pools }
+        ensures fresh { IfOk result (λ door. IsFreshDoor settings.now (⟦<PlainDoor<M, K> as Door>⟧.state door).seen (⟦<PlainDoor<M, K> as Door>⟧.state door)) }
+        ensures lines { IfOk result (λ door. AreKept (map K.tables keepers.items) (⟦<PlainDoor<M, K> as Door>⟧.state door).seen) }
+        ensures nothing { IsTrue K.SURE → IfOk result (λ door. (p : ℕ) → (⟦<PlainDoor<M, K> as Door>⟧.state door).seen p ≡ []) }
+        ensures bad { IfErr result (λ back. TellsBadStore settings.now (map K.tables keepers.items) back.0) }
+        ensures sure { IsTrue K.SURE → IfErr result (λ back. back.0 ≡ LoadFault.Memory) }
+        ensures failed { IfErr result (λ back. back.0 ≡ LoadFault.Failed → Rose (sum_by K.faults keepers.items) (sum_by K.faults back.1.items)) }
+        ensures back { IfErr result (λ back. map K.tables back.1.items ≡ map K.tables keepers.items) }
+        ensures grows { IfOk result (λ door. sum_by K.faults keepers.items ≤ (⟦<PlainDoor<M, K> as Door>⟧.state door).faults) }
+        ensures grows_back { IfErr result (λ back. sum_by K.faults keepers.items ≤ sum_by K.faults back.1.items) }
     {
-        let store = settings.store.try_copy(alloc)?;
-        let machines = new_machines(alloc, settings.pools.as_slice())?;
-        Ok(PlainDoor {
-            alloc,
-            store,
-            machines,
-            calls: 0,
-        })
+        let mut keepers = keepers;
+        let Ok(store) = settings.store.try_copy(alloc) else {
+            return Err((LoadFault::Memory, keepers));
+        };
+        match load_machines(alloc, settings, &mut keepers) {
+            Ok(machines) => Ok(PlainDoor {
+                alloc,
+                store,
+                machines,
+                keepers,
+                calls: 0,
+            }),
+            Err(fault) => Err((fault, keepers)),
+        }
+    }
+
+    /// The machines and the keepers, in the order of the pools. It takes no memory.
+    pub fn end(self) -> (Vec<M>, Vec<K>)
+        ensures logs { (p : ℕ) → logs_of (map M.kept result.0.items) p ≡ (⟦<PlainDoor<M, K> as Door>⟧.state self).seen p }
+        ensures records { AreRecordsOf (map K.tables result.1.items) (map M.kept result.0.items) }
+        ensures lines { AreKept (map K.tables result.1.items) (⟦<PlainDoor<M, K> as Door>⟧.state self).seen }
+        ensures faults { sum_by K.faults result.1.items ≡ (⟦<PlainDoor<M, K> as Door>⟧.state self).faults }
+        ensures machines { length result.0.items ≡ length (⟦<PlainDoor<M, K> as Door>⟧.state self).settings.pools }
+        ensures keepers { length result.1.items ≡ length (⟦<PlainDoor<M, K> as Door>⟧.state self).settings.pools }
+    {
+        (self.machines, self.keepers)
     }
 }
 
-impl<M: Machine + Drop> Door for PlainDoor<M> {
-    ghost state = { λ d. own_door d.store (map M.kept d.machines.items) d.calls };
+impl<M: Machine + Drop, K: Keeper + Drop> Door for PlainDoor<M, K> {
+    ghost state = { λ d. own_door d.store (map M.kept d.machines.items) (sum_by K.faults d.keepers.items) d.calls };
 
     fn call(
         &mut self,
@@ -95,6 +133,9 @@ impl<M: Machine + Drop> Door for PlainDoor<M> {
     ) -> Result<Answered, CallFault> {
         self.calls += 1;
         let machine = &mut self.machines[place as usize];
-        call_machine(self.alloc, machine, moment, after, who, request, bytes)
+        let keeper = &mut self.keepers[place as usize];
+        call_machine(
+            self.alloc, machine, keeper, moment, after, who, request, bytes,
+        )
     }
 }

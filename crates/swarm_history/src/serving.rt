@@ -8,16 +8,19 @@ ghost use Rattle.swarm_model.specs.Deadlines.{due_entry};
 ghost use Rattle.swarm_model.specs.Effects.{opening};
 ghost use Rattle.swarm_model.specs.MachineState.{IsHistory, AreHeld};
 ghost use Rattle.swarm_model.specs.Points.{LacksRoom, is_ahead};
-ghost use Rattle.swarm_history.specs.Doors.{is_log_full};
+ghost use Rattle.swarm_door.specs.Doors.{is_log_full, CountsKeeper};
+ghost use Rattle.swarm_history.specs.Records.{AreTold};
 ghost use Rattle.swarm_history.specs.Settling.{Stays, Responds, Shows, IsOwnPoint, IsOwnStop};
 
+use crate::adding::add;
 use crate::pieces::pieces_of;
-use crate::settling::{add, settle};
-use crate::{Answered, CallFault};
+use crate::settling::settle;
 use dimensions::{Seq, Text};
 use std::alloc::{AllocError, Global};
 use std::marker::Brand;
 use std::sync::ledger::{Blank, Ledger};
+use swarm_door::{Answered, CallFault};
+use swarm_keeper::Keeper;
 use swarm_model::{Answer, Entry, EntryKind, Machine, Reply, Request, Rule, Steps};
 
 /// The greatest moment of an entry.
@@ -67,9 +70,10 @@ fn brought_by<'a>(entry: &Entry, bytes: &'a [u8]) -> Option<&'a [u8]>
 }
 
 /// Answers a request where nothing is due. Where it stops, the log stays.
-fn respond<M: Machine>(
+fn respond<M: Machine, K: Keeper>(
     alloc: Global,
     machine: &mut M,
+    keeper: &mut K,
     pass: u32,
     moment: u64,
     who: &Text,
@@ -80,14 +84,18 @@ fn respond<M: Machine>(
     requires carries { Carries request.now bytes.now }
     requires history { IsHistory (M.kept machine.old) }
     requires held { AreHeld (M.kept machine.old) }
+    requires records { AreTold (K.tables keeper.old) (M.kept machine.old) }
     requires not_before { (M.kept machine.old).pool.last ≤ moment }
     requires not_late { moment ≤ 2 ^ 40 }
     requires nothing_due { due_entry (M.kept machine.old).pool moment pass ≡ None }
     ensures held { AreHeld (M.kept machine.new) }
+    ensures records { AreTold (K.tables keeper.new) (M.kept machine.new) }
     ensures answers { IfOk result (λ a. Responds pass who.now moment request.now (M.kept machine.old) (M.kept machine.new) a.reply) }
     ensures shows { IfOk result (Shows (M.kept machine.new)) }
     ensures stays { OnErr result (Stays (M.kept machine.old) (M.kept machine.new)) }
     ensures full { IfErr result (λ f. OnTrue (is_log_full f) (LacksRoom (M.kept machine.old).pool (M.kept machine.old).log (answer (M.kept machine.old).pool who.now moment pass request.now).entry)) }
+    ensures grows { K.faults keeper.old ≤ K.faults keeper.new }
+    ensures failed { CountsKeeper result (K.faults keeper.old) (K.faults keeper.new) }
 {
     let Ok(answer) = answer_uncounted::<M, Brand>(
         machine,
@@ -105,7 +113,7 @@ fn respond<M: Machine>(
     };
     if let Some(entry) = entry {
         let brought = brought_by(&entry, bytes);
-        add(machine, entry, brought)?;
+        add(alloc, machine, keeper, entry, brought)?;
     }
     Ok(Answered {
         front: machine.length(),
@@ -116,9 +124,10 @@ fn respond<M: Machine>(
 
 /// Settles what is due, and answers a request at the end of the machine's log. Where it stops, no
 /// entry of the request's own is added.
-pub(crate) fn serve<M: Machine>(
+pub(crate) fn serve<M: Machine, K: Keeper>(
     alloc: Global,
     machine: &mut M,
+    keeper: &mut K,
     pass: u32,
     moment: u64,
     after: Option<u64>,
@@ -129,11 +138,15 @@ pub(crate) fn serve<M: Machine>(
     requires fits { IsTrue (fits (M.kept machine.old).pool.settings request.now) }
     requires carries { Carries request.now bytes.now }
     requires held { AreHeld (M.kept machine.old) }
+    requires records { AreTold (K.tables keeper.old) (M.kept machine.old) }
     ensures held { AreHeld (M.kept machine.new) }
+    ensures records { AreTold (K.tables keeper.new) (M.kept machine.new) }
     ensures settings { (M.kept machine.new).pool.settings ≡ (M.kept machine.old).pool.settings }
     ensures point { IfOk result (λ a. IsOwnPoint (opening (M.kept machine.old).pool.settings) (record { pass = pass; caller = who.now; moment = moment; after = after; request = request.now }) (M.kept machine.old).log (M.kept machine.new).log a.reply) }
     ensures shows { IfOk result (Shows (M.kept machine.new)) }
     ensures stopped { IfErr result (λ f. IsOwnStop (opening (M.kept machine.old).pool.settings) (record { pass = pass; caller = who.now; moment = moment; after = after; request = request.now }) (M.kept machine.old).log (M.kept machine.new).log (is_log_full f)) }
+    ensures grows { K.faults keeper.old ≤ K.faults keeper.new }
+    ensures failed { CountsKeeper result (K.faults keeper.old) (K.faults keeper.new) }
 {
     let length = machine.length();
     if is_ahead(length, after) {
@@ -144,6 +157,6 @@ pub(crate) fn serve<M: Machine>(
         });
     }
     let moment = machine.last().max(moment.min(MOST_MOMENT));
-    settle(machine, pass, moment)?;
-    respond(alloc, machine, pass, moment, who, request, bytes)
+    settle(alloc, machine, keeper, pass, moment)?;
+    respond(alloc, machine, keeper, pass, moment, who, request, bytes)
 }

@@ -1,5 +1,5 @@
 -- What a request means, as far as it was looked at.
-use Rattle.std.proofs.Common.{◌≡◌, ℕ, List, refl, ap, ◌∙◌, Option, Some, None, Result, Ok, Err, subst}
+use Rattle.std.proofs.Common.{◌≡◌, ℕ, List, arith, refl, ap, ◌∙◌, Option, Some, None, Result, Ok, Err, subst}
 use Rattle.httparse.specs.Grammar.{RequestHead}
 use Rattle.request_head.specs.HeadFields.{method_of, caller_of, after_of}
 use Rattle.swarm_model.specs.declared.pool_settings.Settings.{Settings}
@@ -10,9 +10,9 @@ use Rattle.routes.specs.Routes.{resource_of}
 use Rattle.swarm_wire.specs.declared.asked.Asked.{Asked}
 use Rattle.swarm_wire.specs.declared.parts.Parts.{Parts}
 use Rattle.swarm_wire.specs.Asking.{asked_of}
-use Rattle.swarm_history.specs.declared.door.Answered.{Answered}
-use Rattle.swarm_history.specs.declared.door.CallFault.{CallFault}
-use Rattle.swarm_history.specs.Doors.{Logs, DoorState, Elsewhere, IsPoolCall, Writer}
+use Rattle.swarm_door.specs.declared.door.Answered.{Answered}
+use Rattle.swarm_door.specs.declared.door.CallFault.{CallFault}
+use Rattle.swarm_door.specs.Doors.{Logs, DoorState, Elsewhere, IsPoolCall, Writer}
 use Rattle.request_head.specs.declared.after.After.{After}
 use Rattle.std.specs.Prelude.{IsSomeAnd, slice_get}
 use Rattle.swarm_http.specs.declared.reply.ReplyBytes.{ReplyBytes}
@@ -53,12 +53,12 @@ asks_permitted settings who asked e = ap (λ (r : Result Asked Rule). then r (ca
 pub refused_early : (settings : Settings) (head : RequestHead) (body : List ℕ) (a : ℕ → Option (List ℕ)) (door : DoorState) (shown : ReplyBytes) (why : Rule)
     → door.settings ≡ settings → request_of settings head body ≡ Err why → text_of shown ≡ refusal None why → Answers head body a a door door shown
 refused_early settings head body a door shown why same means text =
-    record { outcome = rejected why; acts = (rw same means, refl); moments = HandsIn-nil a; shown = text }
+    record { outcome = rejected why; acts = (rw same means, refl); moments = HandsIn-nil a; keeper = omega arith; shown = text }
 
 -- a request for which there was no memory
 pub not_held : (head : RequestHead) (body : List ℕ) (a : ℕ → Option (List ℕ)) (door : DoorState) (shown : ReplyBytes)
     → text_of shown ≡ refusal None rule.WantOfMemory → Answers head body a a door door shown
-not_held head body a door shown text = record { outcome = no_body_memory; acts = refl; moments = HandsIn-nil a; shown = text }
+not_held head body a door shown text = record { outcome = no_body_memory; acts = refl; moments = HandsIn-nil a; keeper = omega arith; shown = text }
 
 -- a request that was refused for what was left to look at
 pub left_refused : (settings : Settings) (head : RequestHead) (body : List ℕ) (a : ℕ → Option (List ℕ)) (door : DoorState) (shown : ReplyBytes) (left : Result Asked Rule)

@@ -12,7 +12,7 @@ use Rattle.sw_base.specs.Faults.{Rose}
 use Rattle.sw_base.specs.Link.{LinkState, IsClean, Moves, NoFault}
 use Rattle.sw_base.proofs.Moving.{Moves-refl, Moves-trans, NoFault-refl, NoFault-trans, clean_still}
 use Rattle.swarm_model.specs.declared.pool_settings.Settings.{Settings}
-use Rattle.swarm_history.specs.Doors.{Logs, DoorState, Writer}
+use Rattle.swarm_door.specs.Doors.{Logs, DoorState, Writer}
 use Rattle.swarm_http.specs.declared.ended.Ended.{Ended}
 use Rattle.swarm_http.specs.declared.ended.Ended.TheVariants.{Closed, LastAsked, CutShort, BadHead, Retired, ReadFault, WriteFault, Memory}
 use Rattle.swarm_http.specs.declared.reply.Refusal.{Refusal}
@@ -22,10 +22,11 @@ use Rattle.swarm_http.specs.declared.request.Incoming.TheVariants as taken
 use Rattle.swarm_http.specs.Replies.{refusal}
 use Rattle.swarm_http.specs.Outcomes.{Outcome, Acts, shows, uses}
 use Rattle.swarm_http.specs.Exchange.{Exchange, HeadSays, request_bytes, reply_of, moments_of, Chain}
-use Rattle.swarm_http.specs.Answered.{World, replies, Serves, NoneCloses, IsOpenStill, IsCutReply, last_reply, refused_head, EndsAs, EndsAtFault, IsAnswered, KeepsDoor}
+use Rattle.swarm_http.specs.Answered.{World, replies, Serves, NoneCloses, KeepersFailed, IsOpenStill, IsCutReply, last_reply, refused_head, EndsAs, EndsAtFault, IsAnswered, KeepsDoor}
 use Rattle.swarm_http.specs.Sends.{Sends, rule_of, text_of}
 use Rattle.swarm_http.specs.Takes.{IsHeld, StopsAs, Takes, ReadsWell}
 use Rattle.swarm_http.specs.Steps.{Answers, GoesOn, Stops}
+use Rattle.swarm_http.proofs.Keepers.{none_failed, one_failed, KeepersFailed-trans}
 use Rattle.swarm_http.proofs.Once.{chain_once}
 
 pub HandsIn-nil : (a : ℕ → Option (List ℕ)) → HandsIn a a []
@@ -146,12 +147,14 @@ goes_on {v = v} {w = w} x answers y all well flushed still =
     let z = answers q.body q.head q.held in
     let sent : y.written.sent ≡ shows z.outcome = sym (append-nil y.written.sent) ∙ ap (λ l. y.written.sent ++ l) (sym all) ∙ sym y.written.whole ∙ z.shown in
     let moves = Moves-trans x.moves y.written.moves in
+    let one : Exchange = record { text = q.text; body = q.body; head = q.head; outcome = z.outcome } in
     record {
-      x = record { text = q.text; body = q.body; head = q.head; outcome = z.outcome };
+      x = one;
       no_fault = record { reads = y.written.input.read_faults ∙ x.outcome.1; writes = well ∙ x.output.write_faults };
       clean = flushed;
       open_still = sym q.held.line.closes ∙ still;
       serves = one_served (subst (Moves v.link w.link x.taken) sent (subst (λ l. Moves v.link w.link l y.written.sent) (append-nil x.taken) moves)) q.input_is q.says q.size z.acts z.moments;
+      keepers = one_failed one v.door w.door z.keeper;
     }
 
 -- its reply was not written whole
@@ -169,6 +172,7 @@ reply_cut {rest = rest} {v = v} {w = w} x answers y rose =
       rest = rest;
       sent = y.written.sent;
       serves = one_served (subst (λ l. Moves v.link w.link l y.written.sent) (append-nil x.taken) moves) q.input_is q.says q.size z.acts z.moments;
+      keepers = one_failed one v.door w.door z.keeper;
       ends = (subst (λ n. Rose n w.link.write_faults) x.output.write_faults rose, last_reply [] one y.written.sent y.back refl tt refl (sym z.shown ∙ y.written.whole));
       few = omega arith;
       faults = write_fault (y.written.input.read_faults ∙ x.outcome.1);
@@ -192,6 +196,7 @@ asked_last {rest = rest} {v = v} {w = w} x answers y all well flushed closing =
       rest = rest;
       sent = y.written.sent;
       serves = one_served (subst (λ l. Moves v.link w.link l y.written.sent) (append-nil x.taken) moves) q.input_is q.says q.size z.acts z.moments;
+      keepers = one_failed one v.door w.door z.keeper;
       ends = (record { earlier = []; last = one; are = refl; open_before = tt; closing = sym q.held.line.closes ∙ closing }, sent ∙ sym (append-nil (shows z.outcome)));
       few = omega arith;
       faults = no_faults (y.written.input.read_faults ∙ x.outcome.1) (well ∙ x.output.write_faults) flushed;
@@ -202,13 +207,14 @@ asked_last {rest = rest} {v = v} {w = w} x answers y all well flushed closing =
 -- the head was refused
 pub head_refused : {pending rest : List ℕ} {why : Refusal} {T E : Type 0} {r : Result T E} {s t u : LinkState} {a : ℕ → Option (List ℕ)} {d : DoorState}
     → Takes s t pending rest (taken.Refuses why) → (w : Sends t u (refusal None (rule_of why)) r) → w.back ≡ [] → u.write_faults ≡ t.write_faults → IsClean u → Stops pending (record { link = s; clock = a; door = d }) (record { link = u; clock = a; door = d }) BadHead
-head_refused {rest = rest} {why = why} {s = s} {u = u} x w all well flushed =
+head_refused {rest = rest} {why = why} {s = s} {u = u} {d = d} x w all well flushed =
     let moves = Moves-trans x.moves w.written.moves in
     record {
       xs = [];
       rest = rest;
       sent = w.written.sent;
       serves = none_served (subst (λ l. Moves s u l w.written.sent) (append-nil x.taken) moves) x.outcome.1;
+      keepers = none_failed d;
       ends = (rule_of why, x.outcome.0, sym (append-nil w.written.sent) ∙ ap (λ l. w.written.sent ++ l) (sym all) ∙ sym w.written.whole, nothing_open);
       few = omega arith;
       faults = no_faults (w.written.input.read_faults ∙ x.outcome.2) (well ∙ x.output.write_faults) flushed;
@@ -219,13 +225,14 @@ head_refused {rest = rest} {why = why} {s = s} {u = u} x w all well flushed =
 -- the refusal of a head was not written whole
 pub refusal_cut : {pending rest : List ℕ} {why : Refusal} {T E : Type 0} {r : Result T E} {s t u : LinkState} {a : ℕ → Option (List ℕ)} {d : DoorState}
     → Takes s t pending rest (taken.Refuses why) → Sends t u (refusal None (rule_of why)) r → Rose t.write_faults u.write_faults → Stops pending (record { link = s; clock = a; door = d }) (record { link = u; clock = a; door = d }) WriteFault
-refusal_cut {rest = rest} {why = why} {s = s} {u = u} x w rose =
+refusal_cut {rest = rest} {why = why} {s = s} {u = u} {d = d} x w rose =
     let moves = Moves-trans x.moves w.written.moves in
     record {
       xs = [];
       rest = rest;
       sent = w.written.sent;
       serves = none_served (subst (λ l. Moves s u l w.written.sent) (append-nil x.taken) moves) x.outcome.1;
+      keepers = none_failed d;
       ends = (subst (λ n. Rose n u.write_faults) x.output.write_faults rose, refused_head (rule_of why) w.written.sent w.back nothing_open x.outcome.0 refl w.written.whole);
       few = omega arith;
       faults = write_fault (w.written.input.read_faults ∙ x.outcome.2);
@@ -246,13 +253,14 @@ ends_of Memory rest s t x = absurd x
 -- no request came
 pub taking_ended : {pending rest : List ℕ} {s t : LinkState} {a : ℕ → Option (List ℕ)} {d : DoorState} (ended : Ended)
     → Takes s t pending rest (taken.Ends ended) → IsClean s → Stops pending (record { link = s; clock = a; door = d }) (record { link = t; clock = a; door = d }) ended
-taking_ended {pending = pending} {s = s} {t = t} ended x clean =
+taking_ended {pending = pending} {s = s} {t = t} {d = d} ended x clean =
     let e = ends_of ended (pending ++ x.taken) s t x.outcome in
     record {
       xs = [];
       rest = pending ++ x.taken;
       sent = [];
       serves = none_served x.moves refl;
+      keepers = none_failed d;
       ends = e.0;
       few = omega arith;
       faults = record { reads = e.3; writes = λ n. x.output.write_faults; clean = λ n. clean_still x.output clean };
@@ -272,6 +280,7 @@ keeps_on x k = record {
 pub record SoFar (count : ℕ) (pending : List ℕ) (old new : World) : Type 0 where
   pub xs : List Exchange
   pub serves : Serves xs [] pending (replies xs) old new
+  pub keepers : KeepersFailed xs old.door new.door
   pub counted : length xs ≡ count
   pub open_still : NoneCloses xs
   pub no_fault : NoFault old.link new.link
@@ -282,6 +291,7 @@ pub begun : (v : World) → IsClean v.link → SoFar 0 [] v v
 begun v clean = record {
   xs = [];
   serves = nothing_served v;
+  keepers = none_failed v.door;
   counted = refl;
   open_still = tt;
   no_fault = NoFault-refl v.link;
@@ -290,9 +300,10 @@ begun v clean = record {
 }
 
 pub one_on : {count : ℕ} {pending more : List ℕ} {u v w : World} → SoFar count pending u v → GoesOn pending more v w → KeepsDoor 1 v.door w.door → SoFar (count + 1) more u w
-one_on {more = more} {u = u} {w = w} x y k = record {
+one_on {more = more} {u = u} {v = v} {w = w} x y k = record {
   xs = x.xs ++ y.x ∷ [];
   serves = subst (λ l. Serves (x.xs ++ y.x ∷ []) [] more l u w) (replies_after x.xs (y.x ∷ []) (reply_of y.x) (sym (append-nil (reply_of y.x)))) (Serves-trans x.keeps x.serves y.serves);
+  keepers = KeepersFailed-trans x.xs (y.x ∷ []) u.door v.door w.door x.keepers y.keepers;
   no_fault = NoFault-trans x.no_fault y.no_fault;
   clean = y.clean;
   counted = omega (arith, length-append x.xs (y.x ∷ []), x.counted);
@@ -311,6 +322,7 @@ ended_so {u = u} {v = v} {w = w} {ended = ended} x early y =
       ends = ends_after ended x.xs y.xs y.rest y.sent u.link v.link w.link (omega (arith, x.counted)) x.open_still x.no_fault y.not_retired y.not_memory y.ends;
       few = omega (arith, length-append x.xs y.xs, x.counted, y.few);
       once = chain_once u.door.settings u.door.writer u.door.seen (x.xs ++ y.xs) w.door.seen all.chain;
+      keepers = KeepersFailed-trans x.xs y.xs u.door v.door w.door x.keepers y.keepers;
       faults = record { reads = λ n. y.faults.reads n ∙ x.no_fault.reads; writes = λ n. y.faults.writes n ∙ x.no_fault.writes; clean = y.faults.clean };
     }
 
@@ -323,6 +335,7 @@ retired {pending = pending} {v = v} {w = w} x full = record {
   ends = (x.counted ∙ full, refl, x.open_still);
   few = omega (arith, x.counted, full);
   once = chain_once v.door.settings v.door.writer v.door.seen x.xs w.door.seen x.serves.chain;
+  keepers = x.keepers;
   faults = no_faults x.no_fault.reads x.no_fault.writes x.clean;
 }
 
@@ -335,5 +348,6 @@ no_memory {v = v} clean = record {
   ends = (refl, refl, refl);
   few = omega arith;
   once = chain_once v.door.settings v.door.writer v.door.seen [] v.door.seen refl;
+  keepers = none_failed v.door;
   faults = no_faults refl refl clean;
 }

@@ -57,6 +57,10 @@ pub log_full : refusal None rule.LogFull ≡ codes "HTTP/1.1 503 Service Unavail
 unfolding refusal shown reply_text head_with body_of digits escape_byte
 log_full = refl
 
+pub keeper_fault : refusal None rule.KeeperFault ≡ codes "HTTP/1.1 503 Service Unavailable\r\nContent-Length: 23\r\nContent-Type: application/json\r\n\r\n{\"code\":\"keeper_fault\"}"
+unfolding refusal shown reply_text head_with body_of digits escape_byte
+keeper_fault = refl
+
 pub want_of_memory : refusal None rule.WantOfMemory ≡ codes "HTTP/1.1 503 Service Unavailable\r\nContent-Length: 25\r\nContent-Type: application/json\r\n\r\n{\"code\":\"want_of_memory\"}"
 unfolding refusal shown reply_text head_with body_of digits escape_byte
 want_of_memory = refl

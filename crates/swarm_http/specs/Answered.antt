@@ -1,21 +1,21 @@
 -- What one connection does.
 use Rattle.std.specs.Prelude.{◌≡◌, ◌≢◌, ℕ, ◌+◌, ◌<◌, ◌≤◌, ◌⊎◌, List, [], ◌∷◌, ◌++◌, length, take, true, false, Option, Some, None}
-use Rattle.std.specs.List.{flat_map, AllByRecursion}
+use Rattle.std.specs.List.{flat_map, count_by, AllByRecursion}
 use Rattle.std.specs.Io.KnownBytes.{IsAtEnd}
 use Rattle.httparse.specs.Grammar.{RequestHead}
 use Rattle.sw_base.specs.Clock.{HandsIn}
-use Rattle.sw_base.specs.Faults.{Rose}
+use Rattle.sw_base.specs.Faults.{Rose, RoseBy}
 use Rattle.sw_base.specs.Link.{LinkState, IsClean, Moves}
 use Rattle.link_reader.specs.Heads.{IsHeadEnd, IsOpen, IsTooLong}
 use Rattle.request_head.specs.Heads.{IsHead, IsNoHead}
 use Rattle.request_head.specs.HeadFields.{HeadRefusal, bad, length_required, too_large, head_refusal, size_of}
 use Rattle.swarm_model.specs.declared.rule.Rule.{Rule}
 use Rattle.swarm_model.specs.declared.rule.Rule.TheVariants as rule
-use Rattle.swarm_history.specs.Doors.{DoorState}
+use Rattle.swarm_door.specs.Doors.{DoorState}
 use Rattle.swarm_http.specs.declared.ended.Ended.{Ended}
 use Rattle.swarm_http.specs.declared.ended.Ended.TheVariants.{Closed, LastAsked, CutShort, BadHead, Retired, ReadFault, WriteFault, Memory}
 use Rattle.swarm_http.specs.Replies.{refusal}
-use Rattle.swarm_http.specs.Exchange.{Exchange, request_bytes, reply_of, moments_of, closes, HeadSays, Chain, AreOnce}
+use Rattle.swarm_http.specs.Exchange.{Exchange, request_bytes, reply_of, moments_of, closes, fails_keeper, HeadSays, Chain, AreOnce}
 
 -- the replies, one after another
 abbrev pub replies : List Exchange → List ℕ
@@ -78,6 +78,10 @@ pub data IsCutReply (most : ℕ) (xs : List Exchange) (rest sent : List ℕ) : T
   refused_head : (why : Rule) (front back : List ℕ) → IsOpenStill most xs → IsRefused rest why → sent ≡ replies xs ++ front → refusal None why ≡ front ++ back
       → IsCutReply most xs rest sent
 
+-- the door's count of faults rose by at least the number of requests whose reply is that of a keeper's fault
+abbrev pub KeepersFailed : List Exchange → DoorState → DoorState → Type 0
+KeepersFailed xs old new = RoseBy (count_by fails_keeper xs) old.faults new.faults
+
 -- what each ending says of the requests answered, at most so many, of the rest, and of the bytes written
 abbrev pub EndsAs : ℕ → Ended → List Exchange → List ℕ → List ℕ → LinkState → LinkState → Type 0
 EndsAs most Closed xs rest sent s t = (rest ≡ []) × IsAtEnd t.left × (sent ≡ replies xs) × IsOpenStill most xs
@@ -97,7 +101,7 @@ pub record EndsAtFault (ended : Ended) (s t : LinkState) : Type 0 where
 
 -- The whole connection, with nothing pending at its begin: there are requests and a rest such that
 -- all that was read, asked of the clock and the door, and written is theirs, in order, and their
--- entries stand in the logs once.
+-- entries stand in the logs once. Each reply of a keeper's fault has a fault that the door counted.
 pub record IsAnswered (old new : World) (ended : Ended) : Type 0 where
   pub xs : List Exchange
   pub rest : List ℕ
@@ -106,6 +110,7 @@ pub record IsAnswered (old new : World) (ended : Ended) : Type 0 where
   pub ends : EndsAs 65536 ended xs rest sent old.link new.link
   pub few : length xs ≤ 65536
   pub once : AreOnce old.door.writer old.door.seen xs new.door.seen
+  pub keepers : KeepersFailed xs old.door new.door
   pub faults : EndsAtFault ended old.link new.link
 
 -- what a connection keeps of its door, on which it made so many calls at most

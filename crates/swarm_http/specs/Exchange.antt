@@ -7,8 +7,8 @@ use Rattle.request_head.specs.Heads.{IsHead}
 use Rattle.request_head.specs.HeadFields.{head_refusal, size_of, closes_of}
 use Rattle.swarm_model.specs.declared.pool_settings.Settings.{Settings}
 use Rattle.swarm_model.specs.declared.entry.Entry.{Entry}
-use Rattle.swarm_history.specs.Doors.{Logs, Writer}
-use Rattle.swarm_http.specs.Outcomes.{Outcome, Acts, shows, calls, uses, entries_at}
+use Rattle.swarm_door.specs.Doors.{Logs, Writer}
+use Rattle.swarm_http.specs.Outcomes.{Outcome, Acts, shows, calls, uses, entries_at, is_keeper_stop}
 
 -- a request as it stood on the link, what its head is, and its outcome
 pub record Exchange : Type 0 where
@@ -32,6 +32,10 @@ moments_of x = uses x.outcome
 -- the entries that it added to the log of the pool at a place
 abbrev pub entries_of : ℕ → Exchange → List Entry
 entries_of place x = flat_map (entries_at place) (calls x.outcome)
+
+-- its call was stopped by what keeps its pool's records, and its reply says so
+abbrev pub fails_keeper : Exchange → Bool
+fails_keeper x = is_keeper_stop x.outcome
 
 -- it asks to close the connection
 abbrev pub closes : Exchange → Bool

@@ -1,16 +1,18 @@
 -- How one request is answered.
-use Rattle.std.specs.Prelude.{◌≡◌, ◌==◌, ℕ, List, [], ◌∷◌, map, slice_get, Some, None, Result, Ok, Err, IsSomeAnd, if◌then◌else◌}
+use Rattle.std.specs.Prelude.{◌≡◌, ◌==◌, ℕ, ◌≤◌, Bool, true, false, List, [], ◌∷◌, map, slice_get, Some, None, Result, Ok, Err, IsSomeAnd, if◌then◌else◌}
+use Rattle.std.specs.Bool.{MatchBool}
 use Rattle.httparse.specs.Grammar.{RequestHead}
 use Rattle.request_head.specs.HeadFields.{after_of}
+use Rattle.sw_base.specs.Faults.{Rose}
 use Rattle.swarm_model.specs.declared.pool_settings.Settings.{Settings}
 use Rattle.swarm_model.specs.declared.entry.Entry.{Entry}
 use Rattle.swarm_model.specs.declared.rule.Rule.{Rule}
 use Rattle.swarm_model.specs.declared.rule.Rule.TheVariants as rule
 use Rattle.swarm_model.specs.Points.{Call, Growth, added}
-use Rattle.swarm_history.specs.declared.door.Answered.{Answered}
-use Rattle.swarm_history.specs.declared.door.CallFault.{CallFault}
-use Rattle.swarm_history.specs.declared.door.CallFault.TheVariants as stop
-use Rattle.swarm_history.specs.Doors.{Logs, Elsewhere, IsPoolCall, Writer}
+use Rattle.swarm_door.specs.declared.door.Answered.{Answered}
+use Rattle.swarm_door.specs.declared.door.CallFault.{CallFault}
+use Rattle.swarm_door.specs.declared.door.CallFault.TheVariants as stop
+use Rattle.swarm_door.specs.Doors.{Logs, Elsewhere, IsPoolCall, Writer}
 use Rattle.swarm_http.specs.Requests.{CallerRequest, request_of, front_of}
 use Rattle.swarm_http.specs.Replies.{shown, refusal}
 
@@ -41,6 +43,21 @@ pub data Outcome : Type 0 where
 abbrev pub stop_rule : CallFault → Rule
 stop_rule stop.Memory = rule.WantOfMemory
 stop_rule stop.LogFull = rule.LogFull
+stop_rule stop.Keeper = rule.KeeperFault
+
+-- the call was stopped by what keeps its pool's records
+abbrev pub is_keeper_stop : Outcome → Bool
+is_keeper_stop (rejected why) = false
+is_keeper_stop (answered call result) = false
+is_keeper_stop (aborted call stop.Memory) = false
+is_keeper_stop (aborted call stop.LogFull) = false
+is_keeper_stop (aborted call stop.Keeper) = true
+is_keeper_stop no_body_memory = false
+is_keeper_stop (no_reply_memory call result) = false
+
+-- the door's count of faults never falls, and rises where a keeper stopped the call
+abbrev pub CountsStop : Outcome → ℕ → ℕ → Type 0
+CountsStop outcome before now = MatchBool (is_keeper_stop outcome) (Rose before now) (before ≤ now)
 
 -- the bytes of the reply; X-Swarming-Front stands there exactly where a call answered
 abbrev pub shows : Outcome → List ℕ

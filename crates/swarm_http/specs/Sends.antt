@@ -5,7 +5,7 @@ use Rattle.sw_base.specs.Link.{LinkState, Moves, SameInput}
 use Rattle.swarm_model.specs.declared.rule.Rule.{Rule}
 use Rattle.swarm_model.specs.declared.rule.Rule.TheVariants as rule
 use Rattle.swarm_http.specs.declared.reply.Refusal.{Refusal}
-use Rattle.swarm_http.specs.declared.reply.Refusal.TheVariants.{BadHead, LengthRequired, BodyTooLarge, BlobTooLarge, NoRoute, BadMethod, BadJson, FrontBroken, NoCaller, NoPool, NoTask, LogFull, WantOfMemory}
+use Rattle.swarm_http.specs.declared.reply.Refusal.TheVariants.{BadHead, LengthRequired, BodyTooLarge, BlobTooLarge, NoRoute, BadMethod, BadJson, FrontBroken, NoCaller, NoPool, NoTask, LogFull, KeeperFault, WantOfMemory}
 use Rattle.swarm_http.specs.declared.reply.ReplyBytes.{ReplyBytes}
 use Rattle.swarm_http.specs.declared.reply.ReplyBytes.TheVariants as shown
 use Rattle.swarm_http.specs.Requests.{broken_front}
@@ -39,6 +39,7 @@ rule_of NoCaller = rule.NoCaller
 rule_of NoPool = rule.NoPool
 rule_of NoTask = rule.NoTask
 rule_of LogFull = rule.LogFull
+rule_of KeeperFault = rule.KeeperFault
 rule_of WantOfMemory = rule.WantOfMemory
 
 -- the bytes of a reply that is ready to be written

@@ -2,16 +2,16 @@
 use Rattle.std.specs.Prelude.{◌≡◌, ◌≢◌, ℕ, ◌≤◌, List, [], ◌∷◌, length, false, Option, None, Result, Err}
 use Rattle.sw_base.specs.Clock.{HandsIn}
 use Rattle.sw_base.specs.Link.{IsClean, NoFault}
-use Rattle.swarm_history.specs.Doors.{DoorState}
+use Rattle.swarm_door.specs.Doors.{DoorState}
 use Rattle.swarm_http.specs.declared.ended.Ended.{Ended}
 use Rattle.swarm_http.specs.declared.ended.Ended.TheVariants.{Retired, Memory}
 use Rattle.swarm_http.specs.declared.connection.Step.{Step}
 use Rattle.swarm_http.specs.declared.connection.Step.TheVariants.{Next, End}
 use Rattle.swarm_http.specs.declared.reply.ReplyBytes.{ReplyBytes}
-use Rattle.swarm_http.specs.Outcomes.{Outcome, Acts, shows, uses}
+use Rattle.swarm_http.specs.Outcomes.{Outcome, Acts, CountsStop, shows, uses}
 use Rattle.swarm_http.specs.Exchange.{Exchange, reply_of, closes}
 use Rattle.httparse.specs.Grammar.{RequestHead}
-use Rattle.swarm_http.specs.Answered.{World, Serves, EndsAs, EndsAtFault}
+use Rattle.swarm_http.specs.Answered.{World, Serves, KeepersFailed, EndsAs, EndsAtFault}
 use Rattle.swarm_http.specs.Replies.{refusal}
 use Rattle.swarm_http.specs.Sends.{text_of}
 use Rattle.swarm_wire.specs.declared.asked.Asked.{Asked}
@@ -23,6 +23,7 @@ pub record Answers (head : RequestHead) (body : List ℕ) (a b : ℕ → Option 
   pub outcome : Outcome
   pub acts : Acts old.settings old.writer head body outcome old.seen new.seen
   pub moments : HandsIn a b (uses outcome)
+  pub keeper : CountsStop outcome old.faults new.faults
   pub shown : text_of result ≡ shows outcome
 
 -- the reply is the refusal for the request's rule, or that for want of memory
@@ -35,6 +36,7 @@ pub record GoesOn (pending rest : List ℕ) (old new : World) : Type 0 where
   pub x : Exchange
   pub open_still : closes x ≡ false
   pub serves : Serves (x ∷ []) pending rest (reply_of x) old new
+  pub keepers : KeepersFailed (x ∷ []) old.door new.door
   pub no_fault : NoFault old.link new.link
   pub clean : IsClean new.link
 
@@ -44,6 +46,7 @@ pub record Stops (pending : List ℕ) (old new : World) (ended : Ended) : Type 0
   pub rest : List ℕ
   pub sent : List ℕ
   pub serves : Serves xs pending rest sent old new
+  pub keepers : KeepersFailed xs old.door new.door
   pub ends : EndsAs 1 ended xs rest sent old.link new.link
   pub few : length xs ≤ 1
   pub faults : EndsAtFault ended old.link new.link

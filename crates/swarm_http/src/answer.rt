@@ -23,7 +23,7 @@ use request_head::{After, Method};
 use routes::{Resource, Route};
 use std::alloc::Global;
 use sw_base::Clock;
-use swarm_history::{CallFault, Door};
+use swarm_door::{CallFault, Door};
 use swarm_model::Settings;
 use swarm_wire::{Asked, Parts, WireFault, read_request};
 
@@ -33,6 +33,7 @@ fn stop_refusal(why: CallFault) -> Refusal
     match why {
         CallFault::Memory => Refusal::WantOfMemory,
         CallFault::LogFull => Refusal::LogFull,
+        CallFault::Keeper => Refusal::KeeperFault,
     }
 }
 

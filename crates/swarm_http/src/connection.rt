@@ -14,7 +14,7 @@ use link_reader::Pending;
 use routes::Routes;
 use std::alloc::{AllocError, Global};
 use sw_base::{Clock, Link};
-use swarm_history::Door;
+use swarm_door::Door;
 use swarm_model::Settings;
 
 /// Whether a connection goes on after a request.

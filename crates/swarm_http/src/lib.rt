@@ -6,12 +6,13 @@
 //! a list of exchanges, each a request as it stood on the link with its outcome, such that the bytes
 //! taken from the link are those requests one after the other and a rest, the bytes written are
 //! their replies, the moments that the clock handed in are theirs, and the logs of the pools grew
-//! by what each of them did. How the connection ended then says what the rest is. The bytes of a
-//! reply are `shown` of `specs/Replies.antt`. What a request means, or the refusal that it gets
+//! by what each of them did. The count of faults that the door tells rose by at least the number of
+//! replies that are a keeper's fault. How the connection ended then says what the rest is. The bytes
+//! of a reply are `shown` of `specs/Replies.antt`. What a request means, or the refusal that it gets
 //! before any pool is asked, is `request_of` of `specs/Requests.antt`.
 //!
-//! The crate passes on the link and the clock of `sw_base` and the door of `swarm_history`, which
-//! a caller of [`session`] needs.
+//! The crate passes on the link and the clock of `sw_base` and the door of `swarm_door`, which a
+//! caller of [`session`] needs.
 #![tactic(auto)]
 
 mod answer;
@@ -26,4 +27,4 @@ pub use connection::session;
 pub use ended::Ended;
 pub use send::send_flushed;
 pub use sw_base::{Clock, ConsoleLink, Failed, Link, MemoryLink, StepClock, SystemClock};
-pub use swarm_history::{Answered, CallFault, Door, PlainDoor};
+pub use swarm_door::{Answered, CallFault, Door};

@@ -6,9 +6,8 @@ ghost use Rattle.swarm_http.specs.Steps.{IsRejection};
 
 use crate::reply::{Refusal, ReplyBytes, denied_refusal};
 use dimensions::Text;
-use permissions::allowed;
 use std::alloc::Global;
-use swarm_model::{Permission, Request, Settings};
+use swarm_model::{Permission, Request, Settings, allowed};
 use swarm_wire::Asked;
 
 /// The permission without which the pool of a request is not asked. Whether a caller may cancel a

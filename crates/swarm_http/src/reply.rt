@@ -29,6 +29,8 @@ pub enum Refusal {
     NoPool,
     NoTask,
     LogFull,
+    /// What keeps the pool's records failed.
+    KeeperFault,
     WantOfMemory,
 }
 

@@ -60,6 +60,8 @@ fn refusal_bytes(why: Refusal) -> &'static [u8]
             b"HTTP/1.1 404 Not Found\r\nContent-Length: 18\r\nContent-Type: application/json\r\n\r\n{\"code\":\"no_task\"}",
         Refusal::LogFull =>
             b"HTTP/1.1 503 Service Unavailable\r\nContent-Length: 19\r\nContent-Type: application/json\r\n\r\n{\"code\":\"log_full\"}",
+        Refusal::KeeperFault =>
+            b"HTTP/1.1 503 Service Unavailable\r\nContent-Length: 23\r\nContent-Type: application/json\r\n\r\n{\"code\":\"keeper_fault\"}",
         Refusal::WantOfMemory =>
             b"HTTP/1.1 503 Service Unavailable\r\nContent-Length: 25\r\nContent-Type: application/json\r\n\r\n{\"code\":\"want_of_memory\"}",
     }

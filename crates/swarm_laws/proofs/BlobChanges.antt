@@ -8,8 +8,8 @@ use Rattle.region.specs.Extents.{extent_at}
 use Rattle.content_store.specs.declared.held.Held.{Held}
 use Rattle.content_store.specs.declared.held.Held.TheVariants.{Placed, Present, NoNames, NoRoom}
 use Rattle.content_store.specs.Contents.{units_of}
-use Rattle.blob_rows.specs.declared.blob_row.BlobRow.{BlobRow}
-use Rattle.blob_rows.specs.Rows.{BlobRowsState, renewed_until, longer_kept, is_other, new_blob, place_for}
+use Rattle.content_store.specs.declared.blob_row.BlobRow.{BlobRow}
+use Rattle.content_store.specs.BlobRows.{BlobRowsState, renewed_until, longer_kept, is_other, new_blob, place_for}
 use Rattle.swarm_model.specs.declared.attempt.Chunk.{Chunk}
 use Rattle.swarm_model.specs.declared.attempt.Attempt.{Attempt}
 use Rattle.swarm_model.specs.declared.attempt.Last.{Last}

@@ -14,11 +14,11 @@ use Rattle.region.specs.Places.{overlaps, is_free}
 use Rattle.region.specs.Extents.{AreApart}
 use Rattle.region.proofs.Gaps.{IsLeastFrom, least_place-least}
 use Rattle.content_store.specs.Contents.{Content, unfilled_content, units_of, is_held}
-use Rattle.blob_rows.specs.declared.blob_row.BlobRow.{BlobRow}
-use Rattle.blob_rows.specs.Rows.{BlobRowsState, has_digest, is_blob, blob_of, extent_of_row, place_for}
-use Rattle.blob_rows.specs.Plain.{Stored, stored_row, stored_content, AreStored}
-use Rattle.blob_rows.proofs.Counts.{count_filtered}
-use Rattle.blob_rows.proofs.Tied.{held_is, added, changed}
+use Rattle.content_store.specs.declared.blob_row.BlobRow.{BlobRow}
+use Rattle.content_store.specs.BlobRows.{BlobRowsState, has_digest, is_blob, blob_of, extent_of_row, place_for}
+use Rattle.content_store.specs.StoredRows.{Stored, stored_row, stored_content, AreStored}
+use Rattle.content_store.proofs.Counts.{count_filtered}
+use Rattle.content_store.proofs.Tied.{held_is, added, changed}
 use Rattle.swarm_laws.proofs.Lists.{Among, here, later, each, all, among_map}
 
 -- ---- no digest and no number twice

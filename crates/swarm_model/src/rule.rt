@@ -106,6 +106,8 @@ pub enum Rule {
     },
     /// The log has no room for the entry that must be added.
     LogFull,
+    /// What keeps the pool's records failed.
+    KeeperFault,
     /// The caller has seen a longer log than this one.
     FrontAhead {
         length: u64,

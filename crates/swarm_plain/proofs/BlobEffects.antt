@@ -5,8 +5,8 @@ use Rattle.std.specs.Prelude.{is_none}
 use Rattle.sha2.specs.Sha256.{sha256}
 use Rattle.dimensions.specs.Choosing.{when}
 use Rattle.content_store.specs.declared.held.Held.{Held}
-use Rattle.blob_rows.specs.Rows.{BlobRowsState, put_result}
-use Rattle.blob_rows.specs.Plain.{rows_in}
+use Rattle.content_store.specs.BlobRows.{BlobRowsState, put_result}
+use Rattle.content_store.specs.StoredRows.{rows_in}
 use Rattle.swarm_model.specs.declared.attempt.Attempt.{Attempt}
 use Rattle.swarm_model.specs.declared.attempt.Chunk.{Chunk}
 use Rattle.swarm_model.specs.declared.pool_state.PoolState.{PoolState}

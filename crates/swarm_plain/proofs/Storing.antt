@@ -18,11 +18,11 @@ use Rattle.content_store.specs.Contents.{Content, units_of, same_digest, is_name
 use Rattle.content_store.specs.Plain.{ContentStoreState, hold_result, held_after_hold, fill_result, held_after_fill}
 use Rattle.content_store.proofs.Texts.{same_text}
 use Rattle.content_store.proofs.Telling.{told_done}
-use Rattle.blob_rows.specs.declared.blob_row.BlobRow.{BlobRow}
-use Rattle.blob_rows.specs.Rows.{BlobRowsState, has_digest, blob_of, blob_numbered, place_for, put_result}
-use Rattle.blob_rows.specs.Plain.{BlobsState, Stored, stored_row, stored_content, AreStored, rows_beside, rows_in, held_without}
-use Rattle.blob_rows.proofs.Tied.{held_is}
-use Rattle.blob_rows.proofs.Puts.{hold_result-is}
+use Rattle.content_store.specs.declared.blob_row.BlobRow.{BlobRow}
+use Rattle.content_store.specs.BlobRows.{BlobRowsState, has_digest, blob_of, blob_numbered, place_for, put_result}
+use Rattle.content_store.specs.StoredRows.{BlobsState, Stored, stored_row, stored_content, AreStored, rows_beside, rows_in, held_without}
+use Rattle.content_store.proofs.Tied.{held_is}
+use Rattle.content_store.proofs.Puts.{hold_result-is}
 use Rattle.swarm_model.specs.Blobs.{is_taken}
 use Rattle.swarm_model.specs.declared.pool_state.PoolState.{PoolState}
 use Rattle.swarm_model.specs.Finding.{has_blob}

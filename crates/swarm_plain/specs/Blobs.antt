@@ -5,9 +5,9 @@ use Rattle.std.specs.Option.{option_map}
 use Rattle.sha2.specs.Sha256.{sha256}
 use Rattle.content_store.specs.Contents.{bytes_of}
 use Rattle.content_store.specs.Plain.{fill_result, held_after_fill}
-use Rattle.blob_rows.specs.declared.blob_row.BlobRow.{BlobRow}
-use Rattle.blob_rows.specs.Rows.{BlobRowsState, blob_of, blob_numbered, is_other, longer_kept, put, put_result}
-use Rattle.blob_rows.specs.Plain.{BlobsState, rows_in}
+use Rattle.content_store.specs.declared.blob_row.BlobRow.{BlobRow}
+use Rattle.content_store.specs.BlobRows.{BlobRowsState, blob_of, blob_numbered, is_other, longer_kept, put, put_result}
+use Rattle.content_store.specs.StoredRows.{BlobsState, rows_in}
 use Rattle.dimensions.specs.Choosing.{when}
 use Rattle.swarm_model.specs.declared.attempt.Chunk.{Chunk}
 use Rattle.swarm_model.specs.declared.pool_settings.PoolSettings.{PoolSettings}

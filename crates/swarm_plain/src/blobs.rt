@@ -3,15 +3,15 @@ ghost use Rattle.std.specs.Prelude.{◌≡◌, ◌+◌, ◌<◌, ◌≤◌, ◌^
 ghost use Rattle.std.specs.Option.{option_map};
 ghost use Rattle.sha2.specs.Sha256.{sha256};
 ghost use Rattle.dimensions.specs.Choosing.{when};
-ghost use Rattle.blob_rows.specs.Rows.{blob_of, put, put_result};
-ghost use Rattle.blob_rows.specs.Plain.{rows_in};
+ghost use Rattle.content_store.specs.BlobRows.{blob_of, put, put_result};
+ghost use Rattle.content_store.specs.StoredRows.{rows_in};
 ghost use Rattle.swarm_model.specs.Blobs.{is_taken};
 ghost use Rattle.swarm_model.specs.Bytes.{with_new};
 ghost use Rattle.swarm_plain.specs.Blobs.{held_in, with_filled, AreBytesOf, put_of, end_of, blob_effect, CanChange, rows_with, held_with};
 ghost use Rattle.swarm_plain.specs.Inside.{state_of, IsInOrder};
 
 use crate::rows::Rows;
-use blob_rows::Blobs;
+use content_store::Blobs;
 use row_changes::fresh_chunk;
 use swarm_model::{Chunk, EntryKind};
 use task_props::Digest;

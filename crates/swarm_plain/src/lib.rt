@@ -2,7 +2,7 @@
 //!
 //! [`ListPool`] is a [`Machine`](swarm_model::Machine): its rows are the replay of its log, and the
 //! log is legal. It implements the queries of `swarm_rules` by scans, and has no index but the store's
-//! own. The rows of the blobs, with the bytes that are held, are those of `blob_rows`. It is what
+//! own. The rows of the blobs, with the bytes that are held, are those of `content_store`. It is what
 //! every faster machine is held against.
 #![tactic(auto)]
 

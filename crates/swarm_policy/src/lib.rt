@@ -10,10 +10,10 @@
 //!
 //! [`open_settings`] are the settings of a server that was given none: one pool, named `default`,
 //! whose limits are the defaults and in which every caller may do everything. `specs/Open.antt`
-//! writes them out, over the same defaults (`specs/Defaults.antt`). [`allowed`] of `permissions`
-//! tells whether a pool gives a caller a permission.
+//! writes them out, over the same defaults (`specs/Defaults.antt`). `allowed` of `swarm_model` tells
+//! whether a pool gives a caller a permission.
 //!
-//! The crate stands on `permissions`, `swarm_model`, `dimensions` and `toml`, and has the frame of
+//! The crate stands on `swarm_model`, `dimensions` and `toml`, and has the frame of
 //! its definitions, `Gives` and `◌>>=◌`, from `json_fields`.
 #![tactic(auto)]
 
@@ -31,6 +31,5 @@ mod value_fault;
 
 pub use documents::read_settings;
 pub use open::open_settings;
-pub use permissions::allowed;
 pub use settings_fault::SettingsFault;
 pub use settings_rule::SettingsRule;

@@ -30,6 +30,31 @@ impl Draft {
         })
     }
 
+    /// The next run over the same store. It has no rows yet, and takes no more files.
+    pub(crate) fn next_run(
+        alloc: Global,
+        before: &Transcript,
+        line: usize,
+    ) -> Result<Draft, AllocError> {
+        Ok(Draft {
+            transcript: before.next_run(alloc, line)?,
+            has_row: true,
+            has_from: false,
+            is_in_file: false,
+            unanswered: 0,
+            fields: Vec::new(alloc),
+            fields_line: line,
+        })
+    }
+
+    /// The transcript, where its store is not in use yet.
+    pub(crate) fn before_store(&mut self, line: usize) -> Result<&mut Transcript, TranscriptError> {
+        if self.transcript.is_again {
+            return Err(TextFault::LateStore.at(line));
+        }
+        Ok(&mut self.transcript)
+    }
+
     /// Begins with the rows and the files of another transcript.
     pub(crate) fn begin_with(
         &mut self,

@@ -23,6 +23,8 @@ pub enum TextFault {
     RepeatedFile(String),
     /// `file` stands behind a row.
     LateFile,
+    /// What fails of the store stands behind `again`.
+    LateStore,
     /// A line of a file that does not stand right below its `file` or another line of it.
     LineWithoutFile,
     RequestWithoutCaller,
@@ -50,6 +52,12 @@ impl fmt::Display for TextFault {
                 write!(f, "the transcript has a file `{path}` already")
             }
             TextFault::LateFile => write!(f, "`file` has to stand before the first row"),
+            TextFault::LateStore => {
+                write!(
+                    f,
+                    "what fails of the store has to stand before the first `again`"
+                )
+            }
             TextFault::LineWithoutFile => write!(f, "no file stands right above this line of one"),
             TextFault::RequestWithoutCaller => write!(f, "this request has no caller"),
             TextFault::FieldWithoutRequest => write!(f, "no request follows this field"),

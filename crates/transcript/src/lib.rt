@@ -3,14 +3,15 @@
 //! Transcripts: what is sent over a connection and what comes back, as rows of a readable text.
 //!
 //! [`read`] takes the transcripts out of a text. [`compare`] holds what was written in a run and its
-//! status against a transcript, and [`compare_moments`] how often its clock was asked. A text has one entry a line. Lines that are blank or begin
-//! with `#` are left out.
+//! status against a transcript, and [`compare_moments`] how often its clock was asked. A text has one
+//! entry a line. Lines that are blank or begin with `#` are left out.
 //!
 //! | Line | Meaning |
 //! |---|---|
 //! | `let NAME TEXT` | from here on `${NAME}` stands for the text, and `${NAME*9}` for it nine times |
-//! | `transcript NAME` | begins a transcript: one run of the program over one connection, on a new pool |
-//! | `from NAME` | the transcript begins with the rows of an earlier one of the text, and has its files |
+//! | `transcript NAME` | begins a transcript: one run of the program over one connection, on a new store that keeps nothing |
+//! | `from NAME` | the transcript begins with the rows of an earlier one of the text, up to its first `again`, and has its files |
+//! | `again` | ends the run, and begins the next one of the same words and files, over the store that it left |
 //! | `words WORD ..` | the words of the command line; `session` where the line is absent |
 //! | `caller NAME` | who sends the requests from here on, also in the transcripts that follow |
 //! | `field TEXT` | one more field in the head of the next request |
@@ -27,7 +28,9 @@
 //! | `file PATH` | the program finds a file at this path, with the lines that follow; it stands before the first row |
 //! | `\| TEXT` | the next line of the file, which ends in LF |
 //! | `file_fails CALL ..` | the loads of files that fail, counted from 0 |
-//! | `ends STATUS` | the status with which the program ends; 0 where the line is absent |
+//! | `attach_fails CALL ..` | the attaches of keepers that fail, counted from 0 over all runs of the transcript |
+//! | `keeper_fails CALL ..` | the calls that fail of one keeper, counted from 0: the first such line is of the keeper that is attached first, and so on |
+//! | `ends STATUS` | the status with which the run ends; 0 where the line is absent |
 //!
 //! Each TEXT and BODY may be empty, and white space at its end counts. In it, and in a PATH, `${NAME}` and
 //! `${NAME*9}` are put in, `${0x0a}` stands for one byte, and `${0x61*65}` for 65 of them. A name is

@@ -50,6 +50,9 @@ impl Reader {
             "file" => self.begin_file(entry),
             "|" => self.add_file_line(entry),
             "file_fails" => self.set_file_fails(entry),
+            "attach_fails" => self.set_attach_fails(entry),
+            "keeper_fails" => self.add_keeper_fails(entry),
+            "again" => self.begin_again(entry),
             "ends" => self.set_status(entry),
             "field" => self.add_field(entry),
             "moment" => self.add_moment(entry),
@@ -164,6 +167,34 @@ impl Reader {
     fn set_file_fails(&mut self, entry: &str) -> Result<(), TranscriptError> {
         let fails = read_numbers(self.alloc, self.line, entry)?;
         self.draft()?.transcript.file_fails = fails;
+        Ok(())
+    }
+
+    fn set_attach_fails(&mut self, entry: &str) -> Result<(), TranscriptError> {
+        let line = self.line;
+        let fails = read_numbers(self.alloc, line, entry)?;
+        self.draft()?.before_store(line)?.attach_fails = fails;
+        Ok(())
+    }
+
+    fn add_keeper_fails(&mut self, entry: &str) -> Result<(), TranscriptError> {
+        let line = self.line;
+        let fails = read_numbers(self.alloc, line, entry)?;
+        self.draft()?.before_store(line)?.keeper_fails.push(fails)?;
+        Ok(())
+    }
+
+    /// Ends a run, and begins the next one over the same store.
+    fn begin_again(&mut self, entry: &str) -> Result<(), TranscriptError> {
+        if !entry.is_empty() {
+            return Err(self.form_error("nothing behind `again`", entry));
+        }
+        let Some(draft) = self.current.take() else {
+            return Err(TextFault::OutsideTranscript.at(self.line));
+        };
+        let before = draft.end()?;
+        self.current = Some(Draft::next_run(self.alloc, &before, self.line)?);
+        self.earlier.push(before)?;
         Ok(())
     }
 

@@ -36,6 +36,8 @@ pub struct Transcript {
     pub name: String,
     /// The line at which it begins.
     pub line: usize,
+    /// Whether it goes on with the store that the run before it left.
+    pub is_again: bool,
     /// The words of the command line.
     pub words: Vec<String>,
     /// The bytes that are sent.
@@ -54,6 +56,10 @@ pub struct Transcript {
     pub files: Vec<File>,
     /// The numbers of the loads of files that fail.
     pub file_fails: Vec<u64>,
+    /// The numbers of the attaches of keepers that fail, over all runs of the store.
+    pub attach_fails: Vec<u64>,
+    /// The numbers of the calls that fail, of each keeper in the order in which they are attached.
+    pub keeper_fails: Vec<Vec<u64>>,
     /// The status with which the program ends.
     pub status: u8,
 }
@@ -64,6 +70,7 @@ impl Transcript {
         Ok(Transcript {
             name: String::from_str(alloc, name)?,
             line,
+            is_again: false,
             words: vec![in alloc; String::from_str(alloc, "session")?]?,
             input: Vec::new(alloc),
             moments: Vec::new(alloc),
@@ -77,8 +84,26 @@ impl Transcript {
             fails: Vec::new(alloc),
             files: Vec::new(alloc),
             file_fails: Vec::new(alloc),
+            attach_fails: Vec::new(alloc),
+            keeper_fails: Vec::new(alloc),
             status: 0,
         })
+    }
+
+    /// The next run over the same store, which has the words and the files of this one.
+    pub(crate) fn next_run(&self, alloc: Global, line: usize) -> Result<Transcript, AllocError> {
+        let mut next = Transcript::new(alloc, self.name.as_str(), line)?;
+        next.is_again = true;
+        next.words.clear();
+        for word in self.words.iter() {
+            next.words.push(String::from_str(alloc, word.as_str())?)?;
+        }
+        for file in self.files.iter() {
+            let path = String::from_str(alloc, file.path.as_str())?;
+            let bytes = Vec::from_slice(alloc, file.bytes.as_slice())?;
+            next.files.push(File { path, bytes })?;
+        }
+        Ok(next)
     }
 
     /// Adds a reply that stands at a line.

@@ -1,6 +1,7 @@
 use std::alloc::{AllocError, Global};
 use sw_base::{Clock, ListClock, MemoryFiles, MemoryLink, StepClock};
 use swarm_cli::run;
+use swarm_keeper::MemoryStore;
 use transcript::{Transcript, TranscriptError, compare, compare_moments};
 
 /// The files of a transcript, for one run.
@@ -14,13 +15,24 @@ fn files_of(alloc: Global, transcript: &Transcript) -> Result<MemoryFiles, Alloc
     Ok(MemoryFiles::new(files, fails))
 }
 
-/// Runs a transcript over a clock, its bytes in pieces of this size, and compares what was written
-/// and the status.
+/// The store of a transcript, which keeps nothing yet.
+fn store_of(alloc: Global, transcript: &Transcript) -> Result<MemoryStore, AllocError> {
+    let attach_fails = Vec::from_slice(alloc, transcript.attach_fails.as_slice())?;
+    let mut keeper_fails = Vec::new(alloc);
+    for fails in transcript.keeper_fails.iter() {
+        keeper_fails.push(Vec::from_slice(alloc, fails.as_slice())?)?;
+    }
+    Ok(MemoryStore::new(alloc, attach_fails, keeper_fails))
+}
+
+/// Runs a transcript over a clock and a store, its bytes in pieces of this size, and compares what
+/// was written and the status.
 fn check_over<C: Clock>(
     alloc: Global,
     transcript: &Transcript,
     piece: usize,
     clock: &mut C,
+    store: &mut MemoryStore,
 ) -> Result<(), TranscriptError> {
     let input = Vec::from_slice(alloc, transcript.input.as_slice())?;
     let fails = Vec::from_slice(alloc, transcript.fails.as_slice())?;
@@ -32,49 +44,72 @@ fn check_over<C: Clock>(
         &mut link,
         clock,
         &mut files,
+        store,
     );
     compare(alloc, transcript, link.output(), status)
 }
 
-/// Runs a transcript over its moments, each of which has to be asked for.
+/// Runs transcripts one after the other over one store and their moments, each of which has to be
+/// asked for.
 fn check_moments(
     alloc: Global,
-    transcript: &Transcript,
+    runs: &[Transcript],
     piece: usize,
+    store: &mut MemoryStore,
 ) -> Result<(), TranscriptError> {
-    let mut clock = ListClock {
-        moments: transcript.moments.as_slice(),
-        asked: 0,
-    };
-    check_over(alloc, transcript, piece, &mut clock)?;
-    compare_moments(transcript, clock.asked)
+    for transcript in runs {
+        let mut clock = ListClock {
+            moments: transcript.moments.as_slice(),
+            asked: 0,
+        };
+        check_over(alloc, transcript, piece, &mut clock, store)?;
+        compare_moments(transcript, clock.asked)?;
+    }
+    Ok(())
 }
 
-/// Runs a transcript over a clock that begins at its first moment and goes on by a step.
+/// Runs transcripts one after the other over one store, and over clocks that begin at their first
+/// moments and go on by a step.
 fn check_step(
     alloc: Global,
-    transcript: &Transcript,
+    runs: &[Transcript],
     piece: usize,
     step: u64,
+    store: &mut MemoryStore,
 ) -> Result<(), TranscriptError> {
-    let at = transcript.moments.first().copied().unwrap_or(0);
-    let mut clock = StepClock { at, step };
-    check_over(alloc, transcript, piece, &mut clock)
+    for transcript in runs {
+        let at = transcript.moments.first().copied().unwrap_or(0);
+        let mut clock = StepClock { at, step };
+        check_over(alloc, transcript, piece, &mut clock, store)?;
+    }
+    Ok(())
 }
 
-/// Runs a transcript, each time on a new pool: for each size of its pieces over its moments, and
-/// over the clock of its step where it has one.
+/// Runs transcripts one after the other over stores of the first one, for each size of its pieces.
+fn check_sizes(
+    alloc: Global,
+    first: &Transcript,
+    runs: &[Transcript],
+) -> Result<(), TranscriptError> {
+    for piece in first.pieces.first..=first.pieces.last {
+        check_moments(alloc, runs, piece, &mut store_of(alloc, first)?)?;
+        if let Some(step) = first.step {
+            check_step(alloc, runs, piece, step, &mut store_of(alloc, first)?)?;
+        }
+    }
+    Ok(())
+}
+
+/// Runs a transcript and those that go on with its store, each time from a new store on: for each
+/// size of its pieces over their moments, and over the clock of its step where it has one.
 ///
 /// # Errors
 ///
 /// The first run that writes other bytes, ends with another status or asks for more moments or for
 /// fewer, and want of memory.
-pub fn check(alloc: Global, transcript: &Transcript) -> Result<(), TranscriptError> {
-    for piece in transcript.pieces.first..=transcript.pieces.last {
-        check_moments(alloc, transcript, piece)?;
-        if let Some(step) = transcript.step {
-            check_step(alloc, transcript, piece, step)?;
-        }
+pub fn check(alloc: Global, runs: &[Transcript]) -> Result<(), TranscriptError> {
+    match runs.first() {
+        Some(first) => check_sizes(alloc, first, runs),
+        None => Ok(()),
     }
-    Ok(())
 }

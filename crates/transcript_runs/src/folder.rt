@@ -28,6 +28,18 @@ fn failure_of(
     format!(in alloc; "{file}:{line}: {name}: {error}")
 }
 
+/// The first of these transcripts, and those behind it that go on with its store.
+fn runs_at_front(transcripts: &[Transcript]) -> &[Transcript] {
+    let mut count = 0usize;
+    for transcript in transcripts {
+        if count > 0 && !transcript.is_again {
+            break;
+        }
+        count = count.saturating_add(1);
+    }
+    &transcripts[..count.min(transcripts.len())]
+}
+
 /// Runs the transcripts of a text, and answers whether all of them passed.
 fn run_text<R: Print + Eprint + AllocGlobal>(rt: &R, file: &str, text: &str) -> io::Result<bool> {
     let alloc = rt.alloc();
@@ -39,14 +51,19 @@ fn run_text<R: Print + Eprint + AllocGlobal>(rt: &R, file: &str, text: &str) -> 
         }
     };
     let mut has_passed = true;
+    let mut count = 0usize;
     let mut replies = 0usize;
-    for transcript in transcripts.iter() {
+    for (at, transcript) in transcripts.iter().enumerate() {
         replies = replies.saturating_add(transcript.replies.len());
-        if let Err(error) = check(alloc, transcript) {
+        if transcript.is_again {
+            continue;
+        }
+        count = count.saturating_add(1);
+        let runs = runs_at_front(&transcripts[at..]);
+        if let Err(error) = check(alloc, runs) {
             has_passed = tell(rt, failure_of(alloc, file, transcript, &error)?.as_str())?;
         }
     }
-    let count = transcripts.len();
     println!(rt; "{file}: {count} transcripts, {replies} replies")?;
     Ok(has_passed)
 }

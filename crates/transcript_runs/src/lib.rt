@@ -1,8 +1,9 @@
-//! Runs of transcripts: [`check`] runs the program over the connection of one transcript and holds
+//! Runs of transcripts: [`check`] runs the program over the connections of one transcript and holds
 //! what it answered against it, and [`run_folder`] does so for every transcript of a folder.
 //!
-//! A run is `run` of `swarm_cli`, on new pools, over a link and files in memory and a clock that
-//! answers the transcript's moments.
+//! A run is `run` of `swarm_cli`, over a link, files and a store in memory and a clock that answers
+//! the transcript's moments. The store is that of the transcript: a run behind `again` finds what
+//! the run before it left there.
 #![tactic(auto)]
 
 mod checking;

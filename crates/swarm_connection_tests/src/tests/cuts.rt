@@ -4,6 +4,7 @@ use crate::tests::NEW_TASK;
 use std::test::Fail;
 use sw_base::{MemoryFiles, MemoryLink, StepClock};
 use swarm_cli::run;
+use swarm_keeper::MemoryStore;
 
 #[test]
 fn an_input_that_is_cut_anywhere(rt: HostRuntime) -> Result<(), Fail> {
@@ -14,7 +15,8 @@ fn an_input_that_is_cut_anywhere(rt: HostRuntime) -> Result<(), Fail> {
         let mut link = MemoryLink::new(alloc, input, 100, Vec::new(alloc));
         let mut clock = StepClock { at: 1000, step: 0 };
         let mut files = MemoryFiles::new(Vec::new(alloc), Vec::new(alloc));
-        let status = run(alloc, &words, &mut link, &mut clock, &mut files);
+        let mut store = MemoryStore::new(alloc, Vec::new(alloc), Vec::new(alloc));
+        let status = run(alloc, &words, &mut link, &mut clock, &mut files, &mut store);
         assert_eq!(rt; status, 7);
         assert_eq!(rt; link.output().len(), 0);
     }

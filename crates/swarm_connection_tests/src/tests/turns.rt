@@ -7,6 +7,7 @@ use std::alloc::{AllocError, Global};
 use std::test::Fail;
 use sw_base::{Failed, Link, MemoryFiles, StepClock};
 use swarm_cli::run;
+use swarm_keeper::MemoryStore;
 
 /// It gives its request so many times, each after the reply to the one before was flushed. A read
 /// that comes sooner fails.
@@ -93,8 +94,9 @@ fn a_client_that_waits_for_each_reply(rt: HostRuntime) -> Result<(), Fail> {
     let mut link = TurnLink::new(alloc, NEW_TASK, 3)?;
     let mut clock = StepClock { at: 1000, step: 0 };
     let mut files = MemoryFiles::new(Vec::new(alloc), Vec::new(alloc));
+    let mut store = MemoryStore::new(alloc, Vec::new(alloc), Vec::new(alloc));
     let words = vec![in alloc; String::from_str(alloc, "session")?]?;
-    let status = run(alloc, &words, &mut link, &mut clock, &mut files);
+    let status = run(alloc, &words, &mut link, &mut clock, &mut files, &mut store);
     assert_eq!(rt; status, 0);
     assert_eq!(rt; link.answered(), 3);
     Ok(())

@@ -1,10 +1,9 @@
-//! Tests of `permissions` and `swarm_policy`.
+//! Tests of the grants of `swarm_model` and of `swarm_policy`.
 
 use dimensions::{Seq, Text};
-use permissions::allowed;
 use std::alloc::{AllocError, Global};
 use std::test::Fail;
-use swarm_model::{Grant, Permission, PoolSettings};
+use swarm_model::{Grant, Permission, PoolSettings, allowed};
 use swarm_policy::open_settings;
 
 #[test]

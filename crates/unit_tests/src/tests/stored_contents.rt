@@ -1,8 +1,7 @@
-//! Tests of `region`, `content_store` and `blob_rows`. The expected places are worked out by hand;
+//! Tests of `region` and `content_store`. The expected places are worked out by hand;
 //! the digests are those of the two examples of SHA-256 in FIPS 180-4.
 
-use blob_rows::{BlobRow, Blobs};
-use content_store::{ContentStore, Digest, Filled, Held};
+use content_store::{BlobRow, Blobs, ContentStore, Digest, Filled, Held};
 use region::{Extent, Region};
 use sha2::{Digest as Hash, Sha256};
 use std::test::Fail;

@@ -1,6 +1,7 @@
 -- The row of the number stands at its place, or there is none.
 use Rattle.std.proofs.Common.{sym, arith}
-use Rattle.row_changes.proofs.Numbered.{changed, changed_none, number_at}
+use Rattle.swarm_model.proofs.Numbers.{number_at}
+use Rattle.row_changes.proofs.Numbered.{changed, changed_none}
 use Rattle.row_changes.proofs.changing.change_in.Goals as goal
 
 pub apply-requires : goal.apply-requires

@@ -4,5 +4,5 @@ use Rattle.swarm_cli.proofs.settings_file.run_text.Goals as goal
 
 pub returns-in-Err : goal.returns-in-Err
 returns-in-Err g c =
-    text_refused c.in-Err.fault c.args.text.now (g.L.Link.state c.args.console.now) (g.L.Link.state c.print_fault.new.console)
-    (g.C.Clock.ahead c.args.clock.now) (g.C.Clock.ahead c.args.clock.now) c.print_fault.result c.in-Err.ensures.reads (c.print_fault.ensures (g.C.Clock.ahead c.args.clock.now))
+    text_refused c.in-Err.fault c.args.text.now (g.P.Store.state c.args.store.now) (g.P.Store.state c.args.store.now) (g.L.Link.state c.args.console.now) (g.L.Link.state c.print_fault.new.console)
+    (g.C.Clock.ahead c.args.clock.now) (g.C.Clock.ahead c.args.clock.now) c.print_fault.result c.in-Err.ensures.reads (c.print_fault.ensures (g.C.Clock.ahead c.args.clock.now) (g.P.Store.state c.args.store.now))

@@ -8,9 +8,9 @@ use Rattle.swarm_model.specs.Deadlines.{due_entry}
 use Rattle.swarm_model.specs.Effects.{opening}
 use Rattle.swarm_model.specs.History.{moment_of}
 use Rattle.swarm_model.specs.Points.{is_ahead, Call}
-use Rattle.swarm_history.specs.declared.door.Answered.{Answered}
+use Rattle.swarm_door.specs.declared.door.Answered.{Answered}
 use Rattle.swarm_history.specs.Settling.{IsOwnPoint}
-use Rattle.swarm_history.specs.Doors.{is_log_full}
+use Rattle.swarm_door.specs.Doors.{is_log_full}
 use Rattle.swarm_history.proofs.OwnPoints.{sound_history, early_point, due_next, own_next, settled_point, settled_stop}
 use Rattle.swarm_history.proofs.serving.serve.Goals as goal
 

@@ -3,6 +3,7 @@ use Rattle.std.specs.Prelude.{Ok, Err}
 use Rattle.swarm_http.specs.Replies.{refusal}
 use Rattle.swarm_http.specs.Outcomes.{DoorCall, answered, aborted, no_reply_memory}
 use Rattle.swarm_http.proofs.Asking.{is_called}
+use Rattle.swarm_http.proofs.Keepers.{stop_counted}
 use Rattle.swarm_http.proofs.answer.call_door.Goals as goal
 
 pub returns-in-Ok-whole_reply-clause-answers : goal.returns-in-Ok-whole_reply-clause-answers
@@ -15,6 +16,7 @@ returns-in-Ok-whole_reply-clause-answers g c = λ head body same means.
       acts = is_called s.settings s.writer head body the_call c.args.after c.front_of.result (Ok c.in-Ok.answered) s.seen (g.D.Door.state c.call.new.self).seen
           same c.front_of.ensures means d.done d.elsewhere;
       moments = c.now-moment.ensures;
+      keeper = d.faults;
       shown = c.in-Ok-whole_reply.ensures;
     }
 
@@ -28,6 +30,7 @@ returns-in-Ok-clause-answers g c = λ head body same means.
       acts = is_called s.settings s.writer head body the_call c.args.after c.front_of.result (Ok c.in-Ok.answered) s.seen (g.D.Door.state c.call.new.self).seen
           same c.front_of.ensures means d.done d.elsewhere;
       moments = c.now-moment.ensures;
+      keeper = d.faults;
       shown = refl;
     }
 
@@ -41,5 +44,6 @@ returns-clause-answers g c = λ head body same means.
       acts = is_called s.settings s.writer head body the_call c.args.after c.front_of.result (Err c.in-Err.why) s.seen (g.D.Door.state c.call.new.self).seen
           same c.front_of.ensures means d.done d.elsewhere;
       moments = c.now-moment.ensures;
+      keeper = stop_counted the_call c.in-Err.why s.faults (g.D.Door.state c.call.new.self).faults d.keeper d.faults;
       shown = ap (refusal None) c.stop_refusal.ensures;
     }

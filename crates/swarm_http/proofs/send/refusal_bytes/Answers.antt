@@ -1,7 +1,7 @@
 use Rattle.std.proofs.Common.{sym, ap, ◌∙◌, None}
 use Rattle.swarm_http.specs.Replies.{refusal}
 use Rattle.swarm_http.specs.Sends.{rule_of}
-use Rattle.swarm_http.proofs.Texts.{bad_head, length_required, body_too_large, blob_too_large, no_route, bad_method, bad_json, front_broken, no_caller, no_pool, no_task, log_full, want_of_memory}
+use Rattle.swarm_http.proofs.Texts.{bad_head, length_required, body_too_large, blob_too_large, no_route, bad_method, bad_json, front_broken, no_caller, no_pool, no_task, log_full, keeper_fault, want_of_memory}
 use Rattle.swarm_http.proofs.send.refusal_bytes.Goals as goal
 
 pub returns-in-BadHead : goal.returns-in-BadHead
@@ -36,6 +36,9 @@ returns-in-NoTask c = sym (ap (λ why. refusal None (rule_of why)) c.in-NoTask.i
 
 pub returns-in-LogFull : goal.returns-in-LogFull
 returns-in-LogFull c = sym (ap (λ why. refusal None (rule_of why)) c.in-LogFull.is ∙ log_full)
+
+pub returns-in-KeeperFault : goal.returns-in-KeeperFault
+returns-in-KeeperFault c = sym (ap (λ why. refusal None (rule_of why)) c.in-KeeperFault.is ∙ keeper_fault)
 
 pub returns-in-WantOfMemory : goal.returns-in-WantOfMemory
 returns-in-WantOfMemory c = sym (ap (λ why. refusal None (rule_of why)) c.in-WantOfMemory.is ∙ want_of_memory)

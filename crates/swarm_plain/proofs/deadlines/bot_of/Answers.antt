@@ -1,7 +1,7 @@
 -- The bot that is found is one of them.
 use Rattle.swarm_model.specs.Finding.{is_bot}
 use Rattle.row_changes.specs.Rows.{IsHeard}
-use Rattle.row_changes.proofs.Found.{IfSome-find}
+use Rattle.dimensions.proofs.Found.{IfSome-find}
 use Rattle.swarm_plain.specs.Inside.{state_of}
 use Rattle.swarm_plain.proofs.Holding.{all_heard}
 use Rattle.swarm_plain.proofs.deadlines.bot_of.Goals as goal

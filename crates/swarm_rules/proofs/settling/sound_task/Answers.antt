@@ -1,7 +1,7 @@
 -- The task that is found is one of those that are sound.
 use Rattle.swarm_model.specs.Finding.{is_task}
 use Rattle.swarm_model.specs.Soundness.{IsSoundTask}
-use Rattle.row_changes.proofs.Found.{IfSome-find}
+use Rattle.dimensions.proofs.Found.{IfSome-find}
 use Rattle.swarm_rules.proofs.settling.sound_task.Goals as goal
 
 pub returns-clause-sound : goal.returns-clause-sound

@@ -1,15 +1,38 @@
--- The pools are those of the settings, in their order.
-use Rattle.std.proofs.Common.{map, ap, sym, subst, ◌∙◌}
-use Rattle.std.specs.List.{All}
-use Rattle.swarm_model.specs.MachineState.{AreHeld}
-use Rattle.swarm_history.specs.Machines.{new_machine}
-use Rattle.swarm_history.proofs.Machines.{new_door, new_held}
+-- The machines are those of the records, and so are the settings and the logs.
+use Rattle.std.proofs.Common.{map, arith, sym, subst, ◌∙◌}
+use Rattle.std.specs.List.{sum_by}
+use Rattle.std.proofs.lemmas.List.{length-map}
+use Rattle.swarm_history.specs.Records.{AreRecordsOf}
+use Rattle.swarm_history.proofs.Keepers.{lines_kept}
+use Rattle.swarm_history.proofs.LoadedMachines.{loaded_held, loaded_records, fresh_door, nothing_seen}
 use Rattle.swarm_history.proofs.plain_door.PlainDoor.new.Goals as goal
 
-pub returns : goal.returns
-returns g c =
-    new_door c.args.settings.now c.in_ok-store.store (map g.M.Machine.kept c.in_ok-machines.machines.items) c.in_ok-store.ensures
-    (c.in_ok-machines.ensures ∙ ap (map new_machine) c.as_slice.ensures)
-
 pub invariant_of-result : goal.invariant_of-result
-invariant_of-result g c = record { held = subst (All AreHeld) (sym c.in_ok-machines.ensures) (new_held _) }
+invariant_of-result g c =
+    let machines = map g.M.Machine.kept c.in-Ok-load_machines.machines.items in
+    let tables = map g.K.Keeper.tables c.args.keepers.items in
+    let are = c.in-Ok-load_machines.ensures.loaded in
+    record {
+      paired = c.load_machines.ensures.all_stay ∙ c.requires.keepers ∙ sym c.in-Ok-load_machines.ensures.count;
+      held = loaded_held c.args.settings.now.pools tables machines are;
+      records = subst (λ told. AreRecordsOf told machines) (sym c.load_machines.ensures.stays) (loaded_records c.args.settings.now.pools tables machines are);
+    }
+
+pub returns-in-Ok-load_machines-clause-fresh : goal.returns-in-Ok-load_machines-clause-fresh
+returns-in-Ok-load_machines-clause-fresh g c =
+    let machines = map g.M.Machine.kept c.in-Ok-load_machines.machines.items in
+    fresh_door c.args.settings.now c.in-Ok.store (map g.K.Keeper.tables c.args.keepers.items) machines (sum_by g.K.Keeper.faults c.load_machines.new.keepers.items) c.in-Ok.ensures
+    (length-map c.in-Ok-load_machines.machines.items g.M.Machine.kept ∙ c.in-Ok-load_machines.ensures.count) c.in-Ok-load_machines.ensures.loaded
+
+pub returns-in-Ok-load_machines-clause-lines : goal.returns-in-Ok-load_machines-clause-lines
+returns-in-Ok-load_machines-clause-lines g c =
+    let machines = map g.M.Machine.kept c.in-Ok-load_machines.machines.items in
+    let tables = map g.K.Keeper.tables c.args.keepers.items in
+    let all = c.in-Ok-load_machines.ensures.count in
+    let keepers = c.requires.keepers in
+    lines_kept tables machines
+    (omega (arith, all, keepers, length-map c.in-Ok-load_machines.machines.items g.M.Machine.kept, length-map c.args.keepers.items g.K.Keeper.tables))
+    (loaded_records c.args.settings.now.pools tables machines c.in-Ok-load_machines.ensures.loaded)
+
+pub returns-in-Ok-load_machines-clause-nothing : goal.returns-in-Ok-load_machines-clause-nothing
+returns-in-Ok-load_machines-clause-nothing g c = λ sure. nothing_seen (map g.M.Machine.kept c.in-Ok-load_machines.machines.items) (c.in-Ok-load_machines.ensures.nothing sure)

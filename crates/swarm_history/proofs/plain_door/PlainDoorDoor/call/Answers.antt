@@ -1,14 +1,23 @@
--- The machine at the place answers.
-use Rattle.std.proofs.Common.{arith}
+-- The machine at the place answers, over its keeper.
+use Rattle.std.proofs.Common.{arith, sym, ◌∙◌, set}
 use Rattle.std.specs.Prelude.{IsTrue}
+use Rattle.std.specs.List.{sum_by}
+use Rattle.std.proofs.lemmas.List.{length-set}
 use Rattle.swarm_model.specs.declared.pool_settings.PoolSettings.{PoolSettings}
 use Rattle.swarm_model.specs.Fits.{fits}
+use Rattle.swarm_history.proofs.Keepers.{records_at, records_set, sum_grows, sum_counts}
 use Rattle.swarm_history.proofs.Machines.{within, machine_of, held_at, all_held, own_call}
 use Rattle.swarm_history.proofs.plain_door.PlainDoorDoor.call.Goals as goal
 
 pub index_mut-machine-requires : goal.index_mut-machine-requires
 index_mut-machine-requires g c =
     let low = within g.M.Machine.kept c.args.self.now.machines.items c.args.place c.requires.place in omega (arith, low)
+
+pub index_mut-keeper-requires : goal.index_mut-keeper-requires
+index_mut-keeper-requires g c =
+    let low = within g.M.Machine.kept c.args.self.now.machines.items c.args.place c.requires.place in
+    let paired = c.args.self.now.paired in
+    omega (arith, low, paired)
 
 pub call_machine-requires-clause-fits : goal.call_machine-requires-clause-fits
 call_machine-requires-clause-fits g c =
@@ -19,14 +28,33 @@ pub call_machine-requires-clause-held : goal.call_machine-requires-clause-held
 call_machine-requires-clause-held g c =
     held_at g.M.Machine.kept c.args.self.now.machines.items c.args.place c.index_mut-machine.result.now c.requires.place c.index_mut-machine.ensures.value c.args.self.now.held
 
+pub call_machine-requires-clause-records : goal.call_machine-requires-clause-records
+call_machine-requires-clause-records g c =
+    let low = within g.M.Machine.kept c.args.self.now.machines.items c.args.place c.requires.place in
+    let paired = c.args.self.now.paired in
+    records_at g.M.Machine.kept g.K.Keeper.tables c.args.self.now.machines.items c.args.self.now.keepers.items c.args.place
+    c.index_mut-machine.result.now c.index_mut-keeper.result.now low (omega (arith, low, paired))
+    c.index_mut-machine.ensures.value c.index_mut-keeper.ensures.value c.args.self.now.records
+
 pub invariant_of-self : goal.invariant_of-self
 invariant_of-self g c = record {
+  paired = length-set c.args.self.now.keepers.items c.args.place c.call_machine.new.keeper ∙ c.args.self.now.paired ∙ sym (length-set c.args.self.now.machines.items c.args.place c.call_machine.new.machine);
   held = all_held g.M.Machine.kept c.args.self.now.machines.items c.args.place c.call_machine.new.machine c.args.self.now.held c.call_machine.ensures.held;
+  records = records_set g.M.Machine.kept g.K.Keeper.tables c.args.self.now.machines.items c.args.self.now.keepers.items c.args.place
+      c.call_machine.new.machine c.call_machine.new.keeper c.call_machine.ensures.records c.args.self.now.records;
 }
 
 pub returns : goal.returns
 returns g c =
-    own_call g.M.Machine.kept c.args.self.now.store c.args.self.now.machines.items c.args.self.now.calls c.args.place
+    let low = within g.M.Machine.kept c.args.self.now.machines.items c.args.place c.requires.place in
+    let paired = c.args.self.now.paired in
+    let faults = g.K.Keeper.faults in
+    let keepers = c.args.self.now.keepers.items in
+    own_call g.M.Machine.kept c.args.self.now.store c.args.self.now.machines.items
+    (sum_by faults keepers) (sum_by faults (set keepers c.args.place c.call_machine.new.keeper)) c.args.self.now.calls c.args.place
     (record { pass = 0; caller = c.args.who.now; moment = c.args.moment; after = c.args.after; request = c.args.request.now })
     c.call_machine.result c.index_mut-machine.result.now c.call_machine.new.machine
-    c.requires.place c.index_mut-machine.ensures.value c.call_machine.ensures.settings c.call_machine.ensures.done
+    c.requires.place c.index_mut-machine.ensures.value c.call_machine.ensures.settings
+    (sum_grows faults keepers c.args.place c.index_mut-keeper.result.now c.call_machine.new.keeper (omega (arith, low, paired)) c.index_mut-keeper.ensures.value c.call_machine.ensures.grows)
+    (sum_counts faults keepers c.args.place c.index_mut-keeper.result.now c.call_machine.new.keeper (omega (arith, low, paired)) c.index_mut-keeper.ensures.value c.call_machine.result c.call_machine.ensures.failed)
+    c.call_machine.ensures.done

@@ -1,8 +1,8 @@
 -- The tasks, the bots and the blobs are changed.
 use Rattle.std.proofs.Common.{◌≡◌, ℕ, Bor, ap, sym, ◌∙◌, List}
 use Rattle.std.specs.Option.{option_map}
-use Rattle.blob_rows.specs.Rows.{BlobRowsState}
-use Rattle.blob_rows.specs.Plain.{BlobsState, rows_in}
+use Rattle.content_store.specs.BlobRows.{BlobRowsState}
+use Rattle.content_store.specs.StoredRows.{BlobsState, rows_in}
 use Rattle.swarm_model.specs.declared.bot_row.BotRow.{BotRow}
 use Rattle.swarm_model.specs.declared.pool_settings.PoolSettings.{PoolSettings}
 use Rattle.swarm_model.specs.declared.pool_state.PoolState.{PoolState}

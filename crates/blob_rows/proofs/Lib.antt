@@ -1,3 +1,0 @@
-pub mod Counts
-pub mod Tied
-pub mod Puts

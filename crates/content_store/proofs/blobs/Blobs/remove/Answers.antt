@@ -1,0 +1,15 @@
+-- The rows and the store stay tied.
+use Rattle.std.proofs.Common.{◌≡◌, ap, arith}
+use Rattle.content_store.specs.Plain.{ContentStoreState}
+use Rattle.content_store.proofs.blobs.Blobs.remove.Goals as goal
+
+pub invariant_of-self : goal.invariant_of-self
+invariant_of-self c =
+    let names : c.remove.new.store.names ≡ c.self.inside.store.names = ap (λ (s : ContentStoreState). s.names) c.remove.ensures.store in
+    record {
+      stored = c.remove.ensures.stored c.self.inside.placed c.self.invariant.stored;
+      room = omega (arith, names, c.remove.ensures.room, c.self.invariant.room);
+    }
+
+pub returns-clause-stored : goal.returns-clause-stored
+returns-clause-stored c = c.remove.ensures.stored c.self.inside.placed c.self.invariant.stored

@@ -1,0 +1,155 @@
+ghost use Rattle.std.specs.Prelude.{◌≡◌, ◌+◌, ◌<◌, ◌≤◌, ◌^◌, [], map, length, None, IfOk, IfSome, IsTrue};
+ghost use Rattle.std.specs.List.{filter, All};
+ghost use Rattle.std.specs.Option.{option_map, option_copied};
+ghost use Rattle.sha2.specs.Sha256.{sha256};
+ghost use Rattle.content_store.specs.Contents.{bytes_of, is_held_with_size};
+ghost use Rattle.content_store.specs.Plain.{hold_result, held_after_hold, fill_result, held_after_fill};
+ghost use Rattle.content_store.specs.BlobRows.{blob_of, blob_numbered, is_other, longer_kept, put, put_result};
+ghost use Rattle.content_store.specs.StoredRows.{AreStored, held_without, rows_in};
+
+use crate::{BlobRow, ContentStore, Digest, Filled, Held, row_changing, row_scans};
+use std::alloc::{AllocError, Global};
+use std::marker::Model;
+
+/// The rows of the blobs, and the store of their contents.
+#[derive(Drop)]
+pub struct Blobs {
+    placed: u32,
+    /// In the order in which they were placed.
+    rows: Vec<BlobRow>,
+    store: ContentStore,
+}
+
+impl Model for Blobs {
+    ghost use Rattle.content_store.specs.StoredRows.{BlobsState};
+
+    ghost Value = { BlobsState };
+
+    ghost use Rattle.content_store.specs.BlobsInside.{kept_of, IsKept};
+
+    ghost view = { kept_of };
+
+    ghost invariant = { IsKept };
+}
+
+impl Blobs {
+    /// No blobs yet, and room for at most so many names and units of 64 bytes.
+    ///
+    /// # Errors
+    ///
+    /// There is no memory for so many rows, names and units.
+    pub fn new(alloc: Global, units: u32, names: u32) -> Result<Blobs, AllocError>
+        ensures { IfOk result (λ b. b ≡ record { rows = []; placed = 0; store = record { units = units; names = names; held = [] } }) }
+    {
+        Ok(Blobs {
+            placed: 0,
+            rows: Vec::with_capacity(alloc, names as usize)?,
+            store: ContentStore::new(alloc, units, names)?,
+        })
+    }
+
+    /// The rows, in the order in which they were placed.
+    pub fn rows(&self) -> &[BlobRow]
+        ensures rows { result.now ≡ self.now.rows }
+        ensures stored { AreStored self.now.rows self.now.placed self.now.store.held }
+    {
+        self.rows.as_slice()
+    }
+
+    /// The row of a digest.
+    pub fn blob_of(&self, digest: &Digest) -> Option<&BlobRow>
+        ensures { option_copied result ≡ blob_of self.now.rows digest.now }
+    {
+        row_scans::blob_of(self.rows.as_slice(), digest)
+    }
+
+    /// The row of a number.
+    pub fn blob_numbered(&self, number: u32) -> Option<&BlobRow>
+        ensures { option_copied result ≡ blob_numbered self.now.rows number }
+    {
+        row_scans::blob_numbered(self.rows.as_slice(), number)
+    }
+
+    /// What `put` would do: renew a row (`Present`), or add one (`Placed`); otherwise as many are
+    /// there as may be, or the region has no place.
+    pub fn probe(&self, digest: &Digest, size: u32) -> Held
+        ensures { result ≡ put_result self.now.store.names (rows_in self.now) digest.now size }
+    {
+        self.store.probe(digest, size)
+    }
+
+    /// Puts a blob of so many bytes: one that is present is kept until the deadline, and any other
+    /// gets a row and a place, where there is one. Its bytes are to be brought by `fill`.
+    pub fn put(&mut self, deadline: u64, digest: &Digest, size: u32)
+        requires few { blob_of self.old.rows digest.now ≡ None → length self.old.rows < self.old.store.names }
+        requires number { self.old.placed + 1 < 2 ^ 32 }
+        ensures rows { rows_in self.new ≡ put (rows_in self.old) deadline digest.now size }
+        ensures store { self.new.store ≡ record self.old.store {
+          held = held_after_hold (hold_result self.old.store digest.now size) digest.now size self.old.store.held;
+        } }
+        ensures stored { AreStored self.new.rows self.new.placed self.new.store.held }
+
+        // What the next call asks, where it is told from this one.
+        ensures count { length self.new.rows ≤ length self.old.rows + 1 }
+        ensures placed { self.new.placed ≤ self.old.placed + 1 }
+        ensures names { self.new.store.names ≡ self.old.store.names }
+    {
+        self.placed = row_changing::put(
+            &mut self.rows,
+            &mut self.store,
+            self.placed,
+            deadline,
+            digest,
+            size,
+        );
+    }
+
+    /// Keeps the row of a number for so many seconds more.
+    pub fn keep_longer(&mut self, secs: u64, number: u32)
+        requires { All (λ row. row.deadline + secs < 2 ^ 64) self.old.rows }
+        ensures { self.new ≡ record self.old { rows = map (longer_kept secs number) self.old.rows } }
+    {
+        row_changing::keep_longer(&mut self.rows, secs, number);
+    }
+
+    /// Takes out the row of a number, and its content with it.
+    pub fn remove(&mut self, number: u32)
+        ensures rows { self.new.rows ≡ filter (is_other number) self.old.rows }
+        ensures placed { self.new.placed ≡ self.old.placed }
+        ensures store { self.new.store ≡ record self.old.store { held = held_without (blob_numbered self.old.rows number) self.old.store.held } }
+        ensures stored { AreStored self.new.rows self.new.placed self.new.store.held }
+        ensures count { length self.new.rows ≤ length self.old.rows }
+    {
+        row_changing::remove(&mut self.rows, &mut self.store, number);
+    }
+
+    /// Brings the bytes of a row.
+    pub fn fill(&mut self, digest: &Digest, bytes: &[u8]) -> Filled
+        ensures told { result ≡ fill_result self.old.store.held digest.now bytes.now }
+        ensures holds { self.new ≡ record self.old {
+          store = record self.old.store { held = held_after_fill result digest.now bytes.now self.old.store.held };
+        } }
+    {
+        self.store.fill(digest, bytes)
+    }
+
+    /// The same, where it is known that the digest is that of the bytes: they are not hashed.
+    pub fn fill_known(&mut self, digest: &Digest, bytes: &[u8]) -> Filled
+        requires named { sha256 bytes.now ≡ digest.now }
+        ensures told { result ≡ fill_result self.old.store.held digest.now bytes.now }
+        ensures holds { self.new ≡ record self.old {
+          store = record self.old.store { held = held_after_fill result digest.now bytes.now self.old.store.held };
+        } }
+    {
+        self.store.fill_known(digest, bytes)
+    }
+
+    /// The bytes of a row, once they came.
+    pub fn bytes(&self, digest: &Digest) -> Option<&[u8]>
+        ensures lends { option_map (λ b. b.now) result ≡ bytes_of self.now.store.held digest.now }
+        ensures named { IfSome result (λ b. sha256 b.now ≡ digest.now) }
+        ensures sized { IfSome result (λ b. IsTrue (is_held_with_size self.now.store.held digest.now (length b.now))) }
+    {
+        self.store.get(digest)
+    }
+}

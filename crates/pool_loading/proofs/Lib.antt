@@ -1,0 +1,4 @@
+pub mod Deciding
+pub mod Refusing
+pub mod Replays
+pub mod Loads

@@ -1,0 +1,4 @@
+pub mod Records
+pub mod Asking
+pub mod Lines
+pub mod Filling

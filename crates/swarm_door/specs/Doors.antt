@@ -1,0 +1,99 @@
+-- What a door tells, and what a call does to it.
+use Rattle.std.specs.Prelude.{◌≡◌, ◌≢◌, ⊤, ℕ, Bool, true, false, ◌+◌, ◌≤◌, List, [], ◌∷◌, length, slice_get, None, Result, Ok, Err, IsSomeAnd, IsTrue}
+use Rattle.std.specs.List.{AllZip}
+use Rattle.sha2.specs.Sha256.{sha256}
+use Rattle.sw_base.specs.Faults.{Rose}
+use Rattle.swarm_model.specs.declared.pool_settings.Settings.{Settings}
+use Rattle.swarm_model.specs.declared.pool_settings.PoolSettings.{PoolSettings}
+use Rattle.swarm_model.specs.declared.entry.Entry.{Entry}
+use Rattle.swarm_model.specs.declared.reply.Part.{Part}
+use Rattle.swarm_model.specs.declared.reply.Reply.{Reply}
+use Rattle.swarm_model.specs.declared.reply.Reply.TheVariants as reply
+use Rattle.swarm_model.specs.declared.rule.Rule.{Rule}
+use Rattle.swarm_model.specs.Effects.{opening}
+use Rattle.swarm_model.specs.Points.{Call, Growth, IsPoint, IsStopped}
+use Rattle.swarm_door.specs.declared.door.CallFault.{CallFault}
+use Rattle.swarm_door.specs.declared.door.CallFault.TheVariants as fault
+use Rattle.swarm_door.specs.declared.door.Answered.{Answered}
+
+-- the log of each pool, by its place
+abbrev pub Logs : Type 0
+Logs = ℕ → List Entry
+
+-- how a door writes: the number that its entries bear at each place, and whether it writes to the logs alone
+pub record Writer : Type 0 where
+  pub numbers : ℕ → ℕ
+  pub alone : Bool
+
+-- The settings with which the door was made, the entries that it has seen of each pool, how it
+-- writes, how often its keepers failed, and how many calls were made on it.
+pub record DoorState : Type 0 where
+  pub settings : Settings
+  pub seen : Logs
+  pub writer : Writer
+  pub faults : ℕ
+  pub calls : ℕ
+
+-- every other pool's log stays
+abbrev pub Elsewhere : ℕ → Logs → Logs → Type 0
+Elsewhere place old new = (p : ℕ) → p ≢ place → new p ≡ old p
+
+-- bytes of the part's digest, as many as the part needs
+abbrev pub IsPieceOf : Part → List ℕ → Type 0
+IsPieceOf part piece = (sha256 piece ≡ part.digest) × (part.to ≤ length piece)
+
+-- the bytes of the blobs that a reply names, in their order
+abbrev pub ArePieces : Reply → List (List ℕ) → Type 0
+ArePieces (reply.Stdout state parts) pieces = AllZip IsPieceOf parts pieces
+ArePieces (reply.Blob digest size) pieces = (piece : List ℕ) × (pieces ≡ piece ∷ []) × (sha256 piece ≡ digest) × (length piece ≡ size)
+ArePieces answered pieces = pieces ≡ []
+
+abbrev pub is_log_full : CallFault → Bool
+is_log_full fault.Memory = false
+is_log_full fault.LogFull = true
+is_log_full fault.Keeper = false
+
+-- a call stops by its keeper only where the keepers' count of faults rose
+abbrev pub CountsKeeper : Result Answered CallFault → ℕ → ℕ → Type 0
+CountsKeeper (Err fault.Keeper) before now = Rose before now
+CountsKeeper result before now = ⊤
+
+-- the request is refused
+abbrev pub IsRefusal : Reply → Type 0
+IsRefusal answered = (why : Rule) × (answered ≡ reply.No why)
+
+-- a request was answered at its point of the log; a refusal adds no entry of its own
+pub record IsAnsweredCall (pool : PoolSettings) (call : Call) (old new : List Entry) (growth : Growth) (answered : Answered) : Type 0 where
+  pub point : IsPoint (opening pool) call old new growth answered.reply
+  pub refused : IsRefusal answered.reply → growth.own ≡ None
+  pub front : answered.front ≡ length new
+  pub pieces : ArePieces answered.reply answered.pieces
+
+-- a request was answered, or its call stopped
+abbrev pub EndsAs : PoolSettings → Call → List Entry → List Entry → Growth → Result Answered CallFault → Type 0
+EndsAs pool call old new growth (Ok answered) = IsAnsweredCall pool call old new growth answered
+EndsAs pool call old new growth (Err fault) = IsStopped (opening pool) call old new growth (is_log_full fault)
+
+-- one call of a pool, before which a door that writes alone adds nothing
+pub record IsPoolCall (pool : PoolSettings) (alone : Bool) (call : Call) (old new : List Entry) (growth : Growth) (result : Result Answered CallFault) : Type 0 where
+  pub ends : EndsAs pool call old new growth result
+  pub no_others : IsTrue alone → growth.others ≡ []
+
+-- one call, of the pool at a place
+pub record IsCall (old new : DoorState) (place : ℕ) (call : Call) (result : Result Answered CallFault) : Type 0 where
+  pub growth : Growth
+  pub done : IsSomeAnd (slice_get old.settings.pools place) (λ pool. IsPoolCall pool old.writer.alone call (old.seen place) (new.seen place) growth result)
+  pub elsewhere : Elsewhere place old.seen new.seen
+  pub settings : new.settings ≡ old.settings
+  pub writer : new.writer ≡ old.writer
+  pub faults : old.faults ≤ new.faults
+  pub keeper : CountsKeeper result old.faults new.faults
+  pub calls : new.calls ≤ old.calls + 1
+
+-- a door of these settings that has seen these logs, writes alone, and was not called
+pub record IsFreshDoor (settings : Settings) (logs : Logs) (door : DoorState) : Type 0 where
+  pub settings_are : door.settings ≡ settings
+  pub seen : (p : ℕ) → door.seen p ≡ logs p
+  pub numbers : (p : ℕ) → door.writer.numbers p ≡ 0
+  pub alone : IsTrue door.writer.alone
+  pub calls : door.calls ≡ 0

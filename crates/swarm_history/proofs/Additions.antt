@@ -1,0 +1,54 @@
+-- What a commit adds to what was made ready.
+use Rattle.std.proofs.Common.{◌≡◌, ◌++◌, ◌≤◌, ℕ, List, [], ◌∷◌, Option, None, Some, IsTrue, is_some, ap, sym, subst, ◌∙◌}
+use Rattle.std.specs.List.{AllByRecursion}
+use Rattle.std.proofs.lemmas.List.{append_assoc}
+use Rattle.swarm_keeper.specs.Tables.{Tables}
+use Rattle.swarm_model.specs.declared.entry.Entry.{Entry}
+use Rattle.swarm_model.specs.Bytes.{HeldBytes, new_digest}
+use Rattle.swarm_model.specs.Effects.{after}
+use Rattle.swarm_model.specs.MachineState.{MachineState, IsHistory, AreHeld}
+use Rattle.swarm_model.specs.Points.{IsSettled}
+use Rattle.swarm_model.specs.Soundness.{IsSound}
+use Rattle.swarm_laws.proofs.BlobLaws.{keeps_held}
+use Rattle.swarm_laws.proofs.Bots.{settings_same}
+use Rattle.swarm_history.specs.Records.{AreTold}
+use Rattle.swarm_history.specs.Settling.{Adds, Settles, with_entry}
+
+pub adds_from : (old ready new : MachineState) (entry : Entry) (held : HeldBytes)
+    → ready ≡ record old { ready = Some entry }
+    → new ≡ record ready { pool = after ready.pool entry; log = ready.log ++ entry ∷ []; ready = None; held = held }
+    → IsHistory new → Adds old new entry
+adds_from old ready new entry held r e h = record {
+  log = ap (λ k. k.log) e ∙ ap (λ k. k.log ++ entry ∷ []) r;
+  settings = ap (λ k. k.pool.settings) e ∙ (settings_same ready.pool entry.moment entry.kind ∙ ap (λ k. k.pool.settings) r);
+  last = ap (λ k. k.pool.last) e;
+  history = h;
+}
+
+all_push : {A : Type 0} (P : A → Type 0) (xs : List A) (x : A) → AllByRecursion P xs → P x → AllByRecursion P (xs ++ x ∷ [])
+all_push P [] x all last = (last, tt)
+all_push P (y ∷ xs) x all last = (all.0, all_push P xs x all.1 last)
+
+-- one that was due comes after the others
+pub settles_more : (pass moment : ℕ) (old mid new : MachineState) (entry : Entry) → Settles pass moment old mid → IsSettled pass moment entry → Adds mid new entry
+    → Settles pass moment old new
+settles_more pass moment old mid new entry s is a = record {
+  settled = s.settled ++ entry ∷ [];
+  log = a.log ∙ ap (λ (l : List Entry). l ++ entry ∷ []) s.log ∙ append_assoc old.log s.settled (entry ∷ []);
+  due_first = all_push (IsSettled pass moment) s.settled entry s.due_first is;
+  settings = a.settings ∙ s.settings;
+  last = subst (λ (n : ℕ). n ≤ moment) (sym a.last) is.2;
+  history = a.history;
+}
+
+-- each blob has its bytes still
+pub adds_held : (old ready new : MachineState) (entry : Entry) (bytes : Option (List ℕ))
+    → ready ≡ record old { ready = Some entry } → new ≡ with_entry ready entry bytes
+    → IsSound old.pool → AreHeld old → (IsTrue (is_some (new_digest old.pool entry.kind)) → IsTrue (is_some bytes)) → AreHeld new
+adds_held old ready new entry bytes r e sound held whole =
+    subst AreHeld (sym (e ∙ ap (λ k. with_entry k entry bytes) r)) (keeps_held old entry bytes sound held whole)
+
+-- records say nothing of what is ready
+pub told_ready : (told : Option Tables) (old ready : MachineState) (next : Option Entry) → ready ≡ record old { ready = next } → AreTold told old → AreTold told ready
+told_ready None old ready next r are = tt
+told_ready (Some t) old ready next r are = rw r (record { lines = are.lines; blobs = are.blobs })

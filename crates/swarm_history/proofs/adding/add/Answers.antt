@@ -1,0 +1,14 @@
+-- The rows, the log and the bytes after a commit are those of the entry, and so are the records.
+use Rattle.swarm_history.proofs.Additions.{adds_from, adds_held}
+use Rattle.swarm_history.proofs.OwnPoints.{sound_history}
+use Rattle.swarm_history.proofs.Bringing.{still_some}
+use Rattle.swarm_history.proofs.adding.add.Goals as goal
+
+pub returns-clause-added : goal.returns-clause-added
+returns-clause-added g c = adds_from _ _ _ _ _ c.in-Ok.ensures.ok c.commit.ensures.added c.length-length.ensures.history
+
+pub returns-clause-held : goal.returns-clause-held
+returns-clause-held g c =
+    let k = g.M.Machine.kept c.args.machine.now in
+    adds_held k _ _ c.args.entry _ c.in-Ok.ensures.ok c.commit.ensures.added (sound_history k c.requires.history) c.requires.held
+    (λ new. still_some (λ b. b.now) c.args.bytes (c.requires.whole new))

@@ -1,0 +1,7 @@
+-- The tables stay.
+use Rattle.swarm_history.proofs.Keepers.{tables_stay}
+use Rattle.swarm_history.proofs.loading.load_at.Goals as goal
+
+pub returns-clause-stays : goal.returns-clause-stays
+returns-clause-stays g c =
+    tables_stay g.K.Keeper.tables c.args.keepers.now.items c.args.place c.index_mut-keeper.result.now c.load_pool.new.keeper c.index_mut-keeper.ensures.value c.load_pool.ensures.stays

@@ -1,0 +1,51 @@
+-- The kept records of a server's pools, by the place of the pool.
+use Rattle.std.specs.Prelude.{ℕ, ⊤, ◌<◌, List, [], ◌∷◌, Option, slice_get, IfSome, IsSomeAnd}
+use Rattle.swarm_keeper.specs.Tables.{Tables}
+use Rattle.swarm_model.specs.declared.pool_settings.Settings.{Settings}
+use Rattle.swarm_model.specs.declared.pool_settings.PoolSettings.{PoolSettings}
+use Rattle.swarm_model.specs.MachineState.{MachineState}
+use Rattle.swarm_door.specs.Doors.{Logs}
+use Rattle.pool_loading.specs.Records.{AreLinesOf, AreRecords, IsLoaded, AreRefusedAt}
+use Rattle.pool_loading.specs.declared.loading.LoadStop.{LoadStop}
+use Rattle.pool_loading.specs.declared.loading.LoadStop.TheVariants as stop
+use Rattle.swarm_history.specs.declared.load_fault.LoadFault.{LoadFault}
+use Rattle.swarm_history.specs.declared.load_fault.LoadFault.TheVariants as load
+
+-- where the keeper at a place tells its records, their lines are those of the log at that place
+abbrev pub AreKept : List (Option Tables) → Logs → Type 0
+AreKept tables logs = (p : ℕ) → IfSome (slice_get tables p) (λ told. IfSome told (λ t. AreLinesOf t.lines (logs p)))
+
+-- where they are told, the records at each place are those of the machine there
+abbrev pub AreRecordsOf : List (Option Tables) → List MachineState → Type 0
+AreRecordsOf tables machines = (p : ℕ) → IfSome (slice_get tables p) (λ told. IfSome told (λ t. IfSome (slice_get machines p) (λ kept. AreRecords kept t)))
+
+-- where they are told, the records are those of the machine
+abbrev pub AreTold : Option Tables → MachineState → Type 0
+AreTold told kept = IfSome told (AreRecords kept)
+
+-- each machine was made of the records at its place, under the settings there
+abbrev pub AreLoaded : List PoolSettings → List (Option Tables) → List MachineState → Type 0
+AreLoaded pools tables [] = ⊤
+AreLoaded [] tables (kept ∷ machines) = ⊥
+AreLoaded (pool ∷ pools) [] (kept ∷ machines) = ⊥
+AreLoaded (pool ∷ pools) (told ∷ tables) (kept ∷ machines) = IsLoaded pool told kept × AreLoaded pools tables machines
+
+-- why a door is not made, where the records of the pool at a place are not loaded
+abbrev pub fault_of : ℕ → LoadStop → LoadFault
+fault_of place stop.Memory = load.Memory
+fault_of place stop.Failed = load.Failed
+fault_of place (stop.Refused at) = load.BadStore place at
+
+-- a machine of the pool can be made of the records
+abbrev pub AreLoadable : PoolSettings → Option Tables → Type 0
+AreLoadable pool tables = (kept : MachineState) × IsLoaded pool tables kept
+
+-- the records at this place are refused, at this line, and those at the places before are not
+pub record IsBadStore (settings : Settings) (tables : List (Option Tables)) (place at : ℕ) : Type 0 where
+  pub refused : IsSomeAnd (slice_get settings.pools place) (λ pool. IsSomeAnd (slice_get tables place) (λ told. IfSome told (λ t. AreRefusedAt pool t at)))
+  pub before : (p : ℕ) → p < place → IsSomeAnd (slice_get settings.pools p) (λ pool. IsSomeAnd (slice_get tables p) (AreLoadable pool))
+
+-- refused records are told by the first place where they are
+abbrev pub TellsBadStore : Settings → List (Option Tables) → LoadFault → Type 0
+TellsBadStore settings tables (load.BadStore place at) = IsBadStore settings tables place at
+TellsBadStore settings tables fault = ⊤
