@@ -22,21 +22,22 @@ PAGE = os.path.join(HERE, "docs", "trusted.md")
 NAME = r"[A-Za-z_][A-Za-z0-9_']*"
 
 HEADLINE = [
-    ("Rattle.swarm_cli.specs.Run", "AreSession RunsSession PrintsUsage"),
-    ("Rattle.swarm_cli.specs.SettingsFile", "RunsFile"),
-    ("Rattle.swarm_cli.specs.KeptRecords", "RunsKept"),
-    ("Rattle.swarm_policy.specs.Open", "open_settings"),
+    ("Rattle.swarm_cli.specs.Run", "Runs"),
+    ("Rattle.command_words.specs.Commands", "command_of"),
     ("Rattle.swarm_http.specs.Answered", "IsAnswered KeepsDoor"),
     ("Rattle.swarm_model.specs.Settings", "are_settings"),
     ("Rattle.swarm_door.specs.Doors", "DoorState IsCall"),
     ("Rattle.sw_base.specs.Link", "LinkState IsClean Reads Writes Flushes"),
-    ("Rattle.sw_base.specs.Clock", "HandsIn"),
+    ("Rattle.sw_base.specs.Clock", "HandsIn Waits"),
+    ("Rattle.sw_base.specs.Acceptors", "AcceptorState Accepts Ends"),
+    ("Rattle.sw_base.specs.Listeners", "ListenerState Gives FailsToListen Shuts"),
+    ("Rattle.sw_base.specs.Dialers", "DialerState Dials Declines Hangs"),
     ("Rattle.sw_base.specs.Files", "FilesState Loads"),
     ("Rattle.swarm_keeper.specs.Stores", "StoreState HasPlace PlacesStay IsAttached NotAttached Detaches"),
     ("Rattle.swarm_keeper.specs.Tables", "Tables Counts appended bytes_of"),
 ]
 # The traits whose contracts cite these.
-TRAITS = [("sw_base", "link", "Link"), ("sw_base", "clock", "Clock"), ("sw_base", "files", "Files"), ("swarm_keeper", "keeper", "Keeper"), ("swarm_keeper", "store", "Store"), ("swarm_door", "door", "Door")]
+TRAITS = [("sw_base", "link", "Link"), ("sw_base", "clock", "Clock"), ("sw_base", "files", "Files"), ("sw_base", "acceptor", "Acceptor"), ("sw_base", "listener", "Listener"), ("sw_base", "dialer", "Dialer"), ("swarm_keeper", "keeper", "Keeper"), ("swarm_keeper", "store", "Store"), ("swarm_door", "door", "Door")]
 LAWS = [
     ("Rattle.swarm_model.specs.Claims", "ClaimsAreRight"),
     ("Rattle.swarm_model.specs.Verdicts", "VerdictsAreStates FinalsStay TallyCountsVerdicts TallyAddsUp"),
@@ -56,6 +57,12 @@ EDGE = [
     "crates/sw_base/src/console_link.rt",
     "crates/sw_base/src/disk_files.rt",
     "crates/sw_base/src/system_clock.rt",
+    "crates/tcp_links/src/tcp_link.rt",
+    "crates/tcp_links/src/deadline_link.rt",
+    "crates/tcp_links/src/tcp_acceptor.rt",
+    "crates/tcp_links/src/tcp_all.rt",
+    "crates/tcp_links/src/closing.rt",
+    "crates/tcp_links/src/limits.rt",
     "swarm",
     "scripts/build.py",
 ]

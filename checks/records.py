@@ -49,7 +49,7 @@ class Results:
             self.passed += 1
         else:
             self.failed += 1
-            print(f"{name}: this is wanted:\n{shown(wanted)}\nand this came:\n{shown(came)}")
+            print(f"{name}: this is wanted:\n{shown(wanted)}\nand this came:\n{shown(came)}", flush=True)
 
     def end(self):
         print(f"{self.passed} passed, {self.failed} failed")

@@ -1,15 +1,13 @@
 //! The request for which a kept entry stands.
-ghost use Rattle.std.specs.Prelude.{◌≡◌, ◌<◌, IfOk, unwrap_or, option_map};
-ghost use Rattle.std.specs.Option.{option_copied};
+ghost use Rattle.std.specs.Prelude.{◌≡◌, IfOk, unwrap_or, option_map};
 ghost use Rattle.swarm_model.specs.Entries.{asks, poll_of, claim_of, handshake_of, event_of, terminate_of, cancel_of, update_of, by_nobody};
 ghost use Rattle.swarm_model.specs.Finding.{task_of};
 ghost use Rattle.pool_loading.specs.Asking.{as_asked};
 
+use crate::uncounted::task_uncounted;
 use dimensions::{BotDims, Text, TryCopy};
 use std::alloc::{AllocError, Global};
-use std::marker::Brand;
-use std::sync::ledger::{Blank, Ledger};
-use swarm_model::{BotRow, Chunk, EntryKind, EventKind, Last, Machine, Request, Steps, TaskRow};
+use swarm_model::{BotRow, Chunk, EntryKind, EventKind, Last, Machine, Request, TaskRow};
 use task_props::{Digest, NewTask};
 
 /// A request with its caller.
@@ -17,17 +15,6 @@ use task_props::{Digest, NewTask};
 pub(crate) struct EntryRequest {
     pub caller: Text,
     pub request: Request,
-}
-
-/// A row of a machine, where nobody counts the rows that are read.
-fn task_uncounted<M: Machine, L: Ledger>(machine: &M, no: u32, blank: Blank) -> Option<&TaskRow>
-    requires name { blank.name ≡ L.name }
-    requires parts { blank.parts ≡ L.parts }
-    requires some { 0 < blank.parts }
-    ensures { option_copied result ≡ task_of (M.kept machine.now).pool no }
-{
-    let mut steps = Steps::<L>::open(blank);
-    machine.task(no, &mut steps)
 }
 
 /// A request whose caller no answer looks at.
@@ -201,7 +188,7 @@ fn cancel_asked<M: Machine>(
 ) -> Result<Option<EntryRequest>, AllocError>
     ensures { IfOk result (λ o. option_map as_asked o ≡ option_map cancel_of (task_of (M.kept machine.now).pool t)) }
 {
-    match task_uncounted::<M, Brand>(machine, t, Blank::new(1)) {
+    match task_uncounted(machine, t) {
         Some(task) => Ok(Some(cancel_request(alloc, task)?)),
         None => Ok(None),
     }

@@ -1,5 +1,5 @@
 //! Whether a kept entry may follow a log.
-ghost use Rattle.std.specs.Prelude.{◌≡◌, ◌≤◌, ◌<◌, ◌^◌, None, Some, Decides, IfOk, IsTrue, IsSomeAnd, is_some, option_map};
+ghost use Rattle.std.specs.Prelude.{◌≡◌, ◌≤◌, ◌^◌, None, Some, Decides, IfOk, IsTrue, IsSomeAnd, is_some, option_map};
 ghost use Rattle.swarm_model.specs.Answers.{answer};
 ghost use Rattle.swarm_model.specs.Deadlines.{due_entry};
 ghost use Rattle.swarm_model.specs.Entries.{asks, is_deadline};
@@ -10,54 +10,14 @@ ghost use Rattle.entry_lines.specs.Lines.{entry_of_line};
 ghost use Rattle.pool_loading.specs.Asking.{as_asked};
 
 use crate::asking::{EntryRequest, asked};
-use dimensions::Text;
+use crate::uncounted::{answer_uncounted, due_uncounted};
 use entry_lines::is_line_of;
 use request_fits::fits;
 use std::alloc::{AllocError, Global};
-use std::marker::Brand;
-use std::sync::ledger::{Blank, Ledger};
-use swarm_model::{Answer, Entry, EntryKind, Machine, PoolSettings, Request, Steps};
+use swarm_model::{Entry, EntryKind, Machine, PoolSettings};
 
 /// The greatest moment of an entry.
 const MOST_MOMENT: u64 = 1 << 40;
-
-/// The entry that is due at a machine, where nobody counts the rows that are read.
-fn due_uncounted<M: Machine, L: Ledger>(
-    machine: &M,
-    moment: u64,
-    pass: u32,
-    blank: Blank,
-) -> Option<Entry>
-    requires name { blank.name ≡ L.name }
-    requires parts { blank.parts ≡ L.parts }
-    requires some { 0 < blank.parts }
-    ensures { result ≡ due_entry (M.kept machine.now).pool moment pass }
-{
-    let mut steps = Steps::<L>::open(blank);
-    machine.due(moment, pass, &mut steps)
-}
-
-/// The answer of a machine, where nobody counts the rows that are read.
-fn answer_uncounted<M: Machine, L: Ledger>(
-    machine: &M,
-    who: &Text,
-    moment: u64,
-    pass: u32,
-    request: &Request,
-    blank: Blank,
-) -> Result<Answer, AllocError>
-    requires fits { IsTrue (fits (M.kept machine.now).pool.settings request.now) }
-    requires not_before { (M.kept machine.now).pool.last ≤ moment }
-    requires not_late { moment ≤ 2 ^ 40 }
-    requires nothing_due { due_entry (M.kept machine.now).pool moment pass ≡ None }
-    requires name { blank.name ≡ L.name }
-    requires parts { blank.parts ≡ L.parts }
-    requires some { 0 < blank.parts }
-    ensures { IfOk result (λ a. a ≡ answer (M.kept machine.now).pool who.now moment pass request.now) }
-{
-    let mut steps = Steps::<L>::open(blank);
-    machine.answer(who, moment, pass, request, &mut steps)
-}
 
 /// Whether the entry is that of a deadline.
 fn is_deadline(kind: &EntryKind) -> bool
@@ -92,7 +52,7 @@ fn is_due<M: Machine>(
     requires { entry_of_line line.now ≡ Some entry.now }
     ensures { IfOk result (λ b. Decides b (IsDue (M.kept machine.now).pool entry.now)) }
 {
-    let due = due_uncounted::<M, Brand>(machine, entry.moment, entry.pass, Blank::new(1));
+    let due = due_uncounted(machine, entry.moment, entry.pass);
     is_on_line(alloc, &due, line)
 }
 
@@ -111,13 +71,12 @@ fn is_added<M: Machine>(
     requires nothing_due { due_entry (M.kept machine.now).pool entry.now.moment entry.now.pass ≡ None }
     ensures { IfOk result (λ b. Decides b ((answer (M.kept machine.now).pool asked.now.caller entry.now.moment entry.now.pass asked.now.request).entry ≡ Some entry.now)) }
 {
-    let answer = answer_uncounted::<M, Brand>(
+    let answer = answer_uncounted(
         machine,
         &asked.caller,
         entry.moment,
         entry.pass,
         &asked.request,
-        Blank::new(1),
     )?;
     is_on_line(alloc, &answer.entry, line)
 }
@@ -125,7 +84,7 @@ fn is_added<M: Machine>(
 fn is_any_due<M: Machine>(machine: &M, moment: u64, pass: u32) -> bool
     ensures { result ≡ is_some (due_entry (M.kept machine.now).pool moment pass) }
 {
-    let due = due_uncounted::<M, Brand>(machine, moment, pass, Blank::new(1));
+    let due = due_uncounted(machine, moment, pass);
     due.is_some()
 }
 

@@ -4,10 +4,10 @@ use Rattle.std.specs.List.{list_all, list_any, slice_split, starts_with}
 use Rattle.std.specs.Str.{bytes_eq}
 use Rattle.httparse.specs.Grammar.{RequestHead, trim_ows}
 use Rattle.httparse.specs.Spans.{name_and_value}
-use Rattle.request_head.specs.Fields.{named, only, lacks, same_name}
-use Rattle.request_head.specs.Numbers.{only_number, is_broken, is_absent, value_or_zero}
-use Rattle.request_head.specs.declared.number.Number.{Number}
-use Rattle.request_head.specs.declared.number.Number.TheVariants as number
+use Rattle.head_fields.specs.Fields.{named, only, lacks, same_name}
+use Rattle.head_fields.specs.Numbers.{only_number, is_broken, is_absent, value_or_zero}
+use Rattle.head_fields.specs.declared.number.Number.{Number}
+use Rattle.head_fields.specs.declared.number.Number.TheVariants as number
 use Rattle.request_head.specs.declared.method.Method.{Method}
 use Rattle.request_head.specs.declared.method.Method.TheVariants.{Get, Post, Put, Other}
 use Rattle.request_head.specs.declared.after.After.{After}

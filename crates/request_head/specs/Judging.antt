@@ -1,22 +1,14 @@
 -- What is judged of a text.
-use Rattle.std.specs.Prelude.{◌≡◌, ◌⊎◌, ℕ, ◌≤◌, List, [], ◌∷◌, length, map, Option, Some, None, option_map}
+use Rattle.std.specs.Prelude.{◌≡◌, ◌⊎◌, ℕ, List, map, Option, Some, None, option_map}
 use Rattle.httparse.specs.Grammar.{RequestHead}
-use Rattle.httparse.specs.Spans.{span_bytes, IsWithin, IsRequestAt, IsRequestWithin, header_bytes}
+use Rattle.httparse.specs.Spans.{span_bytes, IsRequestAt, IsRequestWithin, header_bytes}
 use Rattle.httparse.specs.declared.spans.HeaderSpan.{HeaderSpan}
 use Rattle.httparse.specs.declared.spans.RequestSpans.{RequestSpans}
-use Rattle.request_head.specs.declared.found.Found.{Found}
-use Rattle.request_head.specs.declared.found.Found.TheVariants.{Absent, Once, Repeated}
 use Rattle.request_head.specs.declared.head.Head.{Head}
 use Rattle.request_head.specs.declared.head_check.HeadCheck.{HeadCheck}
 use Rattle.request_head.specs.declared.head_check.HeadCheck.TheVariants.{Bad, LengthRequired, TooLarge, Good}
 use Rattle.request_head.specs.Heads.{IsHead, IsNoHead}
 use Rattle.request_head.specs.HeadFields.{HeadRefusal, bad, length_required, too_large, head_refusal, fields_of, method_of, size_of, closes_of, caller_of, after_of}
-
--- a field was looked for among these values
-abbrev pub IsFound : List ℕ → List (List ℕ) → Found → Type 0
-IsFound text values Absent = values ≡ []
-IsFound text values (Once s) = (values ≡ span_bytes text s ∷ []) × IsWithin (length text) s
-IsFound text values Repeated = 2 ≤ length values
 
 -- the head says this
 pub record Says (h : RequestHead) (head : Head) : Type 0 where

@@ -1,5 +1,3 @@
-pub mod Fields
 pub mod Heads
-pub mod Numbers
 pub mod HeadFields
 pub mod Judging

@@ -1,7 +1,7 @@
 ghost use Rattle.std.specs.Prelude.{◌≡◌};
 ghost use Rattle.request_head.specs.HeadFields.{after_number};
 
-use crate::number::Number;
+use head_fields::Number;
 
 /// The length of the log that a caller has seen, as its X-Swarming-After field tells it.
 #[derive(Clone, Copy, Debug, PartialEq, Eq)]

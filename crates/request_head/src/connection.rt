@@ -4,7 +4,7 @@ ghost use Rattle.httparse.specs.Grammar.{skip_ows, trim_ows};
 ghost use Rattle.httparse.specs.Spans.{IsHeaderWithin, header_bytes};
 ghost use Rattle.request_head.specs.HeadFields.{is_close as spec_is_close, has_close as spec_has_close, is_closing as spec_is_closing, asks_to_close as spec_asks_to_close, closes as spec_closes};
 
-use crate::fields::is_named;
+use head_fields::is_named;
 use httparse::is_space_or_tab;
 use httparse::spans::HeaderSpan;
 

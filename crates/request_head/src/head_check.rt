@@ -3,14 +3,13 @@ ghost use Rattle.httparse.specs.Grammar.{RequestHead};
 ghost use Rattle.httparse.specs.Spans.{IsWithin, IsHeaderWithin, span_bytes, header_bytes};
 ghost use Rattle.request_head.specs.Heads.{IsNoHead};
 ghost use Rattle.request_head.specs.HeadFields.{limit_at as spec_limit_at, caller_told as spec_caller_told, refusal};
-ghost use Rattle.request_head.specs.Numbers.{value_or_zero};
+ghost use Rattle.head_fields.specs.Numbers.{value_or_zero};
 ghost use Rattle.request_head.specs.Judging.{IsJudged, IsDue, Refuses, Covers, IsWholeHead};
 
 use crate::caller::caller_of;
 use crate::connection::closes;
-use crate::fields::{lacks, only, only_number};
-use crate::number::Number;
 use crate::{After, Head, Method};
+use head_fields::{Number, lacks, only, only_number};
 use httparse::Status;
 use httparse::spans::{EMPTY_HEADER_SPAN, HeaderSpan, RequestSpans, parse_request};
 

@@ -5,19 +5,16 @@
 //! request's head may say. A head is what `httparse` reads by the grammar of RFC 9112, with at most
 //! 64 fields; it also takes a bare LF as the end of a line, and empty lines before the first.
 //! `specs/HeadFields` has each part of an answer as a function of that head: its refusal, method, body's
-//! size, caller and the others. Names of fields are the same in any case of letters; `Expect` and
+//! size, caller and the others. The fields are found by their names with `head_fields`; `Expect` and
 //! fields of other names are ignored.
 #![tactic(auto)]
 
 mod after;
 mod caller;
 mod connection;
-mod fields;
-mod found;
 mod head;
 mod head_check;
 mod method;
-mod number;
 
 pub use after::After;
 pub use head::Head;

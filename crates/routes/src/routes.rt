@@ -5,7 +5,7 @@ ghost use Rattle.matchit.specs.Level.{IsText};
 ghost use Rattle.routes.specs.Routes.{is_question_mark, resource_in, resource_of, pool_part, digest_part};
 ghost use Rattle.routes.specs.Rows.{with_row, answer};
 
-use crate::{Resource, Route};
+use crate::{Resource, Route, targets};
 use matchit::{InsertError, Router};
 use std::alloc::{AllocError, Global};
 
@@ -13,47 +13,20 @@ use std::alloc::{AllocError, Global};
 const ROUTES: &[(&str, Resource)] = &[
     ("/blobs/{pool}", Resource::Call(Route::FindMissing)),
     ("/blobs/{pool}/{digest}", Resource::Blob),
-    ("/bot/claim", Resource::Call(Route::Claim)),
-    ("/bot/event", Resource::Call(Route::Event)),
-    ("/bot/handshake", Resource::Call(Route::Handshake)),
-    ("/bot/poll", Resource::Call(Route::Poll)),
-    ("/bot/task_update", Resource::Call(Route::TaskUpdate)),
-    (
-        "/prpc/swarming.v2.Bots/GetBot",
-        Resource::Call(Route::GetBot),
-    ),
-    (
-        "/prpc/swarming.v2.Bots/ListBots",
-        Resource::Call(Route::ListBots),
-    ),
-    (
-        "/prpc/swarming.v2.Bots/TerminateBot",
-        Resource::Call(Route::TerminateBot),
-    ),
-    (
-        "/prpc/swarming.v2.Tasks/CancelTask",
-        Resource::Call(Route::CancelTask),
-    ),
-    (
-        "/prpc/swarming.v2.Tasks/CountTasks",
-        Resource::Call(Route::CountTasks),
-    ),
-    (
-        "/prpc/swarming.v2.Tasks/GetResult",
-        Resource::Call(Route::GetResult),
-    ),
-    (
-        "/prpc/swarming.v2.Tasks/GetStdout",
-        Resource::Call(Route::GetStdout),
-    ),
-    (
-        "/prpc/swarming.v2.Tasks/ListTasks",
-        Resource::Call(Route::ListTasks),
-    ),
-    (
-        "/prpc/swarming.v2.Tasks/NewTask",
-        Resource::Call(Route::NewTask),
-    ),
+    (targets::CLAIM, Resource::Call(Route::Claim)),
+    (targets::EVENT, Resource::Call(Route::Event)),
+    (targets::HANDSHAKE, Resource::Call(Route::Handshake)),
+    (targets::POLL, Resource::Call(Route::Poll)),
+    (targets::TASK_UPDATE, Resource::Call(Route::TaskUpdate)),
+    (targets::GET_BOT, Resource::Call(Route::GetBot)),
+    (targets::LIST_BOTS, Resource::Call(Route::ListBots)),
+    (targets::TERMINATE_BOT, Resource::Call(Route::TerminateBot)),
+    (targets::CANCEL_TASK, Resource::Call(Route::CancelTask)),
+    (targets::COUNT_TASKS, Resource::Call(Route::CountTasks)),
+    (targets::GET_RESULT, Resource::Call(Route::GetResult)),
+    (targets::GET_STDOUT, Resource::Call(Route::GetStdout)),
+    (targets::LIST_TASKS, Resource::Call(Route::ListTasks)),
+    (targets::NEW_TASK, Resource::Call(Route::NewTask)),
 ];
 
 /// What stands at a target, and the parts of the target that the caller chose. A part that the

@@ -1,5 +1,4 @@
-ghost use Rattle.std.specs.Prelude.{◌≡◌, ◌==◌, None, IfOk, MatchBool};
-ghost use Rattle.sw_base.specs.Faults.{Rose};
+ghost use Rattle.std.specs.Prelude.{◌≡◌, None, IfOk};
 
 use crate::sqlite_keeper::SqliteKeeper;
 use crate::tables::{has_tables, is_memory};
@@ -8,7 +7,7 @@ use std::alloc::Global;
 use std::fs;
 use std::io::ErrorKind;
 use sw_base::StartFault;
-use swarm_keeper::Store;
+use swarm_keeper::{Store, faults_after};
 
 /// Files of pools on the disk, which tell nothing.
 #[derive(Drop)]
@@ -69,16 +68,6 @@ fn open_pool(
     make_folder(rt, folder)?;
     let path = format!(in alloc; "{folder}/{pool}.sqlite")?;
     open_keeper(rt, path.as_str())
-}
-
-fn faults_after(faults: u64, keeper_faults: u64) -> u64
-    ensures { MatchBool (keeper_faults == 0) (faults ≡ result) (Rose faults result) }
-{
-    if keeper_faults == 0 {
-        faults
-    } else {
-        faults.saturating_add(1)
-    }
 }
 
 impl<'a> Store for SqliteStore<'a> {

@@ -1,5 +1,5 @@
 -- What calls on a link do to it.
-use Rattle.std.specs.Prelude.{◌≡◌, ℕ, ◌<◌, ◌≤◌, List, [], Option, Result, Ok, Err, length, take, IfOk, OnOk}
+use Rattle.std.specs.Prelude.{◌≡◌, ℕ, ◌+◌, ◌<◌, ◌≤◌, List, [], Option, Result, Ok, Err, length, take, IfOk, OnOk}
 use Rattle.std.specs.Io.KnownBytes.{Consumes, Appends, IsAtEnd}
 use Rattle.sw_base.specs.Faults.{CountsFault}
 
@@ -15,6 +15,10 @@ pub record LinkState : Type 0 where
 -- a link that never failed, with all that was written flushed
 abbrev pub opened : Option (List ℕ) → Option (List ℕ) → LinkState
 opened left written = record { left = left; written = written; flushed = written; read_faults = 0; write_faults = 0 }
+
+-- a read or a write of it has failed
+abbrev pub HasFailed : LinkState → Type 0
+HasFailed link = 0 < link.read_faults + link.write_faults
 
 -- all that was written is flushed
 abbrev pub IsClean : LinkState → Type 0

@@ -22,7 +22,8 @@ pub struct MemoryLink {
 }
 
 impl MemoryLink {
-    ghost use Rattle.sw_base.specs.Link.{opened};
+    ghost use Rattle.std.specs.Prelude.{◌↔◌, IsTrue};
+    ghost use Rattle.sw_base.specs.Link.{HasFailed, opened};
 
     /// A link that gives `input`. A call moves at most `piece` bytes, where 0 counts as 1. The
     /// calls that fail are those whose number stands in `fails`: calls of all three methods are
@@ -41,6 +42,13 @@ impl MemoryLink {
             read_faults: 0,
             write_faults: 0,
         }
+    }
+
+    /// Whether a call of it has failed.
+    pub fn has_failed(&self) -> bool
+        ensures { IsTrue result ↔ HasFailed (⟦<MemoryLink as Link>⟧.state self.now) }
+    {
+        self.read_faults > 0 || self.write_faults > 0
     }
 
     /// What was written.

@@ -1,5 +1,5 @@
 //! The program `swarm`: it hands the words of the command line, the console, the system's clock, the
-//! disk and the store of records to `swarm_cli`, and ends with its answer.
+//! disk, the store of records and the system's sockets to `swarm_cli`, and ends with its answer.
 #![tactic(auto)]
 
 use sqlite_keeper::SqliteStore;
@@ -7,6 +7,7 @@ use std::env;
 use std::process::ExitCode;
 use sw_base::{ConsoleLink, DiskFiles, SystemClock};
 use swarm_cli::run;
+use tcp_links::{Limits, TcpAll};
 
 fn main(rt: HostRuntime) -> ExitCode {
     let alloc = rt.alloc();
@@ -23,6 +24,8 @@ fn main(rt: HostRuntime) -> ExitCode {
     let mut clock = SystemClock::new(&rt);
     let mut files = DiskFiles::new(&rt);
     let mut store = SqliteStore::new(&rt);
+    let mut listener = TcpAll::new(alloc, &rt, &rt, Limits::of_server());
+    let mut dialer = TcpAll::new(alloc, &rt, &rt, Limits::of_client());
     ExitCode::from(run(
         alloc,
         &words,
@@ -30,5 +33,7 @@ fn main(rt: HostRuntime) -> ExitCode {
         &mut clock,
         &mut files,
         &mut store,
+        &mut listener,
+        &mut dialer,
     ))
 }

@@ -1,4 +1,4 @@
--- A session over kept records.
+-- A command over kept records.
 use Rattle.std.proofs.Common.{◌≡◌, ℕ, ◌<◌, List, [], ◌∷◌, map, length, refl, sym, ap, subst, ◌∙◌, Bool, true, Option, Some, None, IsSome, arith}
 use Rattle.std.specs.Prelude.{is_some, sum_by}
 use Rattle.std.specs.List.{list_all}
@@ -11,43 +11,79 @@ use Rattle.sw_base.specs.declared.start_fault.StartFault.TheVariants as start
 use Rattle.swarm_keeper.specs.Tables.{Tables}
 use Rattle.swarm_keeper.specs.Stores.{StoreState}
 use Rattle.swarm_model.specs.declared.pool_settings.Settings.{Settings}
-use Rattle.swarm_door.specs.Doors.{IsFreshDoor}
+use Rattle.swarm_model.specs.declared.pool_settings.PoolSettings.{PoolSettings}
+use Rattle.swarm_model.specs.MachineState.{MachineState}
+use Rattle.swarm_door.specs.Doors.{DoorState, IsFreshDoor, HasNoOthersAt, AddsNoOthers}
+use Rattle.swarm_http.specs.Answered.{KeepsDoor}
+use Rattle.swarm_history.specs.Machines.{logs_of}
 use Rattle.swarm_history.specs.Records.{AreKept, TellsBadStore}
+use Rattle.pool_summaries.specs.Summaries.{summary_of}
+use Rattle.swarm_cli.specs.declared.door_command.DoorCommand.{DoorCommand}
+use Rattle.swarm_cli.specs.declared.serving.Used.{Used}
+use Rattle.swarm_cli.specs.Handling.{deed_of, IsUsed, IsConcluded}
+use Rattle.swarm_cli.specs.SettingsFile.{RunsNew, done}
+use Rattle.swarm_cli.proofs.Sessions.{fresh_of_nothing}
 use Rattle.swarm_history.specs.declared.load_fault.LoadFault.{LoadFault}
 use Rattle.swarm_history.specs.declared.load_fault.LoadFault.TheVariants as load
-use Rattle.swarm_http.specs.declared.ended.Ended.{Ended}
-use Rattle.swarm_http.specs.Answered.{World, IsAnswered}
-use Rattle.swarm_cli.specs.Run.{exit_status}
+use Rattle.swarm_cli.specs.Outside.{Outside}
+use Rattle.swarm_cli.specs.Deeds.{Deed, start_status}
 use Rattle.swarm_cli.specs.Attaching.{Kept, told_records, KeepsOthers, CountsKeepers, AttachesAll, AttachesNone, DetachesAll}
-use Rattle.swarm_cli.specs.KeptRecords.{ServesKept, NoDoor, no_memory, failed, bad_store, TellsFault, RunsOver, with_door, without_door, start_status, RunsServed, RunsUnserved, RunsKept, served, unserved}
-use Rattle.swarm_cli.proofs.Sessions.{logs_grow}
+use Rattle.swarm_cli.specs.KeptRecords.{DoesOver, NoDoor, no_memory, failed, bad_store, TellsFault, RunsOver, with_door, without_door, RunsServed, RunsUnserved, RunsKept, served, unserved}
+use Rattle.swarm_cli.proofs.Doing.{with_console, same_console, does_all, summary_is}
 use Rattle.swarm_cli.proofs.Places.{all_told, back_again, others_tell, others-trans}
 use Rattle.swarm_cli.proofs.Counts.{counts_some, rose_above}
 
 -- ---- over keepers
 
-pub kept_ran : {settings : Settings} {before after : List (Option Tables)} {faults : ℕ} {v w : World} {ended : Ended} {status : ℕ}
-    → IsFreshDoor settings v.door.seen v.door → AreKept before v.door.seen → IsAnswered v w ended → AreKept after w.door.seen → w.door.faults ≡ faults → status ≡ exit_status ended
-    → ServesKept settings before after faults v.link w.link v.clock w.clock status
-kept_ran {v = v} {w = w} {ended = ended} n lines x lines_then counted is = record {
-  ended = ended;
-  before = v.door;
-  after = w.door;
-  fresh_door = n;
+-- where the records had no other blobs, they have none in the end
+pub others_kept : {settings : Settings} {before after : List (Option Tables)} (d e : DoorState) → d.settings ≡ settings → e.settings ≡ d.settings → d.records ≡ before → after ≡ e.records
+    → AddsNoOthers d e → (p : ℕ) → HasNoOthersAt settings.pools before d.seen p → HasNoOthersAt settings.pools after e.seen p
+others_kept {settings = settings} d e is same told then adds p has =
+    let start : HasNoOthersAt d.settings.pools d.records d.seen p = rw (is, told) has in
+    subst (λ (r : List (Option Tables)). HasNoOthersAt settings.pools r e.seen p) (sym then)
+    (subst (λ (s : Settings). HasNoOthersAt s.pools e.records e.seen p) (same ∙ is) (adds p start))
+
+-- a command was carried out over the records
+pub kept_ran : {M : Type 0} (kept : M → MachineState) (machines items : List M) (what : DoorCommand) (settings : Settings) (records_before records_after : List (Option Tables)) (faults : ℕ) (o m : Outside) (t : LinkState)
+    (result : Used) (status : ℕ) (pools : List PoolSettings) {n : ℕ} {before after : DoorState}
+    → KeepsDoor n before after → IsFreshDoor settings before.seen before → AreKept records_before before.seen → before.records ≡ records_before
+    → IsUsed what before after o m result → machines ≡ items → ((p : ℕ) → logs_of (map kept items) p ≡ after.seen p)
+    → AreKept records_after after.seen → records_after ≡ after.records → faults ≡ after.faults
+    → pools ≡ settings.pools → IsConcluded result (summary_of pools (logs_of (map kept machines))) m.console t status
+    → DoesOver (deed_of what) settings records_before records_after faults o (with_console m t) status
+kept_ran {M = M} kept machines items what settings records_before records_after faults o m t result status pools {before = before} {after = after} keeps fresh lines records used_so are logs lines_then told counted pools_are concluded = record {
+  before = before;
+  after = after;
+  fresh_door = fresh;
   lines_before = lines;
-  answered = x;
-  logs_are = logs_grow n x;
+  does = does_all what before after o m t result status (summary_of pools (logs_of (map kept machines))) used_so concluded
+      (summary_is settings before after pools (logs_of (map kept machines)) pools_are fresh.settings_are (λ p. ap (λ (l : List M). logs_of (map kept l) p) are ∙ logs p));
   lines_after = lines_then;
-  faults_are = counted;
-  status_is = is;
+  no_other_blobs = others_kept before after fresh.settings_are keeps.settings records told keeps.no_other_blobs;
+  faults_are = sym counted;
 }
 
+-- a command was carried out over new logs
+pub new_ran : {M : Type 0} (kept : M → MachineState) (machines items : List M) (what : DoorCommand) (settings : Settings) (o m : Outside) (t : LinkState)
+    (result : Used) (status : ℕ) (pools : List PoolSettings) {n : ℕ} {before after : DoorState}
+    → KeepsDoor n before after → IsFreshDoor settings before.seen before → ((p : ℕ) → before.seen p ≡ [])
+    → IsUsed what before after o m result → machines ≡ items → ((p : ℕ) → logs_of (map kept items) p ≡ after.seen p)
+    → pools ≡ settings.pools → IsConcluded result (summary_of pools (logs_of (map kept machines))) m.console t status
+    → RunsNew (deed_of what) settings o (with_console m t) status
+new_ran {M = M} kept machines items what settings o m t result status pools {before = before} {after = after} keeps fresh nothing used_so are logs pools_are concluded = done (record {
+  before = before;
+  after = after;
+  fresh_door = fresh_of_nothing fresh nothing;
+  does = does_all what before after o m t result status (summary_of pools (logs_of (map kept machines))) used_so concluded
+      (summary_is settings before after pools (logs_of (map kept machines)) pools_are fresh.settings_are (λ p. ap (λ (l : List M). logs_of (map kept l) p) are ∙ logs p));
+})
+
 -- a fault of the load
-pub not_loaded : (settings : Settings) (records : List (Option Tables)) (m n : ℕ) (s t : LinkState) (status : ℕ) (fault : LoadFault)
-    → TellsFault fault s t status → TellsBadStore settings records fault → (fault ≡ load.Failed → Rose m n) → NoDoor settings records m n s t status
-not_loaded settings records m n s t status load.Memory told bad rose = no_memory told.0 told.1
-not_loaded settings records m n s t status load.Failed told bad rose = failed (rose refl) told.0 told.1
-not_loaded settings records m n s t status (load.BadStore place at) told bad rose = bad_store place at bad told
+pub not_loaded : (settings : Settings) (records : List (Option Tables)) (m n : ℕ) (o : Outside) (t : LinkState) (status : ℕ) (fault : LoadFault)
+    → TellsFault fault o.console t status → TellsBadStore settings records fault → (fault ≡ load.Failed → Rose m n) → NoDoor settings records m n o (with_console o t) status
+not_loaded settings records m n o t status load.Memory told bad rose = no_memory told.0 (same_console o t told.1)
+not_loaded settings records m n o t status load.Failed told bad rose = failed (rose refl) told.0 (same_console o t told.1)
+not_loaded settings records m n o t status (load.BadStore place at) told bad rose = bad_store place at bad told (record { clock = refl; listener = refl })
 
 -- keepers of one type, as many as these, tell where these do
 pub goes_on_telling : {K : Type 0} (tables : K → Option Tables) (tells : Bool) → ((k : K) → is_some (tables k) ≡ tells) → (xs ys : List K) → length xs ≡ length ys
@@ -65,39 +101,38 @@ same_length tables xs ys same = omega (arith, length-map xs tables, length-map y
 -- ---- over a store
 
 -- nothing was attached
-pub not_attached : (settings : Settings) (folder : List ℕ) (p q : StoreState) (s : LinkState) (a : ℕ → Option (List ℕ)) (status : ℕ) (fault : StartFault)
-    → AttachesNone p q fault → status ≡ start_status fault → RunsKept settings folder p q s s a a status
-not_attached settings folder p q s a status start.Memory x is = unserved (record { cause = no_memory is refl; kept = x.kept; clock = refl })
-not_attached settings folder p q s a status start.Failed x is = unserved (record { cause = failed (x.failed refl) is refl; kept = x.kept; clock = refl })
+pub not_attached : (deed : Deed) (settings : Settings) (folder : List ℕ) (p q : StoreState) (o : Outside) (status : ℕ) (fault : StartFault)
+    → AttachesNone p q fault → status ≡ start_status fault → RunsKept deed settings folder p q o o status
+not_attached deed settings folder p q o status start.Memory x is = unserved (record { cause = no_memory is refl; kept = x.kept })
+not_attached deed settings folder p q o status start.Failed x is = unserved (record { cause = failed (x.failed refl) is refl; kept = x.kept })
 
 -- no door was made, and what was attached was taken back
-given_back : (settings : Settings) (folder : List ℕ) (p mid q : StoreState) (s t : LinkState) (a b : ℕ → Option (List ℕ)) (status m n : ℕ) (before after : List (Option Tables))
-    → AttachesAll p mid folder settings.pools before m → NoDoor settings before m n s t status → after ≡ before → b ≡ a → DetachesAll mid q folder settings.pools after n
-    → RunsUnserved settings folder p q s t a b status
-given_back settings folder p mid q s t a b status m n before after x cause same clock y = record {
-  cause = subst (λ (l : List (Option Tables)). NoDoor settings l p.faults q.faults s t status) x.told (at_store cause);
+given_back : (settings : Settings) (folder : List ℕ) (p mid q : StoreState) (o u : Outside) (status m n : ℕ) (before after : List (Option Tables))
+    → AttachesAll p mid folder settings.pools before m → NoDoor settings before m n o u status → after ≡ before → DetachesAll mid q folder settings.pools after n
+    → RunsUnserved settings folder p q o u status
+given_back settings folder p mid q o u status m n before after x cause same y = record {
+  cause = subst (λ (l : List (Option Tables)). NoDoor settings l p.faults q.faults o u status) x.told (at_store cause);
   kept = λ some.
       let all = subst (λ (l : List (Option Tables)). list_all is_some l ≡ true) (sym (same ∙ x.told)) (all_told folder settings.pools p.kept some) in
       back_again folder settings.pools p.kept mid.kept q.kept some x.others (y.others all)
       (y.told (others_tell folder settings.pools p.kept mid.kept x.others some) all ∙ same ∙ x.told);
-  clock = clock;
 }
   where
-    at_store : NoDoor settings before m n s t status → NoDoor settings before p.faults q.faults s t status
-    at_store (no_memory is link) = no_memory is link
-    at_store (failed rose is link) =
-        failed (subst (λ (k : ℕ). Rose k q.faults) x.same_faults (counts_some n mid.faults q.faults y.counted (rose_above m n x.unfailed rose))) is link
-    at_store (bad_store place at bad prints) = bad_store place at bad prints
+    at_store : NoDoor settings before m n o u status → NoDoor settings before p.faults q.faults o u status
+    at_store (no_memory is same) = no_memory is same
+    at_store (failed rose is same) =
+        failed (subst (λ (k : ℕ). Rose k q.faults) x.same_faults (counts_some n mid.faults q.faults y.counted (rose_above m n x.unfailed rose))) is same
+    at_store (bad_store place at bad prints same) = bad_store place at bad prints same
 
--- a session over the keepers that were attached, which were then taken back
-pub kept_over : (settings : Settings) (folder : List ℕ) (p mid q : StoreState) (s t : LinkState) (a b : ℕ → Option (List ℕ)) (status m n : ℕ) (before after : List (Option Tables))
-    → AttachesAll p mid folder settings.pools before m → RunsOver settings before after m n s t a b status
+-- a command over the keepers that were attached, which were then taken back
+pub kept_over : (deed : Deed) (settings : Settings) (folder : List ℕ) (p mid q : StoreState) (o u : Outside) (status m n : ℕ) (before after : List (Option Tables))
+    → AttachesAll p mid folder settings.pools before m → RunsOver deed settings before after m n o u status
     → (list_all is_some before ≡ true → list_all is_some after ≡ true) → DetachesAll mid q folder settings.pools after n
-    → RunsKept settings folder p q s t a b status
-kept_over settings folder p mid q s t a b status m n before after x (with_door y) tells z = served (record {
+    → RunsKept deed settings folder p q o u status
+kept_over deed settings folder p mid q o u status m n before after x (with_door y) tells z = served (record {
   records = after;
   faults = n;
-  serves = subst (λ (l : List (Option Tables)). ServesKept settings l after n s t a b status) x.told y;
+  does = subst (λ (l : List (Option Tables)). DoesOver deed settings l after n o u status) x.told y;
   told = λ some. z.told (others_tell folder settings.pools p.kept mid.kept x.others some) (all some);
   others = at_places p.kept refl;
   counted = subst (λ (k : ℕ). CountsKeepers n k q.faults) x.same_faults z.counted;
@@ -109,5 +144,5 @@ kept_over settings folder p mid q s t a b status m n before after x (with_door y
     at_places : (k : Option Kept) → p.kept ≡ k → KeepsOthers folder settings.pools p.kept q.kept
     at_places None is = subst (λ (k : Option Kept). KeepsOthers folder settings.pools k q.kept) (sym is) tt
     at_places (Some k) is = others-trans folder settings.pools p.kept mid.kept q.kept x.others (z.others (all (ap is_some is)))
-kept_over settings folder p mid q s t a b status m n before after x (without_door cause same clock) tells z =
-    unserved (given_back settings folder p mid q s t a b status m n before after x cause same clock z)
+kept_over deed settings folder p mid q o u status m n before after x (without_door cause same) tells z =
+    unserved (given_back settings folder p mid q o u status m n before after x cause same z)

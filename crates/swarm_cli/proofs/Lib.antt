@@ -4,5 +4,8 @@ pub mod Counts
 pub mod Attached
 pub mod Refusals
 pub mod Sessions
+pub mod Doing
 pub mod KeptSessions
-pub mod Words
+pub mod Misfits
+pub mod Drilling
+pub mod Working

@@ -1,57 +1,42 @@
 -- What the program does.
-use Rattle.std.specs.Prelude.{◌≡◌, ◌⊎◌, ℕ, ◌&&◌, List, [], ◌∷◌, codes, Option, Some, None, if◌then◌else◌}
-use Rattle.std.specs.List.{flat_map}
-use Rattle.dimensions.specs.Alike.{same}
-use Rattle.sw_base.specs.Faults.{Rose}
-use Rattle.sw_base.specs.Link.{LinkState, IsClean, NoFault}
-use Rattle.swarm_model.specs.declared.pool_settings.Settings.{Settings}
-use Rattle.swarm_door.specs.Doors.{DoorState, IsFreshDoor}
-use Rattle.swarm_http.specs.declared.ended.Ended.{Ended}
-use Rattle.swarm_http.specs.declared.ended.Ended.TheVariants.{Closed, LastAsked, CutShort, BadHead, Retired, ReadFault, WriteFault, Memory}
-use Rattle.swarm_http.specs.Sends.{Written}
-use Rattle.swarm_http.specs.Exchange.{entries_of}
-use Rattle.swarm_http.specs.Answered.{IsAnswered}
+use Rattle.std.specs.Prelude.{◌≡◌, ◌⊎◌, ℕ, List, Option, Some, None}
+use Rattle.link_writer.specs.Printing.{Prints}
+use Rattle.swarm_policy.specs.Open.{open_settings}
+use Rattle.command_words.specs.Commands.{CommandValue, session, serve, trigger, collect, cancel, tasks, bots, drill}
+use Rattle.swarm_cli.specs.Clients.{RunsTrigger, RunsCollect, RunsCancel, RunsTasks, RunsBots}
+use Rattle.swarm_cli.specs.Deeds.{Deed}
+use Rattle.swarm_cli.specs.Deeds as deed
+use Rattle.swarm_cli.specs.Drills.{Drills}
+use Rattle.swarm_cli.specs.SettingsFile.{RunsNew, RunsFile}
+use Rattle.swarm_cli.specs.Surroundings.{Surroundings, OnlyConsole}
 
--- the status of an ending
-abbrev pub exit_status : Ended → ℕ
-exit_status Closed = 0
-exit_status LastAsked = 0
-exit_status Retired = 0
-exit_status ReadFault = 4
-exit_status WriteFault = 4
-exit_status Memory = 5
-exit_status CutShort = 7
-exit_status BadHead = 7
+-- a command over a door, under the settings of a file, or the open ones where no file is named
+abbrev pub RunsBy : Deed → Option (List ℕ) → Surroundings → Surroundings → ℕ → Type 0
+RunsBy what None x y status = RunsNew what open_settings x.outside y.outside status × (y.files ≡ x.files) × (y.store ≡ x.store) × (y.dialer ≡ x.dialer)
+RunsBy what (Some path) x y status = RunsFile what path x.files y.files x.store y.store x.outside y.outside status × (y.dialer ≡ x.dialer)
 
--- the words are the one word `session`
-abbrev pub AreSession : List (List ℕ) → Type 0
-AreSession words = words ≡ codes "session" ∷ []
+-- a command was carried out
+abbrev pub CarriesOut : CommandValue → Surroundings → Surroundings → ℕ → Type 0
+CarriesOut (session settings) x y status = RunsBy deed.session settings x y status
+CarriesOut (serve settings address workers connections) x y status = RunsBy (deed.serve address connections) settings x y status
+CarriesOut (drill cycles start) x y status = Drills start cycles x.outside.console y.outside.console status × OnlyConsole x y
+CarriesOut (trigger server caller file) x y status = RunsTrigger server caller file x y status
+CarriesOut (collect server caller polls every id) x y status = RunsCollect server caller polls every id x y status
+CarriesOut (cancel server caller kill id) x y status = RunsCancel server caller kill id x y status
+CarriesOut (tasks server caller pool state limit) x y status = RunsTasks server caller pool state limit x y status
+CarriesOut (bots server caller pool limit) x y status = RunsBots server caller pool limit x y status
 
--- the path of the settings' file, where the words are `session --settings FILE`
-abbrev pub settings_path : List (List ℕ) → Option (List ℕ)
-settings_path [] = None
-settings_path (word ∷ []) = None
-settings_path (word ∷ option ∷ []) = None
-settings_path (word ∷ option ∷ path ∷ []) = if same word (codes "session") && same option (codes "--settings") then Some path else None
-settings_path (word ∷ option ∷ path ∷ more ∷ words) = None
+-- the words are no command, and a text is printed that says so
+pub record PrintsRefusal (x y : Surroundings) (status : ℕ) : Type 0 where
+  pub text : List ℕ
+  pub prints : Prints text 2 x.outside.console y.outside.console status
+  pub only : OnlyConsole x y
 
--- One connection over a fresh door of these settings, which writes alone, under the number 0, to an
--- empty log of each pool. In the end each log is the entries of the exchanges, in order.
-pub record RunsSession (settings : Settings) (s t : LinkState) (a b : ℕ → Option (List ℕ)) (status : ℕ) : Type 0 where
-  pub ended : Ended
-  pub before : DoorState
-  pub after : DoorState
-  pub fresh_door : IsFreshDoor settings (λ p. []) before
-  pub answered : IsAnswered (record { link = s; clock = a; door = before }) (record { link = t; clock = b; door = after }) ended
-  pub logs_are : (p : ℕ) → after.seen p ≡ flat_map (entries_of p) answered.xs
-  pub status_is : status ≡ exit_status ended
+-- the command that the words ask for was carried out, or they ask for none
+abbrev pub RunsCommand : Option CommandValue → Surroundings → Surroundings → ℕ → Type 0
+RunsCommand None x y status = PrintsRefusal x y status
+RunsCommand (Some command) x y status = CarriesOut command x y status
 
--- the text was written whole and flushed, and the status is this; or a write or the flush failed
-pub record Prints (text : List ℕ) (good : ℕ) (s t : LinkState) (status : ℕ) : Type 0 where
-  pub back : List ℕ
-  pub written : Written s t text back
-  pub cause : ((status ≡ good) × (back ≡ []) × IsClean t × NoFault s t) ⊎ ((status ≡ 4) × Rose s.write_faults t.write_faults)
-
--- what is printed for words that are no command
-abbrev pub PrintsUsage : LinkState → LinkState → ℕ → Type 0
-PrintsUsage s t status = Prints (codes "usage\n") 2 s t status
+-- that, or there was no memory to read the words
+abbrev pub Runs : Option CommandValue → Surroundings → Surroundings → ℕ → Type 0
+Runs command x y status = RunsCommand command x y status ⊎ ((status ≡ 5) × (y ≡ x))

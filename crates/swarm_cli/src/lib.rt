@@ -1,21 +1,34 @@
-//! All that the program does, over a console, a clock, files and a store.
+//! All that the program does, over a console, a clock, files, a store, a listener and a dialer.
 //!
-//! [`run`] reads the words of the command line and carries them out. The word `session` serves one
-//! connection over the console, by `swarm_http`'s `session` through a door of its own with an empty
-//! log of each pool; `RunsSession` of `specs/Run.antt` is that contract. Its settings are the open
-//! ones, or with `--settings FILE` those of a file; `RunsFile` of `specs/SettingsFile.antt` says
-//! what a file comes to. Where the settings name a folder, the door is made of the records that the
-//! store has of each pool there, and the records grow with the logs; `RunsKept` of
-//! `specs/KeptRecords.antt` is that contract. Any other words print `usage`. The crate stands on
-//! `swarm_http`, `swarm_history`, `swarm_keeper`, `swarm_plain` and `swarm_policy`.
+//! [`run`] reads the words of the command line by `command_words` and carries them out. The words
+//! `session` and `serve` are carried out over a door of their own: `session` serves one connection
+//! over the console, by `swarm_http`'s `session`, and `serve` those that come at an address, by
+//! [`work`]; `Does` of `specs/Deeds.antt` says what each does to the door and to the outside, and
+//! `IsWorked` of `specs/Works.antt` what a worker does. Their settings are the open ones, or with
+//! `--settings FILE` those of a file; `RunsFile` of `specs/SettingsFile.antt` says what a file comes
+//! to. Where the settings name a folder, the door is made of the records that the store has of each
+//! pool there, and the records grow with the logs; `RunsKept` of `specs/KeptRecords.antt` is that
+//! contract, and `RunsBy` of `specs/Run.antt` holds them together. The word `drill` serves a
+//! session that is made from a number over a link in memory; `Drills` of `specs/Drills.antt` is its
+//! contract. The commands of a client are those of `swarm_client`, once their options are in their
+//! grammars; `RunsClient` of `specs/Clients.antt` says so. `serve` and `drill` end with the summary of the pools, which `pool_summaries` writes.
 #![tactic(auto)]
 
 mod attaching;
-mod command;
+mod clients;
+mod door_command;
+mod drill;
 mod kept_records;
+mod listening;
+mod misfit;
+mod options;
 mod printing;
 mod program;
 mod serving;
 mod settings_file;
+mod worked;
+mod worker;
 
 pub use program::run;
+pub use worked::{WorkStop, Worked};
+pub use worker::work;

@@ -1,25 +1,17 @@
 //! The lines that the program prints.
-ghost use Rattle.std.specs.Prelude.{◌≡◌, ℕ, IfOk, List, Option, string_bytes};
-ghost use Rattle.sw_base.specs.Link.{IsClean};
+ghost use Rattle.std.specs.Prelude.{◌≡◌, ℕ, IfOk, List, Option, codes, string_bytes};
+ghost use Rattle.sw_base.specs.Listeners.{ListenerState};
 ghost use Rattle.swarm_keeper.specs.Stores.{StoreState};
-ghost use Rattle.swarm_cli.specs.Run.{Prints};
+ghost use Rattle.link_writer.specs.Printing.{Prints};
+ghost use Rattle.swarm_cli.specs.Outside.{PrintsMade};
 ghost use Rattle.swarm_cli.specs.KeptRecords.{store_line as spec_store_line};
 ghost use Rattle.swarm_cli.specs.SettingsFile.{Refuses, settings_line as spec_settings_line};
 
 use arrayvec::ArrayString;
 use itoa::Buffer;
+use link_writer::print;
 use std::alloc::{AllocError, Global};
-use swarm_http::{Link, send_flushed};
-
-/// Prints a text, and answers the status: this one, or 4 where a write or the flush failed.
-pub(crate) fn print<L: Link>(console: &mut L, text: &[u8], status: u8) -> u8
-    ensures { Prints text.now status (L.state console.old) (L.state console.new) result }
-{
-    match send_flushed(console, text) {
-        Ok(()) => status,
-        Err(_) => 4,
-    }
-}
+use swarm_http::Link;
 
 fn settings_line(alloc: Global, place: &str, rule: &str) -> Result<String, AllocError>
     ensures { IfOk result (λ line. string_bytes line ≡ spec_settings_line place.now rule.now) }
@@ -29,10 +21,21 @@ fn settings_line(alloc: Global, place: &str, rule: &str) -> Result<String, Alloc
 
 /// Prints what is wrong with the settings, and where.
 pub(crate) fn print_refusal<L: Link>(alloc: Global, console: &mut L, place: &str, rule: &str) -> u8
-    ensures { (clock : ℕ → Option (List ℕ)) (store : StoreState) →
-        Refuses (spec_settings_line place.now rule.now) store store (L.state console.old) (L.state console.new) clock clock result }
+    ensures { (clock : ℕ → Option (List ℕ)) (listener : ListenerState) (store : StoreState) → Refuses (spec_settings_line place.now rule.now) store store
+        (record { console = L.state console.old; clock = clock; listener = listener })
+        (record { console = L.state console.new; clock = clock; listener = listener }) result }
 {
     match settings_line(alloc, place, rule) {
+        Ok(line) => print(console, line.as_bytes(), 3),
+        Err(_) => 5,
+    }
+}
+
+/// Prints that an option is out of its grammar.
+pub(crate) fn print_grammar<L: Link>(alloc: Global, console: &mut L, option: &str) -> u8
+    ensures { PrintsMade (spec_settings_line option.now (codes "grammar")) 3 (L.state console.old) (L.state console.new) result }
+{
+    match settings_line(alloc, option, "grammar") {
         Ok(line) => print(console, line.as_bytes(), 3),
         Err(_) => 5,
     }

@@ -1,58 +1,155 @@
-ghost use Rattle.std.specs.Prelude.{◌≡◌, IfSome, None, map, string_bytes};
+//! The words of the command line, carried out.
+ghost use Rattle.std.specs.Prelude.{◌≡◌, map, option_map, string_bytes};
+ghost use Rattle.sw_base.specs.Dialers.{DialerState};
 ghost use Rattle.sw_base.specs.Link.{IsClean};
-ghost use Rattle.swarm_policy.specs.Open.{open_settings};
-ghost use Rattle.swarm_cli.specs.Run.{AreSession, RunsSession, PrintsUsage, settings_path as spec_settings_path};
-ghost use Rattle.swarm_cli.specs.SettingsFile.{RunsFile};
+ghost use Rattle.command_words.specs.Commands.{HasRanges, command_of, value_of};
+ghost use Rattle.swarm_cli.specs.Handling.{HasRange, deed_of};
+ghost use Rattle.swarm_cli.specs.Run.{CarriesOut, Runs, RunsBy};
 
-use crate::command::{are_session, settings_path};
-use crate::printing::print;
-use crate::serving::run_open;
+use crate::clients::{run_bots, run_cancel, run_collect, run_tasks, run_trigger};
+use crate::door_command::DoorCommand;
+use crate::drill::run_drill;
+use crate::serving::run_new;
 use crate::settings_file::run_file;
+use command_words::{Command, Words, read_words};
+use link_writer::print;
 use std::alloc::Global;
-use sw_base::Files;
+use sw_base::{Dialer, Files, Listener};
 use swarm_http::{Clock, Link};
 use swarm_keeper::Store;
+use swarm_policy::open_settings;
+
+/// Carries a command out over a door, under the settings of a file, or the open ones where no file
+/// is named.
+fn run_door<L: Link, C: Clock, F: Files, P: Store, N: Listener>(
+    alloc: Global,
+    settings: &Option<String>,
+    command: &DoorCommand,
+    console: &mut L,
+    clock: &mut C,
+    files: &mut F,
+    store: &mut P,
+    listener: &mut N,
+) -> u8
+where
+    P::Keeper: Drop,
+    requires clean { IsClean (L.state console.old) }
+    requires range { HasRange command.now }
+    ensures { (dialer : DialerState) → RunsBy (deed_of command.now) (option_map string_bytes settings.now)
+        (record { files = F.state files.old; store = P.state store.old; outside = record { console = L.state console.old; clock = C.ahead clock.old; listener = N.state listener.old }; dialer = dialer; waited = C.waited clock.old })
+        (record { files = F.state files.new; store = P.state store.new; outside = record { console = L.state console.new; clock = C.ahead clock.new; listener = N.state listener.new }; dialer = dialer; waited = C.waited clock.new }) result }
+{
+    match settings {
+        None => match open_settings(alloc) {
+            Ok(settings) => run_new(alloc, &settings, command, console, clock, listener),
+            Err(_) => 5,
+        },
+        Some(path) => run_file(
+            alloc,
+            path.as_str(),
+            command,
+            console,
+            clock,
+            files,
+            store,
+            listener,
+        ),
+    }
+}
+
+fn carry_out<L: Link, C: Clock, F: Files, P: Store, N: Listener, W: Dialer>(
+    alloc: Global,
+    command: Command,
+    console: &mut L,
+    clock: &mut C,
+    files: &mut F,
+    store: &mut P,
+    listener: &mut N,
+    dialer: &mut W,
+) -> u8
+where
+    P::Keeper: Drop,
+    requires clean { IsClean (L.state console.old) }
+    requires ranges { HasRanges (value_of command) }
+    ensures { CarriesOut (value_of command)
+        (record { files = F.state files.old; store = P.state store.old; outside = record { console = L.state console.old; clock = C.ahead clock.old; listener = N.state listener.old }; dialer = W.state dialer.old; waited = C.waited clock.old })
+        (record { files = F.state files.new; store = P.state store.new; outside = record { console = L.state console.new; clock = C.ahead clock.new; listener = N.state listener.new }; dialer = W.state dialer.new; waited = C.waited clock.new }) result }
+{
+    match command {
+        Command::Session(session) => run_door(
+            alloc,
+            &session.settings,
+            &DoorCommand::Session,
+            console,
+            clock,
+            files,
+            store,
+            listener,
+        ),
+        Command::Serve(serve) => {
+            let command = DoorCommand::Serve {
+                address: serve.address,
+                connections: serve.connections,
+            };
+            run_door(
+                alloc,
+                &serve.settings,
+                &command,
+                console,
+                clock,
+                files,
+                store,
+                listener,
+            )
+        }
+        Command::Drill(drill) => run_drill(alloc, drill.start, drill.cycles, console),
+        Command::Trigger(words) => run_trigger(alloc, &words, console, files, dialer),
+        Command::Collect(words) => run_collect(alloc, &words, console, clock, dialer),
+        Command::Cancel(words) => run_cancel(alloc, &words, console, dialer),
+        Command::Tasks(words) => run_tasks(alloc, &words, console, dialer),
+        Command::Bots(words) => run_bots(alloc, &words, console, dialer),
+    }
+}
 
 /// Carries out the words of the command line, without the program's own name, and answers the
 /// status with which the program ends.
 ///
-/// The words are `session`, for the open settings, or `session --settings FILE`. The records of the
-/// pools are taken from the store, and given back to it, where the settings name a folder for them.
+/// The records of the pools are taken from the store, and given back to it, where the settings name
+/// a folder for them.
 ///
 /// | Status | Where |
 /// |---|---|
-/// | 0 | the input ended between requests, the last request asked to close, or 65536 were answered |
-/// | 2 | the words are no command; `usage` is printed |
-/// | 3 | the settings are refused, and `settings PLACE RULE` is printed; or the records of a pool are, and `store PLACE AT` is printed |
-/// | 4 | a read, a write or a flush on the console failed, or the file or the records could not be read |
-/// | 5 | there was no memory to begin with |
-/// | 7 | the input ended inside a request, or a head was refused |
-pub fn run<L: Link, C: Clock, F: Files, P: Store>(
+/// | 0 | the command did its whole work: the input of `session` ended between requests, its last request asked to close, or 65536 were answered; `serve` served as many connections as it may, or no more came; `drill` printed its counts |
+/// | 2 | the words are no command, or ask for help; the text that says so is printed |
+/// | 3 | the settings are refused, and `settings PLACE RULE` is printed; or the records of a pool are, and `store PLACE AT` is printed; or an option of a client's command is out of its grammar, and `settings OPTION grammar` is printed; or the file of `trigger` is not there or too long |
+/// | 4 | a read, a write or a flush on the console failed, the file or the records could not be read, no connection could be accepted, or the server could not be reached |
+/// | 5 | there was no memory |
+/// | 6 | the server refused the request of a client's command, and the refusal's code is printed |
+/// | 7 | the input of `session` ended inside a request, or a head was refused |
+/// | 8 | `collect` asked as often as it may, and the task has not ended |
+/// | 9 | what the server sent is no reply |
+pub fn run<L: Link, C: Clock, F: Files, P: Store, N: Listener, W: Dialer>(
     alloc: Global,
     words: &[String],
     console: &mut L,
     clock: &mut C,
     files: &mut F,
     store: &mut P,
+    listener: &mut N,
+    dialer: &mut W,
 ) -> u8
 where
     P::Keeper: Drop,
     requires { IsClean (L.state console.old) }
-    ensures session { AreSession (map string_bytes words.now) →
-        RunsSession open_settings (L.state console.old) (L.state console.new) (C.ahead clock.old) (C.ahead clock.new) result }
-    ensures settings { IfSome (spec_settings_path (map string_bytes words.now)) (λ path.
-        RunsFile path (F.state files.old) (F.state files.new) (P.state store.old) (P.state store.new)
-        (L.state console.old) (L.state console.new) (C.ahead clock.old) (C.ahead clock.new) result) }
-    ensures usage { ¬ (AreSession (map string_bytes words.now)) → spec_settings_path (map string_bytes words.now) ≡ None →
-        PrintsUsage (L.state console.old) (L.state console.new) result }
-    ensures files { spec_settings_path (map string_bytes words.now) ≡ None → F.state files.new ≡ F.state files.old }
-    ensures store { spec_settings_path (map string_bytes words.now) ≡ None → P.state store.new ≡ P.state store.old }
+    ensures { Runs (command_of (map string_bytes words.now))
+        (record { files = F.state files.old; store = P.state store.old; outside = record { console = L.state console.old; clock = C.ahead clock.old; listener = N.state listener.old }; dialer = W.state dialer.old; waited = C.waited clock.old })
+        (record { files = F.state files.new; store = P.state store.new; outside = record { console = L.state console.new; clock = C.ahead clock.new; listener = N.state listener.new }; dialer = W.state dialer.new; waited = C.waited clock.new }) result }
 {
-    if are_session(words) {
-        return run_open(alloc, console, clock);
-    }
-    match settings_path(words) {
-        Some(path) => run_file(alloc, path, console, clock, files, store),
-        None => print(console, b"usage\n", 2),
+    match read_words(alloc, words) {
+        Ok(Words::Command(command)) => carry_out(
+            alloc, command, console, clock, files, store, listener, dialer,
+        ),
+        Ok(Words::Refused { text }) => print(console, text.as_bytes(), 2),
+        Err(_) => 5,
     }
 }

@@ -1,20 +1,39 @@
-//! One connection over the console.
-ghost use Rattle.std.specs.Prelude.{◌≡◌, map, length, sum_by, is_some, IfOk, IsTrue};
+//! What is done over a door of one's own.
+ghost use Rattle.std.specs.Prelude.{◌≡◌, ◌≤◌, ◌^◌, map, length, sum_by, is_some, IfOk, IsTrue};
 ghost use Rattle.std.specs.List.{list_all};
 ghost use Rattle.sw_base.specs.Link.{IsClean};
 ghost use Rattle.swarm_model.specs.Settings.{are_settings};
-ghost use Rattle.swarm_policy.specs.Open.{open_settings as spec_open_settings};
-ghost use Rattle.swarm_cli.specs.Run.{RunsSession, exit_status};
+ghost use Rattle.swarm_http.specs.Answered.{KeepsDoor};
+ghost use Rattle.swarm_history.specs.Machines.{logs_of};
+ghost use Rattle.pool_summaries.specs.Summaries.{summary_of};
+ghost use Rattle.swarm_cli.specs.Outside.{PrintsMade};
+ghost use Rattle.swarm_cli.specs.Deeds.{exit_status, work_status, start_status};
+ghost use Rattle.swarm_cli.specs.Handling.{IsUsed, IsConcluded, deed_of, HasRange};
 ghost use Rattle.swarm_cli.specs.KeptRecords.{RunsOver, TellsFault};
+ghost use Rattle.swarm_cli.specs.SettingsFile.{RunsNew};
 
+use crate::WorkStop;
+use crate::door_command::DoorCommand;
+use crate::listening::serve_listener;
 use crate::printing::print_bad_store;
+use link_writer::print;
+use pool_summaries::summary;
 use std::alloc::{AllocError, Global};
+use sw_base::{Listener, StartFault};
 use swarm_history::{LoadFault, PlainDoor};
-use swarm_http::{Clock, Ended, Link, session};
+use swarm_http::{Clock, Door, Ended, Link, session};
 use swarm_keeper::{Keeper, NoKeeper};
-use swarm_model::{PoolSettings, Settings};
+use swarm_model::{Machine, PoolSettings, Settings};
 use swarm_plain::ListPool;
-use swarm_policy::open_settings;
+
+/// What comes of the use of a door.
+#[derive(Clone, Copy, Debug, PartialEq, Eq)]
+enum Used {
+    /// Nothing is printed any more, and this is the status.
+    Ended(u8),
+    /// A worker stopped, and the summary is to be printed.
+    Worked(WorkStop),
+}
 
 fn exit_status(ended: Ended) -> u8
     ensures { result ≡ exit_status ended }
@@ -27,47 +46,104 @@ fn exit_status(ended: Ended) -> u8
     }
 }
 
-/// For each pool a keeper that keeps nothing.
-fn no_keepers(alloc: Global, pools: &[PoolSettings]) -> Result<Vec<NoKeeper>, AllocError>
-    ensures { IfOk result (λ keepers. length keepers.items ≡ length pools.now) }
+fn work_status(stop: WorkStop) -> u8
+    ensures { result ≡ work_status stop }
 {
-    let mut keepers = Vec::new(alloc);
-    for _pool in pools {
-        keepers.push(NoKeeper)?;
+    match stop {
+        WorkStop::Done | WorkStop::NoMore => 0,
+        WorkStop::Failed => 4,
+        WorkStop::Memory => 5,
     }
-    Ok(keepers)
 }
 
-/// Serves one connection under these settings, and keeps nothing.
-pub(crate) fn run_session<L: Link, C: Clock>(
+pub(crate) fn start_status(fault: StartFault) -> u8
+    ensures { result ≡ start_status fault }
+{
+    match fault {
+        StartFault::Memory => 5,
+        StartFault::Failed => 4,
+    }
+}
+
+/// Serves the console, or the links that come.
+fn use_door<D: Door, L: Link, C: Clock, N: Listener>(
     alloc: Global,
     settings: &Settings,
+    command: &DoorCommand,
+    door: &mut D,
     console: &mut L,
     clock: &mut C,
-) -> u8
+    listener: &mut N,
+) -> Used
+    requires settings { (D.state door.old).settings ≡ settings.now }
     requires rules { IsTrue (are_settings settings.now) }
     requires clean { IsClean (L.state console.old) }
-    ensures { RunsSession settings.now (L.state console.old) (L.state console.new) (C.ahead clock.old) (C.ahead clock.new) result }
+    requires range { HasRange command.now }
+    requires calls { (D.state door.old).calls ≡ 0 }
+    requires alone { IsTrue (D.state door.old).writer.alone }
+    ensures used { IsUsed command.now (D.state door.old) (D.state door.new)
+        (record { console = L.state console.old; clock = C.ahead clock.old; listener = N.state listener.old })
+        (record { console = L.state console.new; clock = C.ahead clock.new; listener = N.state listener.new }) result }
+    ensures door { KeepsDoor (2 ^ 40) (D.state door.old) (D.state door.new) }
 {
-    let Ok(keepers) = no_keepers(alloc, settings.pools.as_slice()) else {
-        return exit_status(Ended::Memory);
-    };
-    let Ok(mut door) = PlainDoor::<ListPool, NoKeeper>::new(alloc, settings, keepers) else {
-        return exit_status(Ended::Memory);
-    };
-    let ended = session(alloc, settings, &mut door, clock, console);
-    exit_status(ended)
+    match command {
+        DoorCommand::Session => {
+            let ended = session(alloc, settings, door, clock, console);
+            Used::Ended(exit_status(ended))
+        }
+        DoorCommand::Serve {
+            address,
+            connections,
+        } => {
+            let address = address.as_str();
+            match serve_listener(
+                alloc,
+                settings,
+                address,
+                *connections,
+                door,
+                clock,
+                listener,
+            ) {
+                Ok(stop) => Used::Worked(stop),
+                Err(fault) => Used::Ended(start_status(fault)),
+            }
+        }
+    }
 }
 
-/// Serves one connection under the settings of a server that was given none.
-pub(crate) fn run_open<L: Link, C: Clock>(alloc: Global, console: &mut L, clock: &mut C) -> u8
-    requires { IsClean (L.state console.old) }
-    ensures { RunsSession spec_open_settings (L.state console.old) (L.state console.new) (C.ahead clock.old) (C.ahead clock.new) result }
+/// Prints the summary of the pools, and answers the status.
+pub(crate) fn print_summary<L: Link, M: Machine>(
+    alloc: Global,
+    pools: &[PoolSettings],
+    machines: &[M],
+    console: &mut L,
+    status: u8,
+) -> u8
+    requires count { length machines.now ≡ length pools.now }
+    ensures { PrintsMade (summary_of pools.now (logs_of (map M.kept machines.now))) status (L.state console.old) (L.state console.new) result }
 {
-    let Ok(settings) = open_settings(alloc) else {
-        return exit_status(Ended::Memory);
-    };
-    run_session(alloc, &settings, console, clock)
+    match summary(alloc, pools, machines) {
+        Ok(text) => print(console, text.as_bytes(), status),
+        Err(_) => 5,
+    }
+}
+
+/// Prints what is still to be printed, and answers the status.
+fn conclude<L: Link, M: Machine>(
+    alloc: Global,
+    pools: &[PoolSettings],
+    machines: &[M],
+    console: &mut L,
+    used: Used,
+) -> u8
+    requires count { length machines.now ≡ length pools.now }
+    ensures { IsConcluded used (summary_of pools.now (logs_of (map M.kept machines.now))) (L.state console.old) (L.state console.new) result }
+{
+    match used {
+        Used::Ended(status) => status,
+        Used::Worked(stop) => print_summary(alloc, pools, machines, console, work_status(stop)),
+    }
 }
 
 /// Tells why no door was made, and answers the status.
@@ -81,28 +157,74 @@ fn tell_fault<L: Link>(console: &mut L, fault: LoadFault) -> u8
     }
 }
 
-/// Serves one connection over keepers, one for each pool, and answers them with the status.
-pub(crate) fn serve_kept<L: Link, C: Clock, K: Keeper + Drop>(
+/// Carries a command out over keepers, one for each pool, and answers them with the status.
+pub(crate) fn run_over<L: Link, C: Clock, N: Listener, K: Keeper + Drop>(
     alloc: Global,
     settings: &Settings,
+    command: &DoorCommand,
     console: &mut L,
     clock: &mut C,
+    listener: &mut N,
     keepers: Vec<K>,
 ) -> (u8, Vec<K>)
     requires rules { IsTrue (are_settings settings.now) }
     requires clean { IsClean (L.state console.old) }
+    requires range { HasRange command.now }
     requires count { length keepers.items ≡ length settings.now.pools }
-    ensures runs { RunsOver settings.now (map K.tables keepers.items) (map K.tables result.1.items) (sum_by K.faults keepers.items) (sum_by K.faults result.1.items)
-        (L.state console.old) (L.state console.new) (C.ahead clock.old) (C.ahead clock.new) result.0 }
+    ensures runs { RunsOver (deed_of command.now) settings.now (map K.tables keepers.items) (map K.tables result.1.items) (sum_by K.faults keepers.items) (sum_by K.faults result.1.items)
+        (record { console = L.state console.old; clock = C.ahead clock.old; listener = N.state listener.old })
+        (record { console = L.state console.new; clock = C.ahead clock.new; listener = N.state listener.new }) result.0 }
+    ensures new { IsTrue K.SURE → RunsNew (deed_of command.now) settings.now
+        (record { console = L.state console.old; clock = C.ahead clock.old; listener = N.state listener.old })
+        (record { console = L.state console.new; clock = C.ahead clock.new; listener = N.state listener.new }) result.0 }
     ensures count { length result.1.items ≡ length settings.now.pools }
     ensures told { IsTrue (list_all is_some (map K.tables keepers.items)) → IsTrue (list_all is_some (map K.tables result.1.items)) }
 {
     match PlainDoor::<ListPool, K>::new(alloc, settings, keepers) {
         Ok(mut door) => {
-            let ended = session(alloc, settings, &mut door, clock, console);
-            let (_, keepers) = door.end();
-            (exit_status(ended), keepers)
+            let used = use_door(
+                alloc, settings, command, &mut door, console, clock, listener,
+            );
+            let (machines, keepers) = door.end();
+            let pools = settings.pools.as_slice();
+            (conclude(alloc, pools, &machines, console, used), keepers)
         }
         Err((fault, keepers)) => (tell_fault(console, fault), keepers),
+    }
+}
+
+/// For each pool a keeper that keeps nothing.
+pub(crate) fn no_keepers(alloc: Global, pools: &[PoolSettings]) -> Result<Vec<NoKeeper>, AllocError>
+    ensures { IfOk result (λ keepers. length keepers.items ≡ length pools.now) }
+{
+    let mut keepers = Vec::new(alloc);
+    for _pool in pools {
+        keepers.push(NoKeeper)?;
+    }
+    Ok(keepers)
+}
+
+/// Carries a command out over new logs, of which nothing is kept.
+pub(crate) fn run_new<L: Link, C: Clock, N: Listener>(
+    alloc: Global,
+    settings: &Settings,
+    command: &DoorCommand,
+    console: &mut L,
+    clock: &mut C,
+    listener: &mut N,
+) -> u8
+    requires rules { IsTrue (are_settings settings.now) }
+    requires clean { IsClean (L.state console.old) }
+    requires range { HasRange command.now }
+    ensures { RunsNew (deed_of command.now) settings.now
+        (record { console = L.state console.old; clock = C.ahead clock.old; listener = N.state listener.old })
+        (record { console = L.state console.new; clock = C.ahead clock.new; listener = N.state listener.new }) result }
+{
+    match no_keepers(alloc, settings.pools.as_slice()) {
+        Ok(keepers) => {
+            let (status, _) = run_over(alloc, settings, command, console, clock, listener, keepers);
+            status
+        }
+        Err(_) => 5,
     }
 }

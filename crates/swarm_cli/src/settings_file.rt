@@ -1,16 +1,19 @@
-//! A session with the settings of a file.
+//! A command with the settings of a file.
 ghost use Rattle.std.specs.Prelude.{ℕ, IsTrue, List, Option};
 ghost use Rattle.sw_base.specs.Link.{IsClean};
+ghost use Rattle.sw_base.specs.Listeners.{ListenerState};
 ghost use Rattle.swarm_keeper.specs.Stores.{StoreState};
 ghost use Rattle.swarm_model.specs.Settings.{are_settings};
 ghost use Rattle.swarm_policy.specs.Pools.{have_own_names};
+ghost use Rattle.swarm_cli.specs.Handling.{deed_of, HasRange};
 ghost use Rattle.swarm_cli.specs.SettingsFile.{PrintsFault, RunsUnder, RunsText, RunsFile};
 
+use crate::door_command::DoorCommand;
 use crate::kept_records::run_kept;
 use crate::printing::print_refusal;
-use crate::serving::run_session;
+use crate::serving::run_new;
 use std::alloc::Global;
-use sw_base::{FileFault, Files};
+use sw_base::{FileFault, Files, Listener};
 use swarm_http::{Clock, Link};
 use swarm_keeper::Store;
 use swarm_model::Settings;
@@ -19,29 +22,44 @@ use swarm_policy::{SettingsFault, read_settings};
 /// The most bytes of a file with settings.
 const SETTINGS_SIZE: u64 = 1_048_576;
 
-fn run_accepted<L: Link, C: Clock, P: Store>(
+fn run_accepted<L: Link, C: Clock, P: Store, N: Listener>(
     alloc: Global,
     settings: &Settings,
+    command: &DoorCommand,
     console: &mut L,
     clock: &mut C,
     store: &mut P,
+    listener: &mut N,
 ) -> u8
 where
     P::Keeper: Drop,
     requires rules { IsTrue (are_settings settings.now) }
     requires own_names { IsTrue (have_own_names settings.now.pools) }
     requires clean { IsClean (L.state console.old) }
-    ensures { RunsUnder settings.now.store settings.now (P.state store.old) (P.state store.new)
-        (L.state console.old) (L.state console.new) (C.ahead clock.old) (C.ahead clock.new) result }
+    requires range { HasRange command.now }
+    ensures { RunsUnder (deed_of command.now) settings.now.store settings.now (P.state store.old) (P.state store.new)
+        (record { console = L.state console.old; clock = C.ahead clock.old; listener = N.state listener.old })
+        (record { console = L.state console.new; clock = C.ahead clock.new; listener = N.state listener.new }) result }
 {
     match &settings.store {
-        None => run_session(alloc, settings, console, clock),
-        Some(folder) => run_kept(alloc, settings, folder.as_str(), console, clock, store),
+        None => run_new(alloc, settings, command, console, clock, listener),
+        Some(folder) => run_kept(
+            alloc,
+            settings,
+            folder.as_str(),
+            command,
+            console,
+            clock,
+            store,
+            listener,
+        ),
     }
 }
 
 fn print_fault<L: Link>(alloc: Global, console: &mut L, fault: &SettingsFault) -> u8
-    ensures { (clock : ℕ → Option (List ℕ)) (store : StoreState) → PrintsFault fault.now store store (L.state console.old) (L.state console.new) clock clock result }
+    ensures { (clock : ℕ → Option (List ℕ)) (listener : ListenerState) (store : StoreState) → PrintsFault fault.now store store
+        (record { console = L.state console.old; clock = clock; listener = listener })
+        (record { console = L.state console.new; clock = clock; listener = listener }) result }
 {
     match fault {
         SettingsFault::Memory => 5,
@@ -51,43 +69,51 @@ fn print_fault<L: Link>(alloc: Global, console: &mut L, fault: &SettingsFault) -
     }
 }
 
-fn run_text<L: Link, C: Clock, P: Store>(
+fn run_text<L: Link, C: Clock, P: Store, N: Listener>(
     alloc: Global,
     text: &[u8],
+    command: &DoorCommand,
     console: &mut L,
     clock: &mut C,
     store: &mut P,
+    listener: &mut N,
 ) -> u8
 where
     P::Keeper: Drop,
-    requires { IsClean (L.state console.old) }
-    ensures { RunsText text.now (P.state store.old) (P.state store.new)
-        (L.state console.old) (L.state console.new) (C.ahead clock.old) (C.ahead clock.new) result }
+    requires clean { IsClean (L.state console.old) }
+    requires range { HasRange command.now }
+    ensures { RunsText (deed_of command.now) text.now (P.state store.old) (P.state store.new)
+        (record { console = L.state console.old; clock = C.ahead clock.old; listener = N.state listener.old })
+        (record { console = L.state console.new; clock = C.ahead clock.new; listener = N.state listener.new }) result }
 {
     match read_settings(alloc, text) {
-        Ok(settings) => run_accepted(alloc, &settings, console, clock, store),
+        Ok(settings) => run_accepted(alloc, &settings, command, console, clock, store, listener),
         Err(fault) => print_fault(alloc, console, &fault),
     }
 }
 
-/// Serves one connection under the settings of the file at a path, or prints what is wrong with
+/// Carries a command out under the settings of the file at a path, or prints what is wrong with
 /// them.
-pub(crate) fn run_file<L: Link, C: Clock, F: Files, P: Store>(
+pub(crate) fn run_file<L: Link, C: Clock, F: Files, P: Store, N: Listener>(
     alloc: Global,
     path: &str,
+    command: &DoorCommand,
     console: &mut L,
     clock: &mut C,
     files: &mut F,
     store: &mut P,
+    listener: &mut N,
 ) -> u8
 where
     P::Keeper: Drop,
-    requires { IsClean (L.state console.old) }
-    ensures { RunsFile path.now (F.state files.old) (F.state files.new) (P.state store.old) (P.state store.new)
-        (L.state console.old) (L.state console.new) (C.ahead clock.old) (C.ahead clock.new) result }
+    requires clean { IsClean (L.state console.old) }
+    requires range { HasRange command.now }
+    ensures { RunsFile (deed_of command.now) path.now (F.state files.old) (F.state files.new) (P.state store.old) (P.state store.new)
+        (record { console = L.state console.old; clock = C.ahead clock.old; listener = N.state listener.old })
+        (record { console = L.state console.new; clock = C.ahead clock.new; listener = N.state listener.new }) result }
 {
     match files.load(alloc, path, SETTINGS_SIZE) {
-        Ok(Some(text)) => run_text(alloc, &text, console, clock, store),
+        Ok(Some(text)) => run_text(alloc, &text, command, console, clock, store, listener),
         Ok(None) => print_refusal(alloc, console, path, "absent"),
         Err(FileFault::TooLong) => print_refusal(alloc, console, path, "count"),
         Err(FileFault::Failed) => 4,

@@ -1,8 +1,9 @@
 -- What a door tells, and what a call does to it.
-use Rattle.std.specs.Prelude.{◌≡◌, ◌≢◌, ⊤, ℕ, Bool, true, false, ◌+◌, ◌≤◌, List, [], ◌∷◌, length, slice_get, None, Result, Ok, Err, IsSomeAnd, IsTrue}
-use Rattle.std.specs.List.{AllZip}
+use Rattle.std.specs.Prelude.{◌≡◌, ◌≢◌, ⊤, ℕ, Bool, true, false, ◌+◌, ◌≤◌, List, [], ◌∷◌, length, slice_get, Option, None, is_some, Result, Ok, Err, IfSome, IsSomeAnd, IsTrue}
+use Rattle.std.specs.List.{All, AllZip}
 use Rattle.sha2.specs.Sha256.{sha256}
 use Rattle.sw_base.specs.Faults.{Rose}
+use Rattle.swarm_keeper.specs.Tables.{Tables}
 use Rattle.swarm_model.specs.declared.pool_settings.Settings.{Settings}
 use Rattle.swarm_model.specs.declared.pool_settings.PoolSettings.{PoolSettings}
 use Rattle.swarm_model.specs.declared.entry.Entry.{Entry}
@@ -11,6 +12,8 @@ use Rattle.swarm_model.specs.declared.reply.Reply.{Reply}
 use Rattle.swarm_model.specs.declared.reply.Reply.TheVariants as reply
 use Rattle.swarm_model.specs.declared.rule.Rule.{Rule}
 use Rattle.swarm_model.specs.Effects.{opening}
+use Rattle.swarm_model.specs.Finding.{blob_of}
+use Rattle.swarm_model.specs.History.{replay}
 use Rattle.swarm_model.specs.Points.{Call, Growth, IsPoint, IsStopped}
 use Rattle.swarm_door.specs.declared.door.CallFault.{CallFault}
 use Rattle.swarm_door.specs.declared.door.CallFault.TheVariants as fault
@@ -25,11 +28,13 @@ pub record Writer : Type 0 where
   pub numbers : ℕ → ℕ
   pub alone : Bool
 
--- The settings with which the door was made, the entries that it has seen of each pool, how it
--- writes, how often its keepers failed, and how many calls were made on it.
+-- The settings with which the door was made, the entries that it has seen of each pool, what its keepers
+-- tell of each pool's records, in the order of the pools, how it writes, how often its keepers failed,
+-- and how many calls were made on it.
 pub record DoorState : Type 0 where
   pub settings : Settings
   pub seen : Logs
+  pub records : List (Option Tables)
   pub writer : Writer
   pub faults : ℕ
   pub calls : ℕ
@@ -37,6 +42,19 @@ pub record DoorState : Type 0 where
 -- every other pool's log stays
 abbrev pub Elsewhere : ℕ → Logs → Logs → Type 0
 Elsewhere place old new = (p : ℕ) → p ≢ place → new p ≡ old p
+
+-- where the records of a pool are told, each blob in them is one that the pool's log leaves
+abbrev pub HasNoOthers : PoolSettings → Option Tables → List Entry → Type 0
+HasNoOthers pool told log = IfSome told (λ t. All (λ blob. IsTrue (is_some (blob_of (replay (opening pool) log) blob.0))) t.blobs)
+
+-- this holds of the pool at a place
+abbrev pub HasNoOthersAt : List PoolSettings → List (Option Tables) → Logs → ℕ → Type 0
+HasNoOthersAt pools records logs place =
+    IfSome (slice_get pools place) (λ pool. IfSome (slice_get records place) (λ told. HasNoOthers pool told (logs place)))
+
+-- wherever the records had no other blobs, they have none still
+abbrev pub AddsNoOthers : DoorState → DoorState → Type 0
+AddsNoOthers old new = (p : ℕ) → HasNoOthersAt old.settings.pools old.records old.seen p → HasNoOthersAt new.settings.pools new.records new.seen p
 
 -- bytes of the part's digest, as many as the part needs
 abbrev pub IsPieceOf : Part → List ℕ → Type 0
@@ -84,6 +102,7 @@ pub record IsCall (old new : DoorState) (place : ℕ) (call : Call) (result : Re
   pub growth : Growth
   pub done : IsSomeAnd (slice_get old.settings.pools place) (λ pool. IsPoolCall pool old.writer.alone call (old.seen place) (new.seen place) growth result)
   pub elsewhere : Elsewhere place old.seen new.seen
+  pub no_other_blobs : AddsNoOthers old new
   pub settings : new.settings ≡ old.settings
   pub writer : new.writer ≡ old.writer
   pub faults : old.faults ≤ new.faults

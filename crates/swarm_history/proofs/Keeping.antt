@@ -12,7 +12,7 @@ use Rattle.swarm_laws.proofs.Alike.{same_is, is_same, same_self}
 use Rattle.swarm_model.specs.declared.entry.Entry.{Entry}
 use Rattle.swarm_model.specs.Bytes.{HeldBytes, new_digest, removed_digest, with_bytes, without_bytes, with_new, without_removed}
 use Rattle.swarm_model.specs.MachineState.{MachineState}
-use Rattle.swarm_history.specs.Records.{AreTold}
+use Rattle.swarm_history.specs.Records.{AreTold, KeepsEntry}
 use Rattle.swarm_history.specs.Settling.{with_entry}
 
 -- blobs as they are kept
@@ -117,15 +117,29 @@ pub content_is : (bytes : Option (Bor (List ℕ))) (other content : Bor (List �
 content_is None other content is = tt
 content_is (Some b) other content is = ap (λ (r : Bor (List ℕ)). r.now) is
 
--- where they are told
-pub told_after : (kept : MachineState) (told : Option Tables) (entry : Entry) (line content : List ℕ) (bytes added removed : Option (List ℕ)) → entry_of_line line ≡ Some entry → IsContent bytes content
+-- what is appended, added and removed is the entry's
+pub keeps_entry : (kept : MachineState) (told : Option Tables) (entry : Entry) (line content : List ℕ) (bytes added removed : Option (List ℕ)) → entry_of_line line ≡ Some entry → IsContent bytes content
     → added ≡ new_digest kept.pool entry.kind → removed ≡ removed_digest kept.pool entry.kind
-    → (IsTrue (is_some (new_digest kept.pool entry.kind)) → IsTrue (is_some bytes)) → AreTold told kept
-    → AreTold (option_map (appended line added content removed) told) (with_entry kept entry bytes)
-told_after kept None entry line content bytes added removed is has adds drops whole are = tt
-told_after kept (Some t) entry line content bytes added removed is has adds drops whole are = rw (adds, drops) (records_after kept t entry line content bytes is has whole are)
+    → KeepsEntry kept entry bytes told (option_map (appended line added content removed) told)
+keeps_entry kept None entry line content bytes added removed is has adds drops = refl
+keeps_entry kept (Some t) entry line content bytes added removed is has adds drops = record {
+  line = line;
+  reads_back = is;
+  content = content;
+  content_is = has;
+  tables = rw (adds, drops) refl;
+}
 
 -- a sure keeper tells no records
-pub untold : (sure tells : Bool) (told : Option Tables) (kept : MachineState) → (sure && tells) ≡ false → is_some told ≡ tells → sure ≡ true → AreTold told kept
-untold sure tells None kept sure_untold is sure_is = tt
-untold sure tells (Some t) kept sure_untold is sure_is = absurd (cc)
+pub untold : (sure tells : Bool) (told : Option Tables) (kept : MachineState) (entry : Entry) (bytes : Option (List ℕ)) → (sure && tells) ≡ false → is_some told ≡ tells → sure ≡ true
+    → KeepsEntry kept entry bytes told told
+untold sure tells None kept entry bytes sure_untold is sure_is = refl
+untold sure tells (Some t) kept entry bytes sure_untold is sure_is = absurd (cc)
+
+-- where they are told, the records are those of the machine with the entry
+pub told_after : (kept : MachineState) (told new : Option Tables) (entry : Entry) (bytes : Option (List ℕ)) → KeepsEntry kept entry bytes told new
+    → (IsTrue (is_some (new_digest kept.pool entry.kind)) → IsTrue (is_some bytes)) → AreTold told kept → AreTold new (with_entry kept entry bytes)
+told_after kept None new entry bytes keeps whole are = subst (λ (o : Option Tables). AreTold o (with_entry kept entry bytes)) (sym keeps) tt
+told_after kept (Some t) new entry bytes keeps whole are =
+    subst (λ (o : Option Tables). AreTold o (with_entry kept entry bytes)) (sym keeps.tables)
+    (records_after kept t entry keeps.line keeps.content bytes keeps.reads_back keeps.content_is whole are)

@@ -5,6 +5,7 @@ mod Keepers
 mod Keeping
 mod LoadedMachines
 mod Named
+mod Others
 pub mod OwnPoints
 pub mod Machines
 mod Refusals

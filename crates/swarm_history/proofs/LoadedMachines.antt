@@ -122,10 +122,10 @@ abbrev with_pools : Option (List ℕ) → List PoolSettings → Settings
 with_pools store pools = record { store = store; pools = pools }
 
 -- a door over them is fresh
-pub fresh_door : (settings : Settings) (store : Option (List ℕ)) (tables : List (Option Tables)) (machines : List MachineState) (faults : ℕ) → store ≡ settings.store
+pub fresh_door : (settings : Settings) (store : Option (List ℕ)) (tables records : List (Option Tables)) (machines : List MachineState) (faults : ℕ) → store ≡ settings.store
     → length machines ≡ length settings.pools → AreLoaded settings.pools tables machines
-    → IsFreshDoor settings (own_door store machines faults 0).seen (own_door store machines faults 0)
-fresh_door settings store tables machines faults stored all are = record {
+    → IsFreshDoor settings (own_door store machines records faults 0).seen (own_door store machines records faults 0)
+fresh_door settings store tables records machines faults stored all are = record {
   settings_are = ap (λ (s : Option (List ℕ)). with_pools s (pools_of machines)) stored ∙ ap (λ (pools : List PoolSettings). with_pools settings.store pools) (loaded_pools settings.pools tables machines all are);
   seen = λ p. refl;
   numbers = λ p. refl;

@@ -4,6 +4,7 @@ use Rattle.std.specs.Prelude.{IsSomeAnd, slice_get}
 use Rattle.std.specs.List.{All}
 use Rattle.std.proofs.lemmas.List.Elements.{All-set}
 use Rattle.std.proofs.lemmas.List.{map-set, get_or-map, get_or-set_other, length-map}
+use Rattle.swarm_keeper.specs.Tables.{Tables}
 use Rattle.swarm_model.specs.declared.pool_settings.Settings.{Settings}
 use Rattle.swarm_model.specs.declared.pool_settings.PoolSettings.{PoolSettings}
 use Rattle.swarm_model.specs.declared.entry.Entry.{Entry}
@@ -11,8 +12,9 @@ use Rattle.swarm_model.specs.MachineState.{MachineState, AreHeld}
 use Rattle.swarm_model.specs.Points.{Call, Growth}
 use Rattle.swarm_door.specs.declared.door.Answered.{Answered}
 use Rattle.swarm_door.specs.declared.door.CallFault.{CallFault}
-use Rattle.swarm_door.specs.Doors.{IsPoolCall, IsCall, CountsKeeper, Elsewhere}
+use Rattle.swarm_door.specs.Doors.{IsPoolCall, IsCall, CountsKeeper, Elsewhere, HasNoOthersAt}
 use Rattle.swarm_history.specs.Machines.{pools_of, logs_of, own_door}
+use Rattle.swarm_history.specs.Records.{HoldsNoOthers}
 
 -- what holds of the pool at a place holds of its machine's settings
 of_machine : (Q : PoolSettings → Type 0) (machines : List MachineState) (place : ℕ) (old : MachineState) → old ≡ get_or machines place old
@@ -48,15 +50,32 @@ pools_stay (m ∷ machines) (suc place) old new is same =
 abbrev with_pools : Option (List ℕ) → List PoolSettings → Settings
 with_pools store pools = record { store = store; pools = pools }
 
-called : (store : Option (List ℕ)) (machines : List MachineState) (before now calls place : ℕ) (call : Call) (result : Result Answered CallFault) (old new : MachineState)
-    → place < length machines → old ≡ get_or machines place old → new.pool.settings ≡ old.pool.settings
-    → before ≤ now → CountsKeeper result before now
+-- where the records at a place get no other blobs, those of no pool do
+no_others_set : (machines : List MachineState) (tables : List (Option Tables)) (place : ℕ) (old new : MachineState) (told now : Option Tables)
+    → place < length machines → place < length tables → old ≡ get_or machines place old → told ≡ get_or tables place told
+    → (HoldsNoOthers told old → HoldsNoOthers now new)
+    → (p : ℕ) → HasNoOthersAt (pools_of machines) tables (logs_of machines) p
+    → HasNoOthersAt (pools_of (set machines place new)) (set tables place now) (logs_of (set machines place new)) p
+no_others_set [] tables place old new told now low inside is at adds p has = absurd (omega arith)
+no_others_set (m ∷ machines) [] place old new told now low inside is at adds p has = absurd (omega arith)
+no_others_set (m ∷ machines) (t ∷ tables) zero old new told now low inside is at adds zero has =
+    adds (subst (λ (o : Option Tables). HoldsNoOthers o old) (sym at) (subst (HoldsNoOthers t) (sym is) has))
+no_others_set (m ∷ machines) (t ∷ tables) zero old new told now low inside is at adds (suc p) has = has
+no_others_set (m ∷ machines) (t ∷ tables) (suc place) old new told now low inside is at adds zero has = has
+no_others_set (m ∷ machines) (t ∷ tables) (suc place) old new told now low inside is at adds (suc p) has =
+    no_others_set machines tables place old new told now (omega arith) (omega arith) is at adds p has
+
+called : (store : Option (List ℕ)) (machines : List MachineState) (tables : List (Option Tables)) (before now calls place : ℕ) (call : Call) (result : Result Answered CallFault)
+    (old new : MachineState) (told_old told_new : Option Tables)
+    → place < length machines → place < length tables → old ≡ get_or machines place old → told_old ≡ get_or tables place told_old → new.pool.settings ≡ old.pool.settings
+    → before ≤ now → CountsKeeper result before now → (HoldsNoOthers told_old old → HoldsNoOthers told_new new)
     → (growth : Growth) × IsPoolCall old.pool.settings true call old.log new.log growth result
-    → IsCall (own_door store machines before calls) (own_door store (set machines place new) now (calls + 1)) place call result
-called store machines before now calls place call result old new low is same grows failed did = record {
+    → IsCall (own_door store machines tables before calls) (own_door store (set machines place new) (set tables place told_new) now (calls + 1)) place call result
+called store machines tables before now calls place call result old new told_old told_new low inside is at same grows failed adds did = record {
   growth = did.0;
   done = of_pool (λ (pool : PoolSettings) (before after : List Entry). IsPoolCall pool true call before after did.0 result) machines place old new low is did.1;
   elsewhere = elsewhere machines place new;
+  no_other_blobs = no_others_set machines tables place old new told_old told_new low inside is at adds;
   settings = ap (λ (pools : List PoolSettings). with_pools store pools) (pools_stay machines place old new is same);
   writer = refl;
   faults = grows;
@@ -92,15 +111,22 @@ module _ {M : Type 0} (kept : M → MachineState) where
   all_held machines place new held one =
       subst (All AreHeld) (sym (map-set kept machines place new)) (All-set AreHeld (map kept machines) place (kept new) one held)
 
-  -- a call of the machine at the place is a call of the door
-  pub own_call : (store : Option (List ℕ)) (machines : List M) (before now calls place : ℕ) (call : Call) (result : Result Answered CallFault) (old new : M)
-      → place < length (pools_of (map kept machines)) → old ≡ get_or machines place old → (kept new).pool.settings ≡ (kept old).pool.settings
-      → before ≤ now → CountsKeeper result before now
+  -- a call of the machine at the place, over the keeper there, is a call of the door
+  pub own_call : {K : Type 0} (tables : K → Option Tables) (store : Option (List ℕ)) (machines : List M) (keepers : List K) (before now calls place : ℕ) (call : Call) (result : Result Answered CallFault)
+      (old new : M) (keeper next : K)
+      → place < length (pools_of (map kept machines)) → place < length keepers → old ≡ get_or machines place old → keeper ≡ get_or keepers place keeper
+      → (kept new).pool.settings ≡ (kept old).pool.settings
+      → before ≤ now → CountsKeeper result before now → (HoldsNoOthers (tables keeper) (kept old) → HoldsNoOthers (tables next) (kept new))
       → (growth : Growth) × IsPoolCall (kept old).pool.settings true call (kept old).log (kept new).log growth result
-      → IsCall (own_door store (map kept machines) before calls) (own_door store (map kept (set machines place new)) now (calls + 1)) place call result
-  own_call store machines before now calls place call result old new low is same grows failed did =
+      → IsCall (own_door store (map kept machines) (map tables keepers) before calls)
+      (own_door store (map kept (set machines place new)) (map tables (set keepers place next)) now (calls + 1)) place call result
+  own_call tables store machines keepers before now calls place call result old new keeper next low inside is at_keeper same grows failed adds did =
       let low_state : place < length (map kept machines) = omega (arith, low, length-map (map kept machines) (λ (m : MachineState). m.pool.settings)) in
       let is_state = at machines place old (within machines place low) is in
-      subst (λ (after : List MachineState). IsCall (own_door store (map kept machines) before calls) (own_door store after now (calls + 1)) place call result)
+      let is_told : tables keeper ≡ get_or (map tables keepers) place (tables keeper) = ap tables at_keeper ∙ sym (get_or-map tables keepers place keeper (tables keeper) inside) in
+      subst (λ (after : List MachineState). IsCall (own_door store (map kept machines) (map tables keepers) before calls) (own_door store after (map tables (set keepers place next)) now (calls + 1)) place call result)
       (sym (map-set kept machines place new))
-      (called store (map kept machines) before now calls place call result (kept old) (kept new) low_state is_state same grows failed did)
+      (subst (λ (told : List (Option Tables)). IsCall (own_door store (map kept machines) (map tables keepers) before calls) (own_door store (set (map kept machines) place (kept new)) told now (calls + 1)) place call result)
+      (sym (map-set tables keepers place next))
+      (called store (map kept machines) (map tables keepers) before now calls place call result (kept old) (kept new) (tables keeper) (tables next) low_state
+      (omega (arith, inside, length-map keepers tables)) is_state is_told same grows failed adds did))

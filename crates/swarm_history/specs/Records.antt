@@ -1,10 +1,13 @@
 -- The kept records of a server's pools, by the place of the pool.
-use Rattle.std.specs.Prelude.{ℕ, ⊤, ◌<◌, List, [], ◌∷◌, Option, slice_get, IfSome, IsSomeAnd}
-use Rattle.swarm_keeper.specs.Tables.{Tables}
+use Rattle.std.specs.Prelude.{◌≡◌, ℕ, ⊤, ◌<◌, List, [], ◌∷◌, Option, Some, None, slice_get, IfSome, IsSomeAnd}
+use Rattle.swarm_keeper.specs.Tables.{Tables, appended}
+use Rattle.swarm_model.specs.declared.entry.Entry.{Entry}
 use Rattle.swarm_model.specs.declared.pool_settings.Settings.{Settings}
 use Rattle.swarm_model.specs.declared.pool_settings.PoolSettings.{PoolSettings}
+use Rattle.swarm_model.specs.Bytes.{new_digest, removed_digest}
 use Rattle.swarm_model.specs.MachineState.{MachineState}
-use Rattle.swarm_door.specs.Doors.{Logs}
+use Rattle.swarm_door.specs.Doors.{Logs, HasNoOthers}
+use Rattle.entry_lines.specs.Lines.{entry_of_line}
 use Rattle.pool_loading.specs.Records.{AreLinesOf, AreRecords, IsLoaded, AreRefusedAt}
 use Rattle.pool_loading.specs.declared.loading.LoadStop.{LoadStop}
 use Rattle.pool_loading.specs.declared.loading.LoadStop.TheVariants as stop
@@ -49,3 +52,21 @@ pub record IsBadStore (settings : Settings) (tables : List (Option Tables)) (pla
 abbrev pub TellsBadStore : Settings → List (Option Tables) → LoadFault → Type 0
 TellsBadStore settings tables (load.BadStore place at) = IsBadStore settings tables place at
 TellsBadStore settings tables fault = ⊤
+
+-- the records have no other blobs than those that the machine's log leaves
+abbrev pub HoldsNoOthers : Option Tables → MachineState → Type 0
+HoldsNoOthers told kept = HasNoOthers kept.pool.settings told kept.log
+
+-- a line of the entry is appended, the bytes of the blob that it places are added, and those of the blob that it removes
+-- are removed; `bytes` are those that came with it
+pub record AppendsEntry (kept : MachineState) (entry : Entry) (bytes : Option (List ℕ)) (t : Tables) (new : Option Tables) : Type 0 where
+  pub line : List ℕ
+  pub reads_back : entry_of_line line ≡ Some entry
+  pub content : List ℕ
+  pub content_is : IfSome bytes (λ b. content ≡ b)
+  pub tables : new ≡ Some (appended line (new_digest kept.pool entry.kind) content (removed_digest kept.pool entry.kind) t)
+
+-- this holds where the records are told; where they aren't, they aren't afterwards
+abbrev pub KeepsEntry : MachineState → Entry → Option (List ℕ) → Option Tables → Option Tables → Type 0
+KeepsEntry kept entry bytes None new = new ≡ None
+KeepsEntry kept entry bytes (Some t) new = AppendsEntry kept entry bytes t new

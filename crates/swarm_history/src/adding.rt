@@ -1,4 +1,4 @@
-ghost use Rattle.std.specs.Prelude.{◌≡◌, ◌≤◌, ◌<◌, ◌↔◌, Some, false, length, IsTrue, is_some, is_none, OnOk, OnErr, IfErr, IfSome, IsErrOf, option_map};
+ghost use Rattle.std.specs.Prelude.{◌≡◌, ◌≤◌, ◌↔◌, Some, false, length, IsTrue, is_some, is_none, OnOk, OnErr, IfErr, IfSome, IsErrOf, option_map};
 ghost use Rattle.sha2.specs.Sha256.{sha256};
 ghost use Rattle.sw_base.specs.Faults.{Rose};
 ghost use Rattle.dimensions.specs.Choosing.{when};
@@ -8,28 +8,23 @@ ghost use Rattle.swarm_model.specs.Finding.{blob_of};
 ghost use Rattle.swarm_model.specs.History.{MayFollow, has_room};
 ghost use Rattle.swarm_model.specs.MachineState.{IsHistory, AreHeld};
 ghost use Rattle.swarm_door.specs.Doors.{is_log_full};
-ghost use Rattle.swarm_history.specs.Records.{AreTold};
-ghost use Rattle.swarm_history.specs.Settling.{Stays, Adds, with_entry};
+ghost use Rattle.swarm_history.specs.Records.{AreTold, KeepsEntry, HoldsNoOthers};
+ghost use Rattle.swarm_history.specs.Settling.{Stays, Adds};
 
 use dimensions::Text;
 use entry_lines::line_of;
+use pool_loading::task_uncounted;
 use std::alloc::Global;
-use std::marker::Brand;
-use std::sync::ledger::{Blank, Ledger};
 use swarm_door::CallFault;
 use swarm_keeper::{Keeper, KeeperFault};
-use swarm_model::{Chunk, Entry, EntryKind, Machine, ReserveFault, Steps};
+use swarm_model::{Chunk, Entry, EntryKind, Machine, ReserveFault};
 use task_props::Digest;
 
-/// Whether a chunk goes on from the output that is kept, where nobody counts the rows that are read.
-fn is_fresh<M: Machine, L: Ledger>(machine: &M, task: u32, chunk: &Chunk, blank: Blank) -> bool
-    requires name { blank.name ≡ L.name }
-    requires parts { blank.parts ≡ L.parts }
-    requires some { 0 < blank.parts }
+/// Whether a chunk goes on from the output that is kept.
+fn is_fresh<M: Machine>(machine: &M, task: u32, chunk: &Chunk) -> bool
     ensures { result ≡ is_some (fresh_chunk (attempt_of (M.kept machine.now).pool task) (Some chunk.now)) }
 {
-    let mut steps = Steps::<L>::open(blank);
-    match machine.task(task, &mut steps) {
+    match task_uncounted(machine, task) {
         Some(row) => match &row.attempt {
             Some(attempt) => chunk.start == attempt.length,
             None => false,
@@ -61,7 +56,7 @@ fn added_digest<M: Machine>(machine: &M, kind: &EntryKind) -> Option<Digest>
             chunk: Some(chunk),
             ..
         } => {
-            if is_fresh::<M, Brand>(machine, *t, chunk, Blank::new(1)) {
+            if is_fresh(machine, *t, chunk) {
                 absent(machine, &chunk.digest)
             } else {
                 None
@@ -85,8 +80,9 @@ fn dropped_digest<M: Machine>(machine: &M, kind: &EntryKind) -> Option<Digest>
 }
 
 /// Keeps the line of an entry, with the bytes of the blob that it places and without those of the
-/// blob that it removes. Where it stops, the records stay.
-fn keep_line<M: Machine, K: Keeper>(
+/// blob that it removes, where there is a keeper that keeps anything. Where it stops, the records
+/// stay.
+fn keep<M: Machine, K: Keeper>(
     alloc: Global,
     machine: &M,
     keeper: &mut K,
@@ -94,14 +90,15 @@ fn keep_line<M: Machine, K: Keeper>(
     bytes: Option<&[u8]>,
 ) -> Result<(), CallFault>
     requires held { AreHeld (M.kept machine.now) }
-    requires records { AreTold (K.tables keeper.old) (M.kept machine.now) }
-    requires whole { IsTrue (is_some (new_digest (M.kept machine.now).pool entry.now.kind)) → IsTrue (is_some bytes) }
-    ensures kept { OnOk result (AreTold (K.tables keeper.new) (with_entry (M.kept machine.now) entry.now (option_map (λ b. b.now) bytes.entry))) }
+    ensures keeps { OnOk result (KeepsEntry (M.kept machine.now) entry.now (option_map (λ b. b.now) bytes.entry) (K.tables keeper.old) (K.tables keeper.new)) }
     ensures stays { OnErr result (K.tables keeper.new ≡ K.tables keeper.old) }
     ensures not_full { IfErr result (λ f. is_log_full f ≡ false) }
     ensures grows { K.faults keeper.old ≤ K.faults keeper.new }
     ensures failed { IsErrOf result CallFault.Keeper → Rose (K.faults keeper.old) (K.faults keeper.new) }
 {
+    if K::SURE {
+        return Ok(());
+    }
     let Ok(line) = line_of(alloc, entry) else {
         return Err(CallFault::Memory);
     };
@@ -113,29 +110,6 @@ fn keep_line<M: Machine, K: Keeper>(
         Err(KeeperFault::Memory) => Err(CallFault::Memory),
         Err(KeeperFault::Failed) => Err(CallFault::Keeper),
     }
-}
-
-/// The same, where there is a keeper that keeps anything.
-fn keep<M: Machine, K: Keeper>(
-    alloc: Global,
-    machine: &M,
-    keeper: &mut K,
-    entry: &Entry,
-    bytes: Option<&[u8]>,
-) -> Result<(), CallFault>
-    requires held { AreHeld (M.kept machine.now) }
-    requires records { AreTold (K.tables keeper.old) (M.kept machine.now) }
-    requires whole { IsTrue (is_some (new_digest (M.kept machine.now).pool entry.now.kind)) → IsTrue (is_some bytes) }
-    ensures kept { OnOk result (AreTold (K.tables keeper.new) (with_entry (M.kept machine.now) entry.now (option_map (λ b. b.now) bytes.entry))) }
-    ensures stays { OnErr result (K.tables keeper.new ≡ K.tables keeper.old) }
-    ensures not_full { IfErr result (λ f. is_log_full f ≡ false) }
-    ensures grows { K.faults keeper.old ≤ K.faults keeper.new }
-    ensures failed { IsErrOf result CallFault.Keeper → Rose (K.faults keeper.old) (K.faults keeper.new) }
-{
-    if K::SURE {
-        return Ok(());
-    }
-    keep_line(alloc, machine, keeper, entry, bytes)
 }
 
 /// Adds an entry, with the bytes that it brings, once its line is kept. Where it stops, the log and
@@ -155,6 +129,7 @@ pub(crate) fn add<M: Machine, K: Keeper>(
     requires whole { IsTrue (is_some (new_digest (M.kept machine.old).pool entry.kind)) → IsTrue (is_some bytes) }
     ensures held { AreHeld (M.kept machine.new) }
     ensures records { AreTold (K.tables keeper.new) (M.kept machine.new) }
+    ensures no_other_blobs { HoldsNoOthers (K.tables keeper.old) (M.kept machine.old) → HoldsNoOthers (K.tables keeper.new) (M.kept machine.new) }
     ensures added { OnOk result (Adds (M.kept machine.old) (M.kept machine.new) entry) }
     ensures stays { OnErr result (Stays (M.kept machine.old) (M.kept machine.new)) }
     ensures full { IsErrOf result CallFault.LogFull ↔ (has_room (M.kept machine.old).pool.settings (M.kept machine.old).log entry ≡ false) }

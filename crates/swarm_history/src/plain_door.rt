@@ -8,7 +8,7 @@ ghost use Rattle.swarm_model.specs.Points.{Growth};
 ghost use Rattle.swarm_model.specs.Settings.{are_settings};
 ghost use Rattle.swarm_door.specs.Doors.{IsPoolCall, IsFreshDoor, CountsKeeper};
 ghost use Rattle.swarm_history.specs.Machines.{logs_of, own_door};
-ghost use Rattle.swarm_history.specs.Records.{AreKept, AreRecordsOf, AreTold, TellsBadStore};
+ghost use Rattle.swarm_history.specs.Records.{AreKept, AreRecordsOf, AreTold, HoldsNoOthers, TellsBadStore};
 ghost use Rattle.swarm_history.specs.OneProof.{are_records_one};
 
 use crate::LoadFault;
@@ -53,6 +53,7 @@ fn call_machine<M: Machine, K: Keeper>(
     requires records { AreTold (K.tables keeper.old) (M.kept machine.old) }
     ensures held { AreHeld (M.kept machine.new) }
     ensures records { AreTold (K.tables keeper.new) (M.kept machine.new) }
+    ensures no_other_blobs { HoldsNoOthers (K.tables keeper.old) (M.kept machine.old) → HoldsNoOthers (K.tables keeper.new) (M.kept machine.new) }
     ensures settings { (M.kept machine.new).pool.settings ≡ (M.kept machine.old).pool.settings }
     ensures done { (growth : Growth) × IsPoolCall (M.kept machine.old).pool.settings true
         (record { pass = 0; caller = who.now; moment = moment; after = after; request = request.now })
@@ -82,6 +83,7 @@ impl<M: Machine + Drop, K: Keeper + Drop> PlainDoor<M, K> {
         requires keepers { length keepers.items ≡ length settings.now.pools }
         ensures fresh { IfOk result (λ door. IsFreshDoor settings.now (⟦<PlainDoor<M, K> as Door>⟧.state door).seen (⟦<PlainDoor<M, K> as Door>⟧.state door)) }
         ensures lines { IfOk result (λ door. AreKept (map K.tables keepers.items) (⟦<PlainDoor<M, K> as Door>⟧.state door).seen) }
+        ensures records { IfOk result (λ door. (⟦<PlainDoor<M, K> as Door>⟧.state door).records ≡ map K.tables keepers.items) }
         ensures nothing { IsTrue K.SURE → IfOk result (λ door. (p : ℕ) → (⟦<PlainDoor<M, K> as Door>⟧.state door).seen p ≡ []) }
         ensures bad { IfErr result (λ back. TellsBadStore settings.now (map K.tables keepers.items) back.0) }
         ensures sure { IsTrue K.SURE → IfErr result (λ back. back.0 ≡ LoadFault.Memory) }
@@ -111,6 +113,7 @@ impl<M: Machine + Drop, K: Keeper + Drop> PlainDoor<M, K> {
         ensures logs { (p : ℕ) → logs_of (map M.kept result.0.items) p ≡ (⟦<PlainDoor<M, K> as Door>⟧.state self).seen p }
         ensures records { AreRecordsOf (map K.tables result.1.items) (map M.kept result.0.items) }
         ensures lines { AreKept (map K.tables result.1.items) (⟦<PlainDoor<M, K> as Door>⟧.state self).seen }
+        ensures told { map K.tables result.1.items ≡ (⟦<PlainDoor<M, K> as Door>⟧.state self).records }
         ensures faults { sum_by K.faults result.1.items ≡ (⟦<PlainDoor<M, K> as Door>⟧.state self).faults }
         ensures machines { length result.0.items ≡ length (⟦<PlainDoor<M, K> as Door>⟧.state self).settings.pools }
         ensures keepers { length result.1.items ≡ length (⟦<PlainDoor<M, K> as Door>⟧.state self).settings.pools }
@@ -120,7 +123,7 @@ impl<M: Machine + Drop, K: Keeper + Drop> PlainDoor<M, K> {
 }
 
 impl<M: Machine + Drop, K: Keeper + Drop> Door for PlainDoor<M, K> {
-    ghost state = { λ d. own_door d.store (map M.kept d.machines.items) (sum_by K.faults d.keepers.items) d.calls };
+    ghost state = { λ d. own_door d.store (map M.kept d.machines.items) (map K.tables d.keepers.items) (sum_by K.faults d.keepers.items) d.calls };
 
     fn call(
         &mut self,

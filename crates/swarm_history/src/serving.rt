@@ -1,4 +1,4 @@
-ghost use Rattle.std.specs.Prelude.{◌≡◌, ◌≤◌, ◌<◌, ◌^◌, None, Some, length, is_some, IsTrue, IfOk, IfErr, IfSome, OnErr};
+ghost use Rattle.std.specs.Prelude.{◌≡◌, ◌≤◌, ◌^◌, None, Some, length, is_some, IsTrue, IfOk, IfErr, IfSome, OnErr};
 ghost use Rattle.std.specs.Bool.{OnTrue};
 ghost use Rattle.sha2.specs.Sha256.{sha256};
 ghost use Rattle.swarm_model.specs.Bytes.{Carries, brings};
@@ -9,19 +9,18 @@ ghost use Rattle.swarm_model.specs.Effects.{opening};
 ghost use Rattle.swarm_model.specs.MachineState.{IsHistory, AreHeld};
 ghost use Rattle.swarm_model.specs.Points.{LacksRoom, is_ahead};
 ghost use Rattle.swarm_door.specs.Doors.{is_log_full, CountsKeeper};
-ghost use Rattle.swarm_history.specs.Records.{AreTold};
+ghost use Rattle.swarm_history.specs.Records.{AreTold, HoldsNoOthers};
 ghost use Rattle.swarm_history.specs.Settling.{Stays, Responds, Shows, IsOwnPoint, IsOwnStop};
 
 use crate::adding::add;
 use crate::pieces::pieces_of;
 use crate::settling::settle;
 use dimensions::{Seq, Text};
-use std::alloc::{AllocError, Global};
-use std::marker::Brand;
-use std::sync::ledger::{Blank, Ledger};
+use pool_loading::answer_uncounted;
+use std::alloc::Global;
 use swarm_door::{Answered, CallFault};
 use swarm_keeper::Keeper;
-use swarm_model::{Answer, Entry, EntryKind, Machine, Reply, Request, Rule, Steps};
+use swarm_model::{Answer, Entry, EntryKind, Machine, Reply, Request, Rule};
 
 /// The greatest moment of an entry.
 const MOST_MOMENT: u64 = 1 << 40;
@@ -33,28 +32,6 @@ fn is_ahead(size: u64, after: Option<u64>) -> bool
         None => false,
         Some(front) => size < front,
     }
-}
-
-/// The answer of a machine, where nobody counts the rows that are read.
-fn answer_uncounted<M: Machine, L: Ledger>(
-    machine: &M,
-    who: &Text,
-    moment: u64,
-    pass: u32,
-    request: &Request,
-    blank: Blank,
-) -> Result<Answer, AllocError>
-    requires fits { IsTrue (fits (M.kept machine.now).pool.settings request.now) }
-    requires not_before { (M.kept machine.now).pool.last ≤ moment }
-    requires not_late { moment ≤ 2 ^ 40 }
-    requires nothing_due { due_entry (M.kept machine.now).pool moment pass ≡ None }
-    requires name { blank.name ≡ L.name }
-    requires parts { blank.parts ≡ L.parts }
-    requires some { 0 < blank.parts }
-    ensures { IfOk result (λ a. a ≡ answer (M.kept machine.now).pool who.now moment pass request.now) }
-{
-    let mut steps = Steps::<L>::open(blank);
-    machine.answer(who, moment, pass, request, &mut steps)
 }
 
 /// The request's bytes, where the entry brings them.
@@ -90,6 +67,7 @@ fn respond<M: Machine, K: Keeper>(
     requires nothing_due { due_entry (M.kept machine.old).pool moment pass ≡ None }
     ensures held { AreHeld (M.kept machine.new) }
     ensures records { AreTold (K.tables keeper.new) (M.kept machine.new) }
+    ensures no_other_blobs { HoldsNoOthers (K.tables keeper.old) (M.kept machine.old) → HoldsNoOthers (K.tables keeper.new) (M.kept machine.new) }
     ensures answers { IfOk result (λ a. Responds pass who.now moment request.now (M.kept machine.old) (M.kept machine.new) a.reply) }
     ensures shows { IfOk result (Shows (M.kept machine.new)) }
     ensures stays { OnErr result (Stays (M.kept machine.old) (M.kept machine.new)) }
@@ -97,14 +75,7 @@ fn respond<M: Machine, K: Keeper>(
     ensures grows { K.faults keeper.old ≤ K.faults keeper.new }
     ensures failed { CountsKeeper result (K.faults keeper.old) (K.faults keeper.new) }
 {
-    let Ok(answer) = answer_uncounted::<M, Brand>(
-        machine,
-        who,
-        moment,
-        pass,
-        request,
-        Blank::new(1),
-    ) else {
+    let Ok(answer) = answer_uncounted(machine, who, moment, pass, request) else {
         return Err(CallFault::Memory);
     };
     let Answer { reply, entry } = answer;
@@ -141,6 +112,7 @@ pub(crate) fn serve<M: Machine, K: Keeper>(
     requires records { AreTold (K.tables keeper.old) (M.kept machine.old) }
     ensures held { AreHeld (M.kept machine.new) }
     ensures records { AreTold (K.tables keeper.new) (M.kept machine.new) }
+    ensures no_other_blobs { HoldsNoOthers (K.tables keeper.old) (M.kept machine.old) → HoldsNoOthers (K.tables keeper.new) (M.kept machine.new) }
     ensures settings { (M.kept machine.new).pool.settings ≡ (M.kept machine.old).pool.settings }
     ensures point { IfOk result (λ a. IsOwnPoint (opening (M.kept machine.old).pool.settings) (record { pass = pass; caller = who.now; moment = moment; after = after; request = request.now }) (M.kept machine.old).log (M.kept machine.new).log a.reply) }
     ensures shows { IfOk result (Shows (M.kept machine.new)) }

@@ -1,36 +1,19 @@
-ghost use Rattle.std.specs.Prelude.{◌≡◌, ◌≤◌, ◌<◌, ◌^◌, None, OnOk, IfErr, IsErrOf};
+ghost use Rattle.std.specs.Prelude.{◌≡◌, ◌≤◌, ◌^◌, None, OnOk, IfErr, IsErrOf};
 ghost use Rattle.std.specs.Bool.{OnTrue};
 ghost use Rattle.sw_base.specs.Faults.{Rose};
 ghost use Rattle.swarm_model.specs.Deadlines.{due_entry};
 ghost use Rattle.swarm_model.specs.MachineState.{IsHistory, AreHeld};
 ghost use Rattle.swarm_model.specs.Points.{LacksRoom};
 ghost use Rattle.swarm_door.specs.Doors.{is_log_full};
-ghost use Rattle.swarm_history.specs.Records.{AreTold};
+ghost use Rattle.swarm_history.specs.Records.{AreTold, HoldsNoOthers};
 ghost use Rattle.swarm_history.specs.Settling.{Settles};
 
 use crate::adding::add;
+use pool_loading::due_uncounted;
 use std::alloc::Global;
-use std::marker::Brand;
-use std::sync::ledger::{Blank, Ledger};
 use swarm_door::CallFault;
 use swarm_keeper::Keeper;
-use swarm_model::{Entry, Machine, Steps};
-
-/// The entry that is due at a machine, where nobody counts the rows that are read.
-fn due_uncounted<M: Machine, L: Ledger>(
-    machine: &M,
-    moment: u64,
-    pass: u32,
-    blank: Blank,
-) -> Option<Entry>
-    requires name { blank.name ≡ L.name }
-    requires parts { blank.parts ≡ L.parts }
-    requires some { 0 < blank.parts }
-    ensures { result ≡ due_entry (M.kept machine.now).pool moment pass }
-{
-    let mut steps = Steps::<L>::open(blank);
-    machine.due(moment, pass, &mut steps)
-}
+use swarm_model::Machine;
 
 /// Adds the entry of each deadline that has come by the moment, one after another. Where it
 /// stops, those that were added stay.
@@ -48,13 +31,14 @@ pub(crate) fn settle<M: Machine, K: Keeper>(
     requires not_late { moment ≤ 2 ^ 40 }
     ensures held { AreHeld (M.kept machine.new) }
     ensures records { AreTold (K.tables keeper.new) (M.kept machine.new) }
+    ensures no_other_blobs { HoldsNoOthers (K.tables keeper.old) (M.kept machine.old) → HoldsNoOthers (K.tables keeper.new) (M.kept machine.new) }
     ensures settles { Settles pass moment (M.kept machine.old) (M.kept machine.new) }
     ensures nothing_due { OnOk result (due_entry (M.kept machine.new).pool moment pass ≡ None) }
     ensures full { IfErr result (λ f. OnTrue (is_log_full f) (LacksRoom (M.kept machine.new).pool (M.kept machine.new).log (due_entry (M.kept machine.new).pool moment pass))) }
     ensures grows { K.faults keeper.old ≤ K.faults keeper.new }
     ensures failed { IsErrOf result CallFault.Keeper → Rose (K.faults keeper.old) (K.faults keeper.new) }
 {
-    while let Some(entry) = due_uncounted::<M, Brand>(machine, moment, pass, Blank::new(1)) {
+    while let Some(entry) = due_uncounted(machine, moment, pass) {
         add(alloc, machine, keeper, entry, None)?;
     }
     Ok(())

@@ -1,4 +1,3 @@
-pub mod Sending
 pub mod Blobs
 pub mod Texts
 pub mod Requests

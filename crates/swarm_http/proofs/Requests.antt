@@ -11,8 +11,8 @@ use Rattle.sw_base.proofs.Moving.{Moves-refl, Moves-trans, SameOutput-refl, Same
 use Rattle.link_reader.specs.Heads.{blank_line, IsHeadEnd, Grows}
 use Rattle.link_reader.specs.Bodies.{IsWhole, IsCut}
 use Rattle.request_head.specs.Heads.{IsHead, IsNoHead}
-use Rattle.request_head.specs.Fields.{lacks}
-use Rattle.request_head.specs.Numbers.{is_broken, value_or_zero}
+use Rattle.head_fields.specs.Fields.{lacks}
+use Rattle.head_fields.specs.Numbers.{is_broken, value_or_zero}
 use Rattle.request_head.specs.HeadFields.{bad, length_required, too_large, head_refusal, size_of, limit_at, fields_of, length_told, wants_length, method_named}
 use Rattle.request_head.specs.Judging.{IsJudgedHead}
 use Rattle.request_head.specs.declared.head_check.HeadCheck.TheVariants as head_check

@@ -1,10 +1,11 @@
 -- Exchanges, one after another.
-use Rattle.std.proofs.Common.{true, false, ◌≡◌, ℕ, ◌+◌, ◌<◌, List, [], ◌∷◌, ◌++◌, length, arith, refl, sym, ap, ◌∙◌, append_assoc, append-nil, length-append, Option, None, Result, subst}
+use Rattle.std.proofs.Common.{Bool, true, false, ◌≡◌, ℕ, ◌+◌, ◌<◌, ◌≤◌, List, [], ◌∷◌, ◌++◌, length, arith, refl, sym, ap, ◌∙◌, append_assoc, append-nil, length-append, Option, None, Result, subst}
 use Rattle.std.specs.Prelude.{◌≢◌}
-use Rattle.std.specs.List.{flat_map}
+use Rattle.std.specs.List.{flat_map, count_by}
 use Rattle.std.specs.Io.KnownBytes.{Consumes}
 use Rattle.std.proofs.KnownBytes.{Consumes-nil, Consumes-trans}
 use Rattle.std.proofs.lemmas.List.Concat.{flat_map-append}
+use Rattle.dimensions.proofs.Counting.{count-append}
 use Rattle.httparse.specs.Grammar.{RequestHead}
 use Rattle.request_head.specs.HeadFields.{size_of}
 use Rattle.sw_base.specs.Clock.{HandsIn}
@@ -21,11 +22,13 @@ use Rattle.swarm_http.specs.declared.request.Received.{Received}
 use Rattle.swarm_http.specs.declared.request.Incoming.TheVariants as taken
 use Rattle.swarm_http.specs.Replies.{refusal}
 use Rattle.swarm_http.specs.Outcomes.{Outcome, Acts, shows, uses}
-use Rattle.swarm_http.specs.Exchange.{Exchange, HeadSays, request_bytes, reply_of, moments_of, Chain}
+use Rattle.swarm_http.specs.Exchange.{Exchange, HeadSays, request_bytes, reply_of, moments_of, is_accepted, has_status_ok, Chain}
 use Rattle.swarm_http.specs.Answered.{World, replies, Serves, NoneCloses, KeepersFailed, IsOpenStill, IsCutReply, last_reply, refused_head, EndsAs, EndsAtFault, IsAnswered, KeepsDoor}
-use Rattle.swarm_http.specs.Sends.{Sends, rule_of, text_of}
+use Rattle.link_writer.specs.Sends.{Sends}
+use Rattle.swarm_http.specs.Sends.{rule_of, text_of}
 use Rattle.swarm_http.specs.Takes.{IsHeld, StopsAs, Takes, ReadsWell}
-use Rattle.swarm_http.specs.Steps.{Answers, GoesOn, Stops}
+use Rattle.swarm_http.specs.Counting.{IsCounted}
+use Rattle.swarm_http.specs.Steps.{Answers, GoesOn, Stops, AreCounted, one_if}
 use Rattle.swarm_http.proofs.Keepers.{none_failed, one_failed, KeepersFailed-trans}
 use Rattle.swarm_http.proofs.Once.{chain_once}
 
@@ -138,7 +141,7 @@ no_faults : {ended : Ended} {s t : LinkState} → t.read_faults ≡ s.read_fault
 no_faults reads writes clean = record { reads = λ n. reads; writes = λ n. writes; clean = λ n. clean }
 
 -- a request was taken, answered and its reply written
-pub goes_on : {pending rest : List ℕ} {received : Received} {shown : ReplyBytes} {T E : Type 0} {r : Result T E} {t : LinkState} {v w : World}
+abbrev goes_on : {pending rest : List ℕ} {received : Received} {shown : ReplyBytes} {T E : Type 0} {r : Result T E} {t : LinkState} {v w : World}
     → Takes v.link t pending rest (taken.Asks received)
     → ((body : List ℕ) (head : RequestHead) → IsHeld received body head → Answers head body v.clock w.clock v.door w.door shown)
     → (y : Sends t w.link (text_of shown) r) → y.back ≡ [] → w.link.write_faults ≡ t.write_faults → IsClean w.link → received.line.closes ≡ false → GoesOn pending rest v w
@@ -158,7 +161,7 @@ goes_on {v = v} {w = w} x answers y all well flushed still =
     }
 
 -- its reply was not written whole
-pub reply_cut : {pending rest : List ℕ} {received : Received} {shown : ReplyBytes} {T E : Type 0} {r : Result T E} {t : LinkState} {v w : World}
+abbrev reply_cut : {pending rest : List ℕ} {received : Received} {shown : ReplyBytes} {T E : Type 0} {r : Result T E} {t : LinkState} {v w : World}
     → Takes v.link t pending rest (taken.Asks received)
     → ((body : List ℕ) (head : RequestHead) → IsHeld received body head → Answers head body v.clock w.clock v.door w.door shown)
     → Sends t w.link (text_of shown) r → Rose t.write_faults w.link.write_faults → Stops pending v w WriteFault
@@ -181,7 +184,7 @@ reply_cut {rest = rest} {v = v} {w = w} x answers y rose =
     }
 
 -- its reply was the last
-pub asked_last : {pending rest : List ℕ} {received : Received} {shown : ReplyBytes} {T E : Type 0} {r : Result T E} {t : LinkState} {v w : World}
+abbrev asked_last : {pending rest : List ℕ} {received : Received} {shown : ReplyBytes} {T E : Type 0} {r : Result T E} {t : LinkState} {v w : World}
     → Takes v.link t pending rest (taken.Asks received)
     → ((body : List ℕ) (head : RequestHead) → IsHeld received body head → Answers head body v.clock w.clock v.door w.door shown)
     → (y : Sends t w.link (text_of shown) r) → y.back ≡ [] → w.link.write_faults ≡ t.write_faults → IsClean w.link → received.line.closes ≡ true → Stops pending v w LastAsked
@@ -205,7 +208,7 @@ asked_last {rest = rest} {v = v} {w = w} x answers y all well flushed closing =
     }
 
 -- the head was refused
-pub head_refused : {pending rest : List ℕ} {why : Refusal} {T E : Type 0} {r : Result T E} {s t u : LinkState} {a : ℕ → Option (List ℕ)} {d : DoorState}
+abbrev head_refused : {pending rest : List ℕ} {why : Refusal} {T E : Type 0} {r : Result T E} {s t u : LinkState} {a : ℕ → Option (List ℕ)} {d : DoorState}
     → Takes s t pending rest (taken.Refuses why) → (w : Sends t u (refusal None (rule_of why)) r) → w.back ≡ [] → u.write_faults ≡ t.write_faults → IsClean u → Stops pending (record { link = s; clock = a; door = d }) (record { link = u; clock = a; door = d }) BadHead
 head_refused {rest = rest} {why = why} {s = s} {u = u} {d = d} x w all well flushed =
     let moves = Moves-trans x.moves w.written.moves in
@@ -223,7 +226,7 @@ head_refused {rest = rest} {why = why} {s = s} {u = u} {d = d} x w all well flus
     }
 
 -- the refusal of a head was not written whole
-pub refusal_cut : {pending rest : List ℕ} {why : Refusal} {T E : Type 0} {r : Result T E} {s t u : LinkState} {a : ℕ → Option (List ℕ)} {d : DoorState}
+abbrev refusal_cut : {pending rest : List ℕ} {why : Refusal} {T E : Type 0} {r : Result T E} {s t u : LinkState} {a : ℕ → Option (List ℕ)} {d : DoorState}
     → Takes s t pending rest (taken.Refuses why) → Sends t u (refusal None (rule_of why)) r → Rose t.write_faults u.write_faults → Stops pending (record { link = s; clock = a; door = d }) (record { link = u; clock = a; door = d }) WriteFault
 refusal_cut {rest = rest} {why = why} {s = s} {u = u} {d = d} x w rose =
     let moves = Moves-trans x.moves w.written.moves in
@@ -251,7 +254,7 @@ ends_of WriteFault rest s t x = absurd x
 ends_of Memory rest s t x = absurd x
 
 -- no request came
-pub taking_ended : {pending rest : List ℕ} {s t : LinkState} {a : ℕ → Option (List ℕ)} {d : DoorState} (ended : Ended)
+abbrev taking_ended : {pending rest : List ℕ} {s t : LinkState} {a : ℕ → Option (List ℕ)} {d : DoorState} (ended : Ended)
     → Takes s t pending rest (taken.Ends ended) → IsClean s → Stops pending (record { link = s; clock = a; door = d }) (record { link = t; clock = a; door = d }) ended
 taking_ended {pending = pending} {s = s} {t = t} {d = d} ended x clean =
     let e = ends_of ended (pending ++ x.taken) s t x.outcome in
@@ -272,46 +275,114 @@ keeps_on : {most : ℕ} {d e f : DoorState} → KeepsDoor most d e → KeepsDoor
 keeps_on x k = record {
   settings = k.settings ∙ x.settings;
   writer = k.writer ∙ x.writer;
+  no_other_blobs = λ p none. k.no_other_blobs p (x.no_other_blobs p none);
   faults = omega (arith, x.faults, k.faults);
   calls = omega (arith, x.calls, k.calls);
 }
 
+-- ---- the numbers of requests
+
+one_counted : (x : Exchange) → count_by is_accepted (x ∷ []) ≡ one_if (is_accepted x)
+one_counted x = by_cases (is_accepted x) refl
+  where
+    by_cases : (b : Bool) → is_accepted x ≡ b → count_by is_accepted (x ∷ []) ≡ one_if (is_accepted x)
+    by_cases true is = rw is refl
+    by_cases false is = rw is refl
+
+are_one : (x : Exchange) (accepted : Bool) → accepted ≡ is_accepted x → AreCounted (x ∷ []) true accepted
+are_one x accepted is = record { requests = refl; accepted_are = ap one_if is ∙ sym (one_counted x) }
+
+are_none : AreCounted [] false false
+are_none = record { requests = refl; accepted_are = refl }
+
+few_more : {count good : ℕ} (accepted : Bool) → good ≤ count → good + one_if accepted ≤ count + 1
+few_more true few = omega arith
+few_more false few = omega arith
+
+pub goes_on_counted : {pending rest : List ℕ} {received : Received} {shown : ReplyBytes} {T E : Type 0} {r : Result T E} {t : LinkState} {v w : World} {accepted : Bool}
+    → Takes v.link t pending rest (taken.Asks received)
+    → ((body : List ℕ) (head : RequestHead) → IsHeld received body head → Answers head body v.clock w.clock v.door w.door shown)
+    → (y : Sends t w.link (text_of shown) r) → y.back ≡ [] → w.link.write_faults ≡ t.write_faults → IsClean w.link → received.line.closes ≡ false
+    → accepted ≡ has_status_ok (text_of shown) → (goes : GoesOn pending rest v w) × (accepted ≡ is_accepted goes.x)
+goes_on_counted x answers y all well flushed still is =
+    let q = x.outcome.0 in let z = answers q.body q.head q.held in (goes_on x answers y all well flushed still, is ∙ ap has_status_ok z.shown)
+
+pub reply_cut_counted : {pending rest : List ℕ} {received : Received} {shown : ReplyBytes} {T E : Type 0} {r : Result T E} {t : LinkState} {v w : World} {accepted : Bool}
+    → Takes v.link t pending rest (taken.Asks received)
+    → ((body : List ℕ) (head : RequestHead) → IsHeld received body head → Answers head body v.clock w.clock v.door w.door shown)
+    → Sends t w.link (text_of shown) r → Rose t.write_faults w.link.write_faults
+    → accepted ≡ has_status_ok (text_of shown) → (stops : Stops pending v w WriteFault) × AreCounted stops.xs true accepted
+reply_cut_counted {accepted = accepted} x answers y rose is =
+    let q = x.outcome.0 in let z = answers q.body q.head q.held in
+    (reply_cut x answers y rose, are_one (record { text = q.text; body = q.body; head = q.head; outcome = z.outcome }) accepted (is ∙ ap has_status_ok z.shown))
+
+pub asked_last_counted : {pending rest : List ℕ} {received : Received} {shown : ReplyBytes} {T E : Type 0} {r : Result T E} {t : LinkState} {v w : World} {accepted : Bool}
+    → Takes v.link t pending rest (taken.Asks received)
+    → ((body : List ℕ) (head : RequestHead) → IsHeld received body head → Answers head body v.clock w.clock v.door w.door shown)
+    → (y : Sends t w.link (text_of shown) r) → y.back ≡ [] → w.link.write_faults ≡ t.write_faults → IsClean w.link → received.line.closes ≡ true
+    → accepted ≡ has_status_ok (text_of shown) → (stops : Stops pending v w LastAsked) × AreCounted stops.xs true accepted
+asked_last_counted {accepted = accepted} x answers y all well flushed closing is =
+    let q = x.outcome.0 in let z = answers q.body q.head q.held in
+    (asked_last x answers y all well flushed closing, are_one (record { text = q.text; body = q.body; head = q.head; outcome = z.outcome }) accepted (is ∙ ap has_status_ok z.shown))
+
+pub head_refused_counted : {pending rest : List ℕ} {why : Refusal} {T E : Type 0} {r : Result T E} {s t u : LinkState} {a : ℕ → Option (List ℕ)} {d : DoorState}
+    → Takes s t pending rest (taken.Refuses why) → (w : Sends t u (refusal None (rule_of why)) r) → w.back ≡ [] → u.write_faults ≡ t.write_faults → IsClean u
+    → (stops : Stops pending (record { link = s; clock = a; door = d }) (record { link = u; clock = a; door = d }) BadHead) × AreCounted stops.xs false false
+head_refused_counted x w all well flushed = (head_refused x w all well flushed, are_none)
+
+pub refusal_cut_counted : {pending rest : List ℕ} {why : Refusal} {T E : Type 0} {r : Result T E} {s t u : LinkState} {a : ℕ → Option (List ℕ)} {d : DoorState}
+    → Takes s t pending rest (taken.Refuses why) → Sends t u (refusal None (rule_of why)) r → Rose t.write_faults u.write_faults
+    → (stops : Stops pending (record { link = s; clock = a; door = d }) (record { link = u; clock = a; door = d }) WriteFault) × AreCounted stops.xs false false
+refusal_cut_counted x w rose = (refusal_cut x w rose, are_none)
+
+pub taking_ended_counted : {pending rest : List ℕ} {s t : LinkState} {a : ℕ → Option (List ℕ)} {d : DoorState} (ended : Ended)
+    → Takes s t pending rest (taken.Ends ended) → IsClean s
+    → (stops : Stops pending (record { link = s; clock = a; door = d }) (record { link = t; clock = a; door = d }) ended) × AreCounted stops.xs false false
+taking_ended_counted ended x clean = (taking_ended ended x clean, are_none)
+
 -- the connection so far
-pub record SoFar (count : ℕ) (pending : List ℕ) (old new : World) : Type 0 where
+pub record SoFar (count good : ℕ) (pending : List ℕ) (old new : World) : Type 0 where
   pub xs : List Exchange
   pub serves : Serves xs [] pending (replies xs) old new
   pub keepers : KeepersFailed xs old.door new.door
   pub counted : length xs ≡ count
+  pub accepted : count_by is_accepted xs ≡ good
+  pub accepted_few : good ≤ count
   pub open_still : NoneCloses xs
   pub no_fault : NoFault old.link new.link
   pub clean : IsClean new.link
   pub keeps : KeepsDoor count old.door new.door
 
-pub begun : (v : World) → IsClean v.link → SoFar 0 [] v v
+pub begun : (v : World) → IsClean v.link → SoFar 0 0 [] v v
 begun v clean = record {
   xs = [];
   serves = nothing_served v;
   keepers = none_failed v.door;
   counted = refl;
+  accepted = refl;
+  accepted_few = omega arith;
   open_still = tt;
   no_fault = NoFault-refl v.link;
   clean = clean;
-  keeps = record { settings = refl; writer = refl; faults = omega arith; calls = omega arith };
+  keeps = record { settings = refl; writer = refl; no_other_blobs = λ p none. none; faults = omega arith; calls = omega arith };
 }
 
-pub one_on : {count : ℕ} {pending more : List ℕ} {u v w : World} → SoFar count pending u v → GoesOn pending more v w → KeepsDoor 1 v.door w.door → SoFar (count + 1) more u w
-one_on {more = more} {u = u} {v = v} {w = w} x y k = record {
+pub one_on : {count good : ℕ} {accepted : Bool} {pending more : List ℕ} {u v w : World}
+    → SoFar count good pending u v → (y : GoesOn pending more v w) → accepted ≡ is_accepted y.x → KeepsDoor 1 v.door w.door → SoFar (count + 1) (good + one_if accepted) more u w
+one_on {accepted = accepted} {more = more} {u = u} {v = v} {w = w} x y is k = record {
   xs = x.xs ++ y.x ∷ [];
   serves = subst (λ l. Serves (x.xs ++ y.x ∷ []) [] more l u w) (replies_after x.xs (y.x ∷ []) (reply_of y.x) (sym (append-nil (reply_of y.x)))) (Serves-trans x.keeps x.serves y.serves);
   keepers = KeepersFailed-trans x.xs (y.x ∷ []) u.door v.door w.door x.keepers y.keepers;
   no_fault = NoFault-trans x.no_fault y.no_fault;
   clean = y.clean;
   counted = omega (arith, length-append x.xs (y.x ∷ []), x.counted);
+  accepted = omega (arith, count-append is_accepted x.xs (y.x ∷ []), one_counted y.x, ap one_if is, x.accepted);
+  accepted_few = few_more accepted x.accepted_few;
   open_still = none_close x.xs (y.x ∷ []) x.open_still (y.open_still, tt);
   keeps = keeps_on x.keeps k;
 }
 
-pub ended_so : {count : ℕ} {pending : List ℕ} {u v w : World} {ended : Ended} → SoFar count pending u v → count < 65536 → Stops pending v w ended → IsAnswered u w ended
+abbrev ended_so : {count good : ℕ} {pending : List ℕ} {u v w : World} {ended : Ended} → SoFar count good pending u v → count < 65536 → Stops pending v w ended → IsAnswered u w ended
 ended_so {u = u} {v = v} {w = w} {ended = ended} x early y =
     let all = Serves-trans x.keeps x.serves y.serves in
     record {
@@ -326,7 +397,7 @@ ended_so {u = u} {v = v} {w = w} {ended = ended} x early y =
       faults = record { reads = λ n. y.faults.reads n ∙ x.no_fault.reads; writes = λ n. y.faults.writes n ∙ x.no_fault.writes; clean = y.faults.clean };
     }
 
-pub retired : {count : ℕ} {pending : List ℕ} {v w : World} → SoFar count pending v w → count ≡ 65536 → IsAnswered v w Retired
+abbrev retired : {count good : ℕ} {pending : List ℕ} {v w : World} → SoFar count good pending v w → count ≡ 65536 → IsAnswered v w Retired
 retired {pending = pending} {v = v} {w = w} x full = record {
   xs = x.xs;
   rest = pending;
@@ -339,7 +410,7 @@ retired {pending = pending} {v = v} {w = w} x full = record {
   faults = no_faults x.no_fault.reads x.no_fault.writes x.clean;
 }
 
-pub no_memory : {v : World} → IsClean v.link → IsAnswered v v Memory
+abbrev no_memory : {v : World} → IsClean v.link → IsAnswered v v Memory
 no_memory {v = v} clean = record {
   xs = [];
   rest = [];
@@ -351,3 +422,20 @@ no_memory {v = v} clean = record {
   keepers = none_failed v.door;
   faults = no_faults refl refl clean;
 }
+
+-- ---- the connection with its numbers
+
+pub ended_counted : {count good : ℕ} {pending : List ℕ} {u v w : World} {ended : Ended} {asked accepted : Bool} → SoFar count good pending u v → count < 65536
+    → (y : Stops pending v w ended) → AreCounted y.xs asked accepted → IsCounted u w (record { ended = ended; requests = count + one_if asked; accepted = good + one_if accepted })
+ended_counted x early y k = record {
+  answered = ended_so x early y;
+  requests = omega (arith, length-append x.xs y.xs, x.counted, k.requests);
+  accepted = omega (arith, count-append is_accepted x.xs y.xs, x.accepted, k.accepted_are);
+}
+
+pub retired_counted : {count good : ℕ} {pending : List ℕ} {v w : World} → SoFar count good pending v w → count ≡ 65536
+    → IsCounted v w (record { ended = Retired; requests = 65536; accepted = good })
+retired_counted x full = record { answered = retired x full; requests = sym full ∙ sym x.counted; accepted = sym x.accepted }
+
+pub no_memory_counted : {v : World} → IsClean v.link → IsCounted v v (record { ended = Memory; requests = 0; accepted = 0 })
+no_memory_counted clean = record { answered = no_memory clean; requests = refl; accepted = refl }

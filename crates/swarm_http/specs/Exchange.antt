@@ -1,5 +1,5 @@
 -- One request and its outcome.
-use Rattle.std.specs.Prelude.{◌≡◌, ◌==◌, ℕ, Bool, ◌≤◌, List, [], ◌∷◌, ◌++◌, length, filter, None, IsTrue}
+use Rattle.std.specs.Prelude.{◌≡◌, ◌==◌, ◌&&◌, get_or, ℕ, Bool, ◌≤◌, List, [], ◌∷◌, ◌++◌, length, filter, None, IsTrue}
 use Rattle.std.specs.List.{flat_map}
 use Rattle.httparse.specs.Grammar.{RequestHead}
 use Rattle.link_reader.specs.Heads.{IsHeadEnd}
@@ -36,6 +36,14 @@ entries_of place x = flat_map (entries_at place) (calls x.outcome)
 -- its call was stopped by what keeps its pool's records, and its reply says so
 abbrev pub fails_keeper : Exchange → Bool
 fails_keeper x = is_keeper_stop x.outcome
+
+-- the digits behind the version of a reply are 200
+abbrev pub has_status_ok : List ℕ → Bool
+has_status_ok bytes = get_or bytes 9 0 == 50 && (get_or bytes 10 0 == 48 && get_or bytes 11 0 == 48)
+
+-- its reply has status 200
+abbrev pub is_accepted : Exchange → Bool
+is_accepted x = has_status_ok (reply_of x)
 
 -- it asks to close the connection
 abbrev pub closes : Exchange → Bool

@@ -4,6 +4,7 @@ pub mod Requests
 pub mod Outcomes
 pub mod Exchange
 pub mod Answered
+pub mod Counting
 pub mod Sends
 pub mod Takes
 pub mod Steps

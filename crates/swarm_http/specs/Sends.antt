@@ -1,7 +1,5 @@
--- What is written of a text.
-use Rattle.std.specs.Prelude.{◌≡◌, ℕ, List, [], ◌++◌, Result, OnOk, Some, None}
-use Rattle.sw_base.specs.Faults.{CountsFault}
-use Rattle.sw_base.specs.Link.{LinkState, Moves, SameInput}
+-- The text that is sent of a reply.
+use Rattle.std.specs.Prelude.{ℕ, List, ◌++◌, Some, None}
 use Rattle.swarm_model.specs.declared.rule.Rule.{Rule}
 use Rattle.swarm_model.specs.declared.rule.Rule.TheVariants as rule
 use Rattle.swarm_http.specs.declared.reply.Refusal.{Refusal}
@@ -10,20 +8,6 @@ use Rattle.swarm_http.specs.declared.reply.ReplyBytes.{ReplyBytes}
 use Rattle.swarm_http.specs.declared.reply.ReplyBytes.TheVariants as shown
 use Rattle.swarm_http.specs.Requests.{broken_front}
 use Rattle.swarm_http.specs.Replies.{refusal}
-
--- a front of the text was written, and `back` is left of it
-pub record Written (s t : LinkState) (text back : List ℕ) : Type 0 where
-  pub sent : List ℕ
-  pub moves : Moves s t [] sent
-  pub input : SameInput s t
-  pub whole : text ≡ sent ++ back
-
--- the text was written whole, or a call on the link failed and a front of it was written
-pub record Sends {T E : Type 0} (s t : LinkState) (text : List ℕ) (result : Result T E) : Type 0 where
-  pub back : List ℕ
-  pub written : Written s t text back
-  pub faults : CountsFault result s.write_faults t.write_faults
-  pub outcome : OnOk result (back ≡ [])
 
 -- the rule of a refusal whose reply takes no memory
 abbrev pub rule_of : Refusal → Rule

@@ -1,5 +1,6 @@
 -- One request of a connection.
-use Rattle.std.specs.Prelude.{◌≡◌, ◌≢◌, ℕ, ◌≤◌, List, [], ◌∷◌, length, false, Option, None, Result, Err}
+use Rattle.std.specs.Prelude.{◌≡◌, ◌≢◌, ℕ, Bool, if◌then◌else◌, ◌≤◌, List, [], ◌∷◌, length, false, Option, None, Result, Err}
+use Rattle.std.specs.List.{count_by}
 use Rattle.sw_base.specs.Clock.{HandsIn}
 use Rattle.sw_base.specs.Link.{IsClean, NoFault}
 use Rattle.swarm_door.specs.Doors.{DoorState}
@@ -9,7 +10,7 @@ use Rattle.swarm_http.specs.declared.connection.Step.{Step}
 use Rattle.swarm_http.specs.declared.connection.Step.TheVariants.{Next, End}
 use Rattle.swarm_http.specs.declared.reply.ReplyBytes.{ReplyBytes}
 use Rattle.swarm_http.specs.Outcomes.{Outcome, Acts, CountsStop, shows, uses}
-use Rattle.swarm_http.specs.Exchange.{Exchange, reply_of, closes}
+use Rattle.swarm_http.specs.Exchange.{Exchange, reply_of, closes, is_accepted}
 use Rattle.httparse.specs.Grammar.{RequestHead}
 use Rattle.swarm_http.specs.Answered.{World, Serves, KeepersFailed, EndsAs, EndsAtFault}
 use Rattle.swarm_http.specs.Replies.{refusal}
@@ -53,7 +54,16 @@ pub record Stops (pending : List ℕ) (old new : World) (ended : Ended) : Type 0
   pub not_retired : ended ≢ Retired
   pub not_memory : ended ≢ Memory
 
+-- 1 where it is true
+abbrev pub one_if : Bool → ℕ
+one_if test = if test then 1 else 0
+
+-- so many requests were answered, and so many of them with status 200: one, or none
+pub record AreCounted (xs : List Exchange) (asked accepted : Bool) : Type 0 where
+  pub requests : one_if asked ≡ length xs
+  pub accepted_are : one_if accepted ≡ count_by is_accepted xs
+
 -- the connection goes on, or ends
 abbrev pub IsStep : List ℕ → List ℕ → World → World → Step → Type 0
-IsStep pending rest old new Next = GoesOn pending rest old new
-IsStep pending rest old new (End ended) = Stops pending old new ended
+IsStep pending rest old new (Next accepted) = (goes : GoesOn pending rest old new) × (accepted ≡ is_accepted goes.x)
+IsStep pending rest old new (End ended asked accepted) = (stops : Stops pending old new ended) × AreCounted stops.xs asked accepted

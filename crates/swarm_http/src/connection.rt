@@ -3,13 +3,14 @@ ghost use Rattle.std.specs.Prelude.{◌≡◌, ◌<◌, ◌≤◌, ◌+◌, ◌^
 ghost use Rattle.sw_base.specs.Link.{IsClean};
 ghost use Rattle.swarm_model.specs.Settings.{are_settings};
 ghost use Rattle.swarm_http.specs.Answered.{IsAnswered, KeepsDoor};
-ghost use Rattle.swarm_http.specs.Steps.{IsStep};
+ghost use Rattle.swarm_http.specs.Counting.{IsCounted};
+ghost use Rattle.swarm_http.specs.Steps.{IsStep, one_if};
 
-use crate::Ended;
 use crate::answer::answer_request;
 use crate::reply::ReplyBytes;
 use crate::request::{Incoming, take_request};
-use crate::send::send_shown;
+use crate::send::{is_accepted, send_shown};
+use crate::{Counted, Ended};
 use link_reader::Pending;
 use routes::Routes;
 use std::alloc::{AllocError, Global};
@@ -20,8 +21,17 @@ use swarm_model::Settings;
 /// Whether a connection goes on after a request.
 #[derive(Clone, Copy, Debug, PartialEq, Eq)]
 enum Step {
-    Next,
-    End(Ended),
+    Next {
+        /// The request's reply has status 200.
+        accepted: bool,
+    },
+    End {
+        ended: Ended,
+        /// A request was answered.
+        asked: bool,
+        /// Its reply has status 200.
+        accepted: bool,
+    },
 }
 
 // The most requests of one connection.
@@ -56,17 +66,94 @@ fn serve_one<D: Door, L: Link, C: Clock>(
         Incoming::Asks(received) => {
             let closes = received.line.closes;
             let shown = answer_request(alloc, settings, received, door, clock);
-            match send_shown(link, &shown) {
-                Ok(()) if closes => Step::End(Ended::LastAsked),
-                Ok(()) => Step::Next,
-                Err(_) => Step::End(Ended::WriteFault),
+            let accepted = is_accepted(&shown);
+            match send_shown(link, shown) {
+                Ok(()) if closes => Step::End {
+                    ended: Ended::LastAsked,
+                    asked: true,
+                    accepted,
+                },
+                Ok(()) => Step::Next { accepted },
+                Err(_) => Step::End {
+                    ended: Ended::WriteFault,
+                    asked: true,
+                    accepted,
+                },
             }
         }
-        Incoming::Refuses(why) => match send_shown(link, &ReplyBytes::Refused(why)) {
-            Ok(()) => Step::End(Ended::BadHead),
-            Err(_) => Step::End(Ended::WriteFault),
+        Incoming::Refuses(why) => match send_shown(link, ReplyBytes::Refused(why)) {
+            Ok(()) => Step::End {
+                ended: Ended::BadHead,
+                asked: false,
+                accepted: false,
+            },
+            Err(_) => Step::End {
+                ended: Ended::WriteFault,
+                asked: false,
+                accepted: false,
+            },
         },
-        Incoming::Ends(ended) => Step::End(ended),
+        Incoming::Ends(ended) => Step::End {
+            ended,
+            asked: false,
+            accepted: false,
+        },
+    }
+}
+
+fn one_if(test: bool) -> u32
+    ensures one { result ≡ one_if test }
+    ensures few { result ≤ 1 }
+{
+    if test { 1 } else { 0 }
+}
+
+/// Answers the requests that come over a link, until it ends or has asked 65536 times, and counts
+/// them.
+pub fn counted_session<D: Door, L: Link, C: Clock>(
+    alloc: Global,
+    settings: &Settings,
+    door: &mut D,
+    clock: &mut C,
+    link: &mut L,
+) -> Counted
+    requires settings { (D.state door.old).settings ≡ settings.now }
+    requires rules { IsTrue (are_settings settings.now) }
+    requires calls { (D.state door.old).calls + 65536 ≤ 2 ^ 40 }
+    requires clean { IsClean (L.state link.old) }
+    ensures counted { IsCounted
+        (record { link = L.state link.old; clock = C.ahead clock.old; door = D.state door.old })
+        (record { link = L.state link.new; clock = C.ahead clock.new; door = D.state door.new }) result }
+    ensures door { KeepsDoor 65536 (D.state door.old) (D.state door.new) }
+{
+    let Ok((mut pending, routes)) = begin(alloc) else {
+        return Counted {
+            ended: Ended::Memory,
+            requests: 0,
+            accepted: 0,
+        };
+    };
+    let mut good = 0;
+    'requests: for turn in 0..REQUEST_LIMIT {
+        match serve_one(alloc, settings, &routes, &mut pending, door, clock, link) {
+            Step::Next { accepted } => good += one_if(accepted),
+            Step::End {
+                ended,
+                asked,
+                accepted,
+            } => {
+                return Counted {
+                    ended,
+                    requests: turn + one_if(asked),
+                    accepted: good + one_if(accepted),
+                };
+            }
+        }
+    }
+    Counted {
+        ended: Ended::Retired,
+        requests: REQUEST_LIMIT,
+        accepted: good,
     }
 }
 
@@ -87,14 +174,5 @@ pub fn session<D: Door, L: Link, C: Clock>(
         (record { link = L.state link.new; clock = C.ahead clock.new; door = D.state door.new }) result }
     ensures door { KeepsDoor 65536 (D.state door.old) (D.state door.new) }
 {
-    let Ok((mut pending, routes)) = begin(alloc) else {
-        return Ended::Memory;
-    };
-    'requests: for turn in 0..REQUEST_LIMIT {
-        match serve_one(alloc, settings, &routes, &mut pending, door, clock, link) {
-            Step::Next => {}
-            Step::End(ended) => return ended,
-        }
-    }
-    Ended::Retired
+    counted_session(alloc, settings, door, clock, link).ended
 }

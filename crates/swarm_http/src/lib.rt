@@ -17,14 +17,15 @@
 
 mod answer;
 mod connection;
+mod counted;
 mod ended;
 mod permitting;
 mod reply;
 mod request;
 mod send;
 
-pub use connection::session;
+pub use connection::{counted_session, session};
+pub use counted::Counted;
 pub use ended::Ended;
-pub use send::send_flushed;
 pub use sw_base::{Clock, ConsoleLink, Failed, Link, MemoryLink, StepClock, SystemClock};
 pub use swarm_door::{Answered, CallFault, Door};

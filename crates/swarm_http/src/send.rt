@@ -1,36 +1,22 @@
 //! Writing a reply.
-ghost use Rattle.std.specs.Prelude.{◌≡◌, ◌++◌, None, Some, OnOk};
+ghost use Rattle.std.specs.Prelude.{◌≡◌, None, Some, OnOk, get_or, ◌++◌};
 ghost use Rattle.sw_base.specs.Link.{IsClean};
+ghost use Rattle.link_writer.specs.Sends.{Sends};
 ghost use Rattle.swarm_model.specs.declared.rule.Rule.TheVariants as rule;
+ghost use Rattle.swarm_http.specs.Exchange.{has_status_ok};
 ghost use Rattle.swarm_http.specs.Replies.{refusal};
-ghost use Rattle.swarm_http.specs.Sends.{Sends, rule_of, text_of};
+ghost use Rattle.swarm_http.specs.Sends.{rule_of, text_of};
 
 use crate::reply::{Refusal, ReplyBytes};
 use arrayvec::ArrayString;
 use itoa::Buffer;
+use link_writer::{send_both, send_flushed};
 use sw_base::{Failed, Link};
 
 const FRONT_BEFORE: &str =
     "HTTP/1.1 503 Service Unavailable\r\nContent-Length: 25\r\nContent-Type: application/json\r\nX-Swarming-Front: ";
 
 const FRONT_AFTER: &str = "\r\n\r\n{\"code\":\"want_of_memory\"}";
-
-// Writes a text whole, unless a write fails. It doesn't flush.
-fn send_whole<L: Link>(link: &mut L, text: &[u8]) -> Result<(), Failed>
-    ensures { Sends (L.state link.old) (L.state link.new) text.now result }
-{
-    let mut rest = text;
-    'writes: while !rest.is_empty() {
-        match link.write(rest) {
-            Ok(n) => {
-                let (_, after) = rest.split_at(n);
-                rest = after;
-            }
-            Err(failed) => return Err(failed),
-        }
-    }
-    Ok(())
-}
 
 fn refusal_bytes(why: Refusal) -> &'static [u8]
     ensures { result.now ≡ refusal None (rule_of why) }
@@ -79,40 +65,57 @@ fn want_of_memory_bytes(front: u64) -> ArrayString<192>
     text
 }
 
-/// Writes a text whole and flushes it, unless a write or the flush fails.
-pub fn send_flushed<L: Link>(link: &mut L, text: &[u8]) -> Result<(), Failed>
-    ensures flushed { OnOk result (IsClean (L.state link.new)) }
-    ensures sends { Sends (L.state link.old) (L.state link.new) text.now result }
-{
-    match send_whole(link, text) {
-        Ok(()) => link.flush(),
-        Err(failed) => Err(failed),
-    }
-}
-
-// Writes a text and one behind it, and flushes them, unless a write or the flush fails.
-fn send_both<L: Link>(link: &mut L, front: &[u8], back: &[u8]) -> Result<(), Failed>
-    ensures flushed { OnOk result (IsClean (L.state link.new)) }
-    ensures sends { Sends (L.state link.old) (L.state link.new) (front.now ++ back.now) result }
-{
-    match send_whole(link, front) {
-        Ok(()) => send_flushed(link, back),
-        Err(failed) => Err(failed),
-    }
-}
-
 /// Writes a reply whole and flushes it, unless a write or the flush fails.
-pub fn send_shown<L: Link>(link: &mut L, shown: &ReplyBytes) -> Result<(), Failed>
+pub fn send_shown<L: Link>(link: &mut L, shown: ReplyBytes) -> Result<(), Failed>
     ensures flushed { OnOk result (IsClean (L.state link.new)) }
-    ensures sends { Sends (L.state link.old) (L.state link.new) (text_of shown.now) result }
+    ensures sends { Sends (L.state link.old) (L.state link.new) (text_of shown) result }
 {
     match shown {
-        ReplyBytes::Refused(why) => send_flushed(link, refusal_bytes(*why)),
-        ReplyBytes::Whole(text) => send_flushed(link, text),
+        ReplyBytes::Refused(why) => send_flushed(link, refusal_bytes(why)),
+        ReplyBytes::Whole(text) => send_flushed(link, &text),
         ReplyBytes::Blob { head, content } => send_both(link, head, content.as_slice()),
         ReplyBytes::WantOfMemoryAt(front) => {
-            let text = want_of_memory_bytes(*front);
+            let text = want_of_memory_bytes(front);
             send_flushed(link, text.as_str().as_bytes())
         }
     }
+}
+
+// The byte at a place, or 0 past the end.
+fn byte_of(bytes: &[u8], place: usize) -> u8
+    ensures { result ≡ get_or bytes.now place 0 }
+{
+    if place < bytes.len() { bytes[place] } else { 0 }
+}
+
+// The byte at a place of two texts, one behind the other.
+fn byte_of_both(front: &[u8], back: &[u8], place: usize) -> u8
+    ensures { result ≡ get_or (front.now ++ back.now) place 0 }
+{
+    if place < front.len() {
+        front[place]
+    } else {
+        byte_of(back, place - front.len())
+    }
+}
+
+fn byte_at(shown: &ReplyBytes, place: usize) -> u8
+    ensures { result ≡ get_or (text_of shown.now) place 0 }
+{
+    match shown {
+        ReplyBytes::Refused(why) => byte_of(refusal_bytes(*why), place),
+        ReplyBytes::Whole(text) => byte_of(text, place),
+        ReplyBytes::Blob { head, content } => byte_of_both(head, content.as_slice(), place),
+        ReplyBytes::WantOfMemoryAt(front) => {
+            let text = want_of_memory_bytes(*front);
+            byte_of(text.as_str().as_bytes(), place)
+        }
+    }
+}
+
+/// Whether a reply has status 200.
+pub fn is_accepted(shown: &ReplyBytes) -> bool
+    ensures { result ≡ has_status_ok (text_of shown.now) }
+{
+    byte_at(shown, 9) == b'2' && byte_at(shown, 10) == b'0' && byte_at(shown, 11) == b'0'
 }

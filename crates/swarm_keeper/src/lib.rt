@@ -19,4 +19,4 @@ pub use keeper::{Digest, Keeper, KeeperFault};
 pub use memory_keeper::MemoryKeeper;
 pub use memory_store::MemoryStore;
 pub use no_keeper::NoKeeper;
-pub use store::Store;
+pub use store::{Store, faults_after};

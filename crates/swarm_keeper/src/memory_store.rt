@@ -5,7 +5,7 @@ ghost use Rattle.swarm_keeper.specs.Places.{FindsPlace, Replaces, IsTaken, table
 use crate::keeper::Keeper;
 use crate::memory_keeper::MemoryKeeper;
 use crate::memory_tables::MemoryTables;
-use crate::store::Store;
+use crate::store::{Store, faults_after};
 use dimensions::Text;
 use std::alloc::{AllocError, Global};
 use std::mem;
@@ -86,16 +86,6 @@ fn add_place(
         tables,
     })?;
     Ok(MemoryTables::new(alloc))
-}
-
-fn faults_after(faults: u64, keeper_faults: u64) -> u64
-    ensures { MatchBool (keeper_faults == 0) (faults ≡ result) (Rose faults result) }
-{
-    if keeper_faults == 0 {
-        faults
-    } else {
-        faults.saturating_add(1)
-    }
 }
 
 impl MemoryStore {

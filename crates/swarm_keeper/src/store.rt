@@ -1,4 +1,5 @@
-ghost use Rattle.std.specs.Prelude.{IfOk, IfErr};
+ghost use Rattle.std.specs.Prelude.{◌≡◌, ◌==◌, IfOk, IfErr, MatchBool};
+ghost use Rattle.sw_base.specs.Faults.{Rose};
 ghost use Rattle.swarm_keeper.specs.Stores.{StoreState, HasPlace, PlacesStay, IsAttached, NotAttached, Detaches};
 
 use crate::Keeper;
@@ -28,4 +29,16 @@ pub trait Store {
         requires { HasPlace (state self.old) folder.now pool.now }
         ensures detaches { Detaches (state self.old) (state self.new) folder.now pool.now (Self.Keeper.tables keeper) (Self.Keeper.faults keeper) }
         ensures places { PlacesStay (state self.old) (state self.new) };
+}
+
+/// A store's count of faults once it took back a keeper that has counted so many: a keeper that
+/// failed counts as one.
+pub fn faults_after(faults: u64, keeper_faults: u64) -> u64
+    ensures { MatchBool (keeper_faults == 0) (faults ≡ result) (Rose faults result) }
+{
+    if keeper_faults == 0 {
+        faults
+    } else {
+        faults.saturating_add(1)
+    }
 }

@@ -1,7 +1,7 @@
 use crate::records::{Records, read_records};
 use drill_requests::drill_input;
 use std::alloc::{AllocError, Global};
-use sw_base::{MemoryFiles, MemoryLink, StartFault, StepClock};
+use sw_base::{MemoryDialer, MemoryFiles, MemoryLink, MemoryListener, StartFault, StepClock};
 use swarm_cli::run;
 use swarm_keeper::Store;
 
@@ -71,8 +71,23 @@ where
     let words = session_words(alloc)?;
     let mut files = settings_files(alloc)?;
     let mut link = MemoryLink::new(alloc, input, 4096, Vec::new(alloc));
-    let mut clock = StepClock { at, step: 1 };
-    let status = run(alloc, &words, &mut link, &mut clock, &mut files, store);
+    let mut clock = StepClock {
+        at,
+        step: 1,
+        waited: 0,
+    };
+    let mut listener = MemoryListener::new(alloc, Vec::new(alloc));
+    let mut dialer = MemoryDialer::new(alloc, Vec::new(alloc));
+    let status = run(
+        alloc,
+        &words,
+        &mut link,
+        &mut clock,
+        &mut files,
+        store,
+        &mut listener,
+        &mut dialer,
+    );
     if status != 0 {
         return Err(StartFault::Failed);
     }

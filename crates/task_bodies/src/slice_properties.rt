@@ -180,9 +180,9 @@ fn read_properties(alloc: Global, properties: &Value) -> Result<RawProperties, P
     }
 }
 
-/// The properties at a key, where they must be.
+/// The properties at a key, where they must be, not checked yet.
 #[tactic(auto, unfolding(crate::specs::SliceProperties::properties_at))]
-pub(crate) fn read_properties_at(
+pub fn read_properties_at(
     alloc: Global,
     slice: &Value,
     key: &str,

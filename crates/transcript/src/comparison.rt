@@ -1,6 +1,6 @@
-ghost use Rattle.std.specs.Prelude.{◌≡◌, ◌↔◌, IsOk, vec_len};
+ghost use Rattle.std.specs.Prelude.{◌≡◌, ◌↔◌, [], IsOk, vec_len};
 
-use crate::{Transcript, TranscriptError};
+use crate::{Conversation, Transcript, TranscriptError};
 use std::alloc::{AllocError, Global};
 
 /// How many bytes are shown before the first that differs.
@@ -69,12 +69,12 @@ fn other_reply(
 /// The error of the first reply that differs, or of what came behind the last.
 fn difference(
     alloc: Global,
-    transcript: &Transcript,
+    link: &Conversation,
     output: &[u8],
 ) -> Result<TranscriptError, AllocError> {
-    let mut line = transcript.line;
+    let mut line = link.line;
     let mut rest = output;
-    for reply in transcript.replies.iter() {
+    for reply in link.replies.iter() {
         line = reply.line;
         match rest.strip_prefix(reply.bytes.as_slice()) {
             Some(after) => rest = after,
@@ -87,31 +87,119 @@ fn difference(
     })
 }
 
-/// Compares what was written in a run and its status with its transcript.
+/// Compares what was written to a link with what was to be.
 ///
 /// # Errors
 ///
-/// The first reply that differs, or what came behind the last, each with its line; where the bytes
-/// are alike, the other status.
-pub fn compare(
+/// The first reply that differs, or what came behind the last, each with its line.
+pub fn compare_link(
+    alloc: Global,
+    link: &Conversation,
+    output: &[u8],
+) -> Result<(), TranscriptError>
+    ensures alike { IsOk result ↔ (output.now ≡ link.now.output.items) }
+{
+    if output != link.output.as_slice() {
+        return Err(difference(alloc, link, output)?);
+    }
+    Ok(())
+}
+
+/// Whether a text stands somewhere in another.
+fn has_text(output: &[u8], text: &[u8]) -> bool {
+    for at in 0..output.len() {
+        if output[at..].starts_with(text) {
+            return true;
+        }
+    }
+    false
+}
+
+/// Compares what was printed in a run with its transcript: with the texts that it mentions, and where
+/// there are none with the replies.
+///
+/// # Errors
+///
+/// The first reply that differs, what came behind the last, or a text that isn't mentioned.
+pub fn compare_console(
     alloc: Global,
     transcript: &Transcript,
     output: &[u8],
-    status: u8,
-) -> Result<(), TranscriptError>
-    ensures alike { IsOk result ↔ ((output.now ≡ transcript.now.output.items) × (status ≡ transcript.now.status)) }
-{
-    if output != transcript.output.as_slice() {
-        return Err(difference(alloc, transcript, output)?);
+) -> Result<(), TranscriptError> {
+    if transcript.mentions.is_empty() {
+        return compare_link(alloc, &transcript.console, output);
     }
-    if status != transcript.status {
-        return Err(TranscriptError::Status {
-            line: transcript.line,
-            wanted: transcript.status,
-            came: status,
-        });
+    for text in transcript.mentions.iter() {
+        if !has_text(output, text.as_slice()) {
+            return Err(other_reply(alloc, transcript.line, text.as_slice(), output)?);
+        }
     }
     Ok(())
+}
+
+/// Compares what was printed in a run that is to print nothing.
+///
+/// # Errors
+///
+/// Something was printed.
+pub fn compare_nothing(
+    alloc: Global,
+    transcript: &Transcript,
+    output: &[u8],
+) -> Result<(), TranscriptError>
+    ensures alike { IsOk result ↔ (output.now ≡ []) }
+{
+    if output.is_empty() {
+        return Ok(());
+    }
+    Err(TranscriptError::More {
+        line: transcript.line,
+        came: excerpt(alloc, output, 0, CAME)?,
+    })
+}
+
+/// Compares how many links a run used with how many it was to use.
+///
+/// # Errors
+///
+/// It used more of them, or fewer.
+pub fn compare_links(
+    transcript: &Transcript,
+    wanted: usize,
+    came: usize,
+) -> Result<(), TranscriptError>
+    ensures alike { IsOk result ↔ (came ≡ wanted) }
+{
+    if came == wanted {
+        return Ok(());
+    }
+    Err(TranscriptError::Links {
+        line: transcript.line,
+        wanted,
+        came,
+    })
+}
+
+/// Compares the status of a run with that of its transcript.
+///
+/// # Errors
+///
+/// It ended with another one.
+pub fn compare_status(
+    transcript: &Transcript,
+    wanted: u8,
+    status: u8,
+) -> Result<(), TranscriptError>
+    ensures alike { IsOk result ↔ (status ≡ wanted) }
+{
+    if status == wanted {
+        return Ok(());
+    }
+    Err(TranscriptError::Status {
+        line: transcript.line,
+        wanted,
+        came: status,
+    })
 }
 
 /// Compares how often the clock of a run was asked with the moments of its transcript.

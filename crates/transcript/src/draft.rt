@@ -1,16 +1,29 @@
-use crate::{File, TextFault, Transcript, TranscriptError};
+use crate::{Conversation, File, TextFault, Transcript, TranscriptError};
 use std::alloc::{AllocError, Global};
 use std::mem;
+
+/// Which link the rows are of.
+#[derive(Clone, Copy)]
+pub(crate) enum Place {
+    Console,
+    /// The last of those that come to the listener.
+    Connection,
+    /// The last of those that are dialed.
+    Dial,
+}
 
 /// A transcript whose lines are being read.
 #[derive(Drop)]
 pub(crate) struct Draft {
     pub(crate) transcript: Transcript,
+    place: Place,
+    /// What goes over the link that the rows are of. It is not in the transcript yet.
+    pub(crate) link: Conversation,
     has_row: bool,
     has_from: bool,
     /// Whether the next line may be one of the last file.
     is_in_file: bool,
-    /// How many requests have no reply yet.
+    /// How many requests over the link have no reply yet.
     unanswered: usize,
     /// The further fields of the next request, and the line of the last of them.
     fields: Vec<u8>,
@@ -21,6 +34,8 @@ impl Draft {
     pub(crate) fn new(alloc: Global, name: &str, line: usize) -> Result<Draft, AllocError> {
         Ok(Draft {
             transcript: Transcript::new(alloc, name, line)?,
+            place: Place::Console,
+            link: Conversation::new(alloc, line),
             has_row: false,
             has_from: false,
             is_in_file: false,
@@ -38,6 +53,8 @@ impl Draft {
     ) -> Result<Draft, AllocError> {
         Ok(Draft {
             transcript: before.next_run(alloc, line)?,
+            place: Place::Console,
+            link: Conversation::new(alloc, line),
             has_row: true,
             has_from: false,
             is_in_file: false,
@@ -55,6 +72,35 @@ impl Draft {
         Ok(&mut self.transcript)
     }
 
+    /// Begins the rows of a link.
+    pub(crate) fn begin_link(
+        &mut self,
+        alloc: Global,
+        line: usize,
+        place: Place,
+    ) -> Result<(), AllocError> {
+        self.keep_link(Conversation::new(alloc, line))?;
+        if matches!(place, Place::Console) {
+            let none = Conversation::new(alloc, line);
+            self.link = mem::replace(&mut self.transcript.console, none);
+        }
+        self.has_row = true;
+        self.place = place;
+        self.unanswered = 0;
+        Ok(())
+    }
+
+    /// Puts what goes over the link into the transcript, and goes on with the next.
+    fn keep_link(&mut self, next: Conversation) -> Result<(), AllocError> {
+        let link = mem::replace(&mut self.link, next);
+        match self.place {
+            Place::Console => self.transcript.console = link,
+            Place::Connection => self.transcript.connections.push(link)?,
+            Place::Dial => self.transcript.dials.push(link)?,
+        }
+        Ok(())
+    }
+
     /// Begins with the rows and the files of another transcript.
     pub(crate) fn begin_with(
         &mut self,
@@ -66,7 +112,9 @@ impl Draft {
             return Err(TextFault::LateFrom.at(line));
         }
         self.has_from = true;
-        self.transcript.add_rows(alloc, other)?;
+        self.link.add_rows(alloc, &other.console)?;
+        let moments = other.moments.as_slice();
+        self.transcript.moments.extend_from_slice(moments)?;
         for file in other.files.iter() {
             let bytes = Vec::from_slice(alloc, file.bytes.as_slice())?;
             self.add_file(alloc, line, file.path.as_str(), bytes)?;
@@ -144,7 +192,7 @@ impl Draft {
     pub(crate) fn add_request(&mut self, bytes: &[u8]) -> Result<(), AllocError> {
         self.has_row = true;
         self.unanswered = self.unanswered.saturating_add(1);
-        self.transcript.input.extend_from_slice(bytes)
+        self.link.input.extend_from_slice(bytes)
     }
 
     /// Adds the reply to one of the requests.
@@ -160,14 +208,15 @@ impl Draft {
     pub(crate) fn add_bytes(&mut self, line: usize, bytes: Vec<u8>) -> Result<(), AllocError> {
         self.has_row = true;
         self.unanswered = self.unanswered.saturating_sub(1);
-        self.transcript.add_reply(line, bytes)
+        self.link.add_reply(line, bytes)
     }
 
     /// The transcript, all lines of which were read.
-    pub(crate) fn end(self) -> Result<Transcript, TranscriptError> {
+    pub(crate) fn end(mut self, alloc: Global) -> Result<Transcript, TranscriptError> {
         if !self.fields.is_empty() {
             return Err(TextFault::FieldWithoutRequest.at(self.fields_line));
         }
+        self.keep_link(Conversation::new(alloc, 0))?;
         Ok(self.transcript)
     }
 }

@@ -100,6 +100,13 @@ pub enum TranscriptError {
         wanted: u8,
         came: u8,
     },
+    /// The transcript that begins at this line has so many connections, or so many links that are
+    /// dialed, and another number of them was used.
+    Links {
+        line: usize,
+        wanted: usize,
+        came: usize,
+    },
     /// Pools were asked at more moments, or at fewer, than the transcript that begins at this line
     /// has.
     Moments {
@@ -118,6 +125,7 @@ impl TranscriptError {
             | TranscriptError::Reply { line, .. }
             | TranscriptError::More { line, .. }
             | TranscriptError::Status { line, .. }
+            | TranscriptError::Links { line, .. }
             | TranscriptError::Moments { line, .. } => *line,
             TranscriptError::Memory => 0,
         }
@@ -141,6 +149,10 @@ impl fmt::Display for TranscriptError {
             TranscriptError::Status { wanted, came, .. } => {
                 write!(f, "status {wanted} was wanted, and {came} came")
             }
+            TranscriptError::Links { wanted, came, .. } => write!(
+                f,
+                "{wanted} links were to be used, and {came} were"
+            ),
             TranscriptError::Moments { wanted, came, .. } => write!(
                 f,
                 "the clock was to be asked {wanted} times, and was asked {came} times"

@@ -23,6 +23,24 @@ pub(crate) fn request_bytes(
     Ok(bytes)
 }
 
+/// The bytes of a request that the program writes to the server `lab`.
+pub(crate) fn dialed_bytes(
+    alloc: Global,
+    path: &[u8],
+    caller: &str,
+    body: &[u8],
+) -> Result<Vec<u8>, AllocError> {
+    let size = body.len();
+    let head = format!(in alloc;
+        " HTTP/1.1\r\nHost: lab\r\nX-Swarming-Caller: {caller}\r\nContent-Length: {size}\r\n\r\n"
+    )?;
+    let mut bytes = Vec::from_slice(alloc, b"POST ")?;
+    bytes.extend_from_slice(path)?;
+    bytes.extend_from_slice(head.as_bytes())?;
+    bytes.extend_from_slice(body)?;
+    Ok(bytes)
+}
+
 /// The bytes of a reply. The front `-` stands for none.
 pub(crate) fn reply_bytes(
     alloc: Global,

@@ -2,14 +2,15 @@
 
 //! Transcripts: what is sent over a connection and what comes back, as rows of a readable text.
 //!
-//! [`read`] takes the transcripts out of a text. [`compare`] holds what was written in a run and its
-//! status against a transcript, and [`compare_moments`] how often its clock was asked. A text has one
+//! [`read`] takes the transcripts out of a text. [`compare_console`] holds what was printed in a run
+//! against a transcript, [`compare_link`] what was written to another link, [`compare_links`] how many
+//! links it used, [`compare_status`] its status and [`compare_moments`] how often its clock was asked. A text has one
 //! entry a line. Lines that are blank or begin with `#` are left out.
 //!
 //! | Line | Meaning |
 //! |---|---|
 //! | `let NAME TEXT` | from here on `${NAME}` stands for the text, and `${NAME*9}` for it nine times |
-//! | `transcript NAME` | begins a transcript: one run of the program over one connection, on a new store that keeps nothing |
+//! | `transcript NAME` | begins a transcript: one run of the program over a console and other links, on a new store that keeps nothing |
 //! | `from NAME` | the transcript begins with the rows of an earlier one of the text, up to its first `again`, and has its files |
 //! | `again` | ends the run, and begins the next one of the same words and files, over the store that it left |
 //! | `words WORD ..` | the words of the command line; `session` where the line is absent |
@@ -21,10 +22,18 @@
 //! | `<blob STATUS \| FRONT \| BYTES` | the same, where the body are the bytes of a blob, as `application/octet-stream` |
 //! | `>> TEXT` | bytes that are sent as they stand |
 //! | `<< TEXT` | bytes that are answered as they stand |
+//! | `connection` | begins the next link that comes to the listener: the rows that follow go over it |
+//! | `dial` | begins the next link that the program dials: what is sent over it is what the program reads, and what is answered what the program writes |
+//! | `console` | the rows that follow go over the console, as those before the first `connection` or `dial` |
+//! | `>reply STATUS \| FRONT \| BODY` | a reply that a dialed link gives, in the form of `<` |
+//! | `<request PATH BODY` | a request that the program writes to a dialed link, with the fields `Host: lab`, `X-Swarming-Caller` and `Content-Length` in this order |
+//! | `mentions TEXT` | the text stands somewhere in what is printed, which is then not compared with the replies |
+//! | `cuts STATUS` | the transcript is also run with what its last dialed link gives cut at each place: nothing is printed, and the program ends with this status |
+//! | `listen_fails CALL ..`, `accept_fails CALL ..`, `dial_fails CALL ..` | the calls that listen, accept and dial and that fail, each kind counted from 0 |
 //! | `moment SECONDS` | one more second at which a pool is asked, for a request that is sent by `>>` |
 //! | `step SECONDS` | the transcript is also run over a clock that begins at its first moment and goes on by this step at each call |
 //! | `pieces FIRST LAST` | the transcript is run once for each size of the pieces in which its bytes come; `pieces 1000 1000` where the line is absent |
-//! | `fails CALL ..` | the calls on the link that fail: reads, writes and flushes, counted together from 0 |
+//! | `fails CALL ..` | the calls on the link that the rows go over that fail: reads, writes and flushes, counted together from 0 |
 //! | `file PATH` | the program finds a file at this path, with the lines that follow; it stands before the first row |
 //! | `\| TEXT` | the next line of the file, which ends in LF |
 //! | `file_fails CALL ..` | the loads of files that fail, counted from 0 |
@@ -63,6 +72,7 @@
 //! without the last field where its front is `-`. Each line of a head ends in CR LF.
 
 mod comparison;
+mod conversation;
 mod draft;
 mod error;
 mod exchange;
@@ -71,7 +81,10 @@ mod parts;
 mod reader;
 mod transcript;
 
-pub use comparison::{compare, compare_moments};
+pub use comparison::{
+    compare_console, compare_link, compare_links, compare_moments, compare_nothing, compare_status,
+};
+pub use conversation::Conversation;
 pub use error::{TextFault, TranscriptError};
 pub use reader::read;
 pub use transcript::{File, Pieces, Reply, Transcript};

@@ -1,5 +1,5 @@
-use crate::draft::Draft;
-use crate::exchange::{reply_bytes, request_bytes};
+use crate::draft::{Draft, Place};
+use crate::exchange::{dialed_bytes, reply_bytes, request_bytes};
 use crate::names::Names;
 use crate::parts::{form_error, is_front, is_name, is_status, read_number, read_numbers};
 use crate::{Pieces, TextFault, Transcript, TranscriptError};
@@ -47,6 +47,14 @@ impl Reader {
             "step" => self.set_step(entry),
             "pieces" => self.set_pieces(entry),
             "fails" => self.set_fails(entry),
+            "connection" => self.begin_link(Place::Connection, entry),
+            "dial" => self.begin_link(Place::Dial, entry),
+            "console" => self.begin_link(Place::Console, entry),
+            "listen_fails" => self.set_listen_fails(entry),
+            "accept_fails" => self.set_accept_fails(entry),
+            "dial_fails" => self.set_dial_fails(entry),
+            "cuts" => self.set_cut_status(entry),
+            "mentions" => self.add_mention(entry),
             "file" => self.begin_file(entry),
             "|" => self.add_file_line(entry),
             "file_fails" => self.set_file_fails(entry),
@@ -59,6 +67,8 @@ impl Reader {
             ">" => self.add_request("POST", entry),
             ">put" => self.add_request("PUT", entry),
             ">get" => self.add_request("GET", entry),
+            ">reply" => self.add_dialed_reply(entry),
+            "<request" => self.add_dialed_request(entry),
             "<" => self.add_reply("application/json", entry),
             "<blob" => self.add_reply("application/octet-stream", entry),
             ">>" => self.add_sent(entry),
@@ -101,7 +111,7 @@ impl Reader {
     /// Ends the transcript that was read last, if there is one.
     fn end_draft(&mut self) -> Result<(), TranscriptError> {
         if let Some(draft) = self.current.take() {
-            self.earlier.push(draft.end()?)?;
+            self.earlier.push(draft.end(self.alloc)?)?;
         }
         Ok(())
     }
@@ -160,7 +170,48 @@ impl Reader {
 
     fn set_fails(&mut self, entry: &str) -> Result<(), TranscriptError> {
         let fails = read_numbers(self.alloc, self.line, entry)?;
-        self.draft()?.transcript.fails = fails;
+        self.draft()?.link.fails = fails;
+        Ok(())
+    }
+
+    /// Begins the rows of a link, behind whose key nothing stands.
+    fn begin_link(&mut self, place: Place, entry: &str) -> Result<(), TranscriptError> {
+        if !entry.is_empty() {
+            return Err(self.form_error("nothing behind the key", entry));
+        }
+        let line = self.line;
+        let alloc = self.alloc;
+        self.draft()?.begin_link(alloc, line, place)?;
+        Ok(())
+    }
+
+    fn set_listen_fails(&mut self, entry: &str) -> Result<(), TranscriptError> {
+        let fails = read_numbers(self.alloc, self.line, entry)?;
+        self.draft()?.transcript.listen_fails = fails;
+        Ok(())
+    }
+
+    fn set_accept_fails(&mut self, entry: &str) -> Result<(), TranscriptError> {
+        let fails = read_numbers(self.alloc, self.line, entry)?;
+        self.draft()?.transcript.accept_fails = fails;
+        Ok(())
+    }
+
+    fn set_dial_fails(&mut self, entry: &str) -> Result<(), TranscriptError> {
+        let fails = read_numbers(self.alloc, self.line, entry)?;
+        self.draft()?.transcript.dial_fails = fails;
+        Ok(())
+    }
+
+    fn add_mention(&mut self, entry: &str) -> Result<(), TranscriptError> {
+        let text = self.expand(entry)?;
+        self.draft()?.transcript.mentions.push(text)?;
+        Ok(())
+    }
+
+    fn set_cut_status(&mut self, entry: &str) -> Result<(), TranscriptError> {
+        let status = read_number(self.alloc, self.line, entry)?;
+        self.draft()?.transcript.cut_status = Some(status);
         Ok(())
     }
 
@@ -192,7 +243,7 @@ impl Reader {
         let Some(draft) = self.current.take() else {
             return Err(TextFault::OutsideTranscript.at(self.line));
         };
-        let before = draft.end()?;
+        let before = draft.end(self.alloc)?;
         self.current = Some(Draft::next_run(self.alloc, &before, self.line)?);
         self.earlier.push(before)?;
         Ok(())
@@ -267,8 +318,8 @@ impl Reader {
         Ok(())
     }
 
-    fn add_reply(&mut self, content_type: &str, entry: &str) -> Result<(), TranscriptError> {
-        let line = self.line;
+    /// The bytes of a reply: its status, its front and its body.
+    fn read_reply(&mut self, content_type: &str, entry: &str) -> Result<Vec<u8>, TranscriptError> {
         let Some((status, rest)) = entry.split_once(" | ") else {
             return Err(self.form_error("STATUS | FRONT | BODY", entry));
         };
@@ -283,7 +334,39 @@ impl Reader {
         }
         let body = self.expand(body)?;
         let bytes = reply_bytes(self.alloc, status, content_type, front, body.as_slice())?;
+        Ok(bytes)
+    }
+
+    fn add_reply(&mut self, content_type: &str, entry: &str) -> Result<(), TranscriptError> {
+        let line = self.line;
+        let bytes = self.read_reply(content_type, entry)?;
         self.draft()?.add_reply(line, bytes)
+    }
+
+    /// Adds a reply that a dialed link gives.
+    fn add_dialed_reply(&mut self, entry: &str) -> Result<(), TranscriptError> {
+        let bytes = self.read_reply("application/json", entry)?;
+        self.draft()?.add_request(bytes.as_slice())?;
+        Ok(())
+    }
+
+    /// Adds a request that the program writes to a dialed link.
+    fn add_dialed_request(&mut self, entry: &str) -> Result<(), TranscriptError> {
+        let line = self.line;
+        let (path, body) = entry.split_once(' ').unwrap_or((entry, ""));
+        let path = self.expand(path)?;
+        let body = self.expand(body)?;
+        let Some(caller) = &self.caller else {
+            return Err(TextFault::RequestWithoutCaller.at(line));
+        };
+        let bytes = dialed_bytes(
+            self.alloc,
+            path.as_slice(),
+            caller.as_str(),
+            body.as_slice(),
+        )?;
+        self.draft()?.add_bytes(line, bytes)?;
+        Ok(())
     }
 
     fn add_sent(&mut self, entry: &str) -> Result<(), TranscriptError> {

@@ -1,3 +1,4 @@
+use crate::Conversation;
 use std::alloc::{AllocError, Global};
 
 /// The bytes of a reply, and the line at which it stands.
@@ -30,7 +31,7 @@ pub struct Pieces {
     pub last: usize,
 }
 
-/// One run of the program over one connection, and what it is to answer.
+/// One run of the program, and what it is to answer.
 #[derive(Drop)]
 pub struct Transcript {
     pub name: String,
@@ -40,18 +41,27 @@ pub struct Transcript {
     pub is_again: bool,
     /// The words of the command line.
     pub words: Vec<String>,
-    /// The bytes that are sent.
-    pub input: Vec<u8>,
+    /// What goes over the console.
+    pub console: Conversation,
+    /// Texts that stand somewhere in what is printed. Where there are some, the console's replies
+    /// are not compared.
+    pub mentions: Vec<Vec<u8>>,
+    /// What goes over the links that come to the listener, in order.
+    pub connections: Vec<Conversation>,
+    /// What goes over the links that the program dials, in order.
+    pub dials: Vec<Conversation>,
+    /// Where the last dialed link's bytes are also cut at each place: the status with which the
+    /// program then ends, once it has printed nothing.
+    pub cut_status: Option<u8>,
     /// The seconds at which pools are asked, in order.
     pub moments: Vec<u64>,
-    pub replies: Vec<Reply>,
-    /// The bytes of the replies, one after the other.
-    pub output: Vec<u8>,
     /// The step of the second clock over which it is run, in seconds.
     pub step: Option<u64>,
     pub pieces: Pieces,
-    /// The numbers of the calls on the link that fail.
-    pub fails: Vec<u64>,
+    /// The numbers of the calls that listen, accept and dial and that fail, each kind by itself.
+    pub listen_fails: Vec<u64>,
+    pub accept_fails: Vec<u64>,
+    pub dial_fails: Vec<u64>,
     /// The files, no two of which have one path.
     pub files: Vec<File>,
     /// The numbers of the loads of files that fail.
@@ -72,16 +82,20 @@ impl Transcript {
             line,
             is_again: false,
             words: vec![in alloc; String::from_str(alloc, "session")?]?,
-            input: Vec::new(alloc),
+            console: Conversation::new(alloc, line),
+            mentions: Vec::new(alloc),
+            connections: Vec::new(alloc),
+            dials: Vec::new(alloc),
+            cut_status: None,
             moments: Vec::new(alloc),
-            replies: Vec::new(alloc),
-            output: Vec::new(alloc),
             step: None,
             pieces: Pieces {
                 first: 1000,
                 last: 1000,
             },
-            fails: Vec::new(alloc),
+            listen_fails: Vec::new(alloc),
+            accept_fails: Vec::new(alloc),
+            dial_fails: Vec::new(alloc),
             files: Vec::new(alloc),
             file_fails: Vec::new(alloc),
             attach_fails: Vec::new(alloc),
@@ -104,23 +118,5 @@ impl Transcript {
             next.files.push(File { path, bytes })?;
         }
         Ok(next)
-    }
-
-    /// Adds a reply that stands at a line.
-    pub(crate) fn add_reply(&mut self, line: usize, bytes: Vec<u8>) -> Result<(), AllocError> {
-        self.output.extend_from_slice(bytes.as_slice())?;
-        self.replies.push(Reply { line, bytes })?;
-        Ok(())
-    }
-
-    /// Adds the rows of another transcript.
-    pub(crate) fn add_rows(&mut self, alloc: Global, other: &Transcript) -> Result<(), AllocError> {
-        self.input.extend_from_slice(other.input.as_slice())?;
-        self.moments.extend_from_slice(other.moments.as_slice())?;
-        for reply in other.replies.iter() {
-            let bytes = Vec::from_slice(alloc, reply.bytes.as_slice())?;
-            self.add_reply(reply.line, bytes)?;
-        }
-        Ok(())
     }
 }

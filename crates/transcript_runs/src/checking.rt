@@ -1,8 +1,11 @@
+use crate::links::{compare_dialed, compare_served, dialer_of, listener_of};
 use std::alloc::{AllocError, Global};
-use sw_base::{Clock, ListClock, MemoryFiles, MemoryLink, StepClock};
+use sw_base::{Clock, ListClock, MemoryDialer, MemoryFiles, MemoryLink, StepClock};
 use swarm_cli::run;
 use swarm_keeper::MemoryStore;
-use transcript::{Transcript, TranscriptError, compare, compare_moments};
+use transcript::{
+    Transcript, TranscriptError, compare_console, compare_moments, compare_nothing, compare_status,
+};
 
 /// The files of a transcript, for one run.
 fn files_of(alloc: Global, transcript: &Transcript) -> Result<MemoryFiles, AllocError> {
@@ -25,6 +28,35 @@ fn store_of(alloc: Global, transcript: &Transcript) -> Result<MemoryStore, Alloc
     Ok(MemoryStore::new(alloc, attach_fails, keeper_fails))
 }
 
+/// Runs a transcript over a clock, a store and a dialer, its bytes in pieces of this size, and
+/// answers what it wrote to the console and its status, once the links that came are compared.
+fn run_over<C: Clock>(
+    alloc: Global,
+    transcript: &Transcript,
+    piece: usize,
+    clock: &mut C,
+    store: &mut MemoryStore,
+    dialer: &mut MemoryDialer,
+) -> Result<(MemoryLink, u8), TranscriptError> {
+    let input = Vec::from_slice(alloc, transcript.console.input.as_slice())?;
+    let fails = Vec::from_slice(alloc, transcript.console.fails.as_slice())?;
+    let mut link = MemoryLink::new(alloc, input, piece, fails);
+    let mut files = files_of(alloc, transcript)?;
+    let mut listener = listener_of(alloc, transcript, piece)?;
+    let status = run(
+        alloc,
+        transcript.words.as_slice(),
+        &mut link,
+        clock,
+        &mut files,
+        store,
+        &mut listener,
+        dialer,
+    );
+    compare_served(alloc, transcript, &listener)?;
+    Ok((link, status))
+}
+
 /// Runs a transcript over a clock and a store, its bytes in pieces of this size, and compares what
 /// was written and the status.
 fn check_over<C: Clock>(
@@ -34,19 +66,46 @@ fn check_over<C: Clock>(
     clock: &mut C,
     store: &mut MemoryStore,
 ) -> Result<(), TranscriptError> {
-    let input = Vec::from_slice(alloc, transcript.input.as_slice())?;
-    let fails = Vec::from_slice(alloc, transcript.fails.as_slice())?;
-    let mut link = MemoryLink::new(alloc, input, piece, fails);
-    let mut files = files_of(alloc, transcript)?;
-    let status = run(
-        alloc,
-        transcript.words.as_slice(),
-        &mut link,
-        clock,
-        &mut files,
-        store,
-    );
-    compare(alloc, transcript, link.output(), status)
+    let mut dialer = dialer_of(alloc, transcript, piece, None)?;
+    let (link, status) = run_over(alloc, transcript, piece, clock, store, &mut dialer)?;
+    compare_console(alloc, transcript, link.output())?;
+    compare_dialed(alloc, transcript, &dialer)?;
+    compare_status(transcript, transcript.status, status)
+}
+
+/// Runs a transcript with what its last dialed link gives cut at a place: nothing is printed, and
+/// the status is this one.
+fn check_cut(
+    alloc: Global,
+    transcript: &Transcript,
+    most: usize,
+    wanted: u8,
+    store: &mut MemoryStore,
+) -> Result<(), TranscriptError> {
+    let mut clock = StepClock {
+        at: 0,
+        step: 0,
+        waited: 0,
+    };
+    let mut dialer = dialer_of(alloc, transcript, most.max(1), Some(most))?;
+    let (link, status) = run_over(alloc, transcript, 1000, &mut clock, store, &mut dialer)?;
+    compare_nothing(alloc, transcript, link.output())?;
+    compare_status(transcript, wanted, status)
+}
+
+/// Runs a transcript with what its last dialed link gives cut at each place.
+fn check_cuts(
+    alloc: Global,
+    transcript: &Transcript,
+    store: &mut MemoryStore,
+) -> Result<(), TranscriptError> {
+    let (Some(wanted), Some(last)) = (transcript.cut_status, transcript.dials.last()) else {
+        return Ok(());
+    };
+    for most in 0..last.input.len() {
+        check_cut(alloc, transcript, most, wanted, store)?;
+    }
+    Ok(())
 }
 
 /// Runs transcripts one after the other over one store and their moments, each of which has to be
@@ -61,6 +120,7 @@ fn check_moments(
         let mut clock = ListClock {
             moments: transcript.moments.as_slice(),
             asked: 0,
+            waited: 0,
         };
         check_over(alloc, transcript, piece, &mut clock, store)?;
         compare_moments(transcript, clock.asked)?;
@@ -79,7 +139,11 @@ fn check_step(
 ) -> Result<(), TranscriptError> {
     for transcript in runs {
         let at = transcript.moments.first().copied().unwrap_or(0);
-        let mut clock = StepClock { at, step };
+        let mut clock = StepClock {
+            at,
+            step,
+            waited: 0,
+        };
         check_over(alloc, transcript, piece, &mut clock, store)?;
     }
     Ok(())
@@ -97,11 +161,12 @@ fn check_sizes(
             check_step(alloc, runs, piece, step, &mut store_of(alloc, first)?)?;
         }
     }
-    Ok(())
+    check_cuts(alloc, first, &mut store_of(alloc, first)?)
 }
 
 /// Runs a transcript and those that go on with its store, each time from a new store on: for each
-/// size of its pieces over their moments, and over the clock of its step where it has one.
+/// size of its pieces over their moments, and over the clock of its step where it has one, and with
+/// what its last dialed link gives cut at each place where it says so.
 ///
 /// # Errors
 ///

@@ -54,7 +54,7 @@ fn run_text<R: Print + Eprint + AllocGlobal>(rt: &R, file: &str, text: &str) -> 
     let mut count = 0usize;
     let mut replies = 0usize;
     for (at, transcript) in transcripts.iter().enumerate() {
-        replies = replies.saturating_add(transcript.replies.len());
+        replies = replies.saturating_add(transcript.console.replies.len());
         if transcript.is_again {
             continue;
         }

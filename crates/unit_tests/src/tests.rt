@@ -11,7 +11,6 @@ mod links_and_clocks;
 mod new_tasks;
 mod pool_grants;
 mod request_heads;
-mod rows_of_tasks;
 mod stored_contents;
 
 fn texts(alloc: Global, list: &[&str]) -> Result<Seq<Text>, AllocError> {

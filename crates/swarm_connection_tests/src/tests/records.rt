@@ -4,7 +4,7 @@ use crate::tests::NEW_TASK;
 use dimensions::Text;
 use std::alloc::{AllocError, Global};
 use std::test::Fail;
-use sw_base::{MemoryFiles, MemoryLink, StepClock};
+use sw_base::{MemoryDialer, MemoryFiles, MemoryLink, MemoryListener, StepClock};
 use swarm_cli::run;
 use swarm_keeper::MemoryStore;
 
@@ -32,8 +32,23 @@ fn run_over(
     );
     let mut files = MemoryFiles::new(vec![in alloc; file]?, Vec::new(alloc));
     let mut link = MemoryLink::new(alloc, Vec::from_slice(alloc, input)?, 100, Vec::new(alloc));
-    let mut clock = StepClock { at: 1000, step: 0 };
-    let status = run(alloc, &words, &mut link, &mut clock, &mut files, store);
+    let mut clock = StepClock {
+        at: 1000,
+        step: 0,
+        waited: 0,
+    };
+    let mut listener = MemoryListener::new(alloc, Vec::new(alloc));
+    let mut dialer = MemoryDialer::new(alloc, Vec::new(alloc));
+    let status = run(
+        alloc,
+        &words,
+        &mut link,
+        &mut clock,
+        &mut files,
+        store,
+        &mut listener,
+        &mut dialer,
+    );
     Ok((status, Vec::from_slice(alloc, link.output())?))
 }
 

@@ -5,7 +5,7 @@ ghost use Rattle.std.specs.Prelude.{◌≤◌, length, None};
 use crate::tests::NEW_TASK;
 use std::alloc::{AllocError, Global};
 use std::test::Fail;
-use sw_base::{Failed, Link, MemoryFiles, StepClock};
+use sw_base::{Failed, Link, MemoryDialer, MemoryFiles, MemoryListener, StepClock};
 use swarm_cli::run;
 use swarm_keeper::MemoryStore;
 
@@ -92,11 +92,26 @@ impl Link for TurnLink {
 fn a_client_that_waits_for_each_reply(rt: HostRuntime) -> Result<(), Fail> {
     let alloc = rt.alloc();
     let mut link = TurnLink::new(alloc, NEW_TASK, 3)?;
-    let mut clock = StepClock { at: 1000, step: 0 };
+    let mut clock = StepClock {
+        at: 1000,
+        step: 0,
+        waited: 0,
+    };
     let mut files = MemoryFiles::new(Vec::new(alloc), Vec::new(alloc));
     let mut store = MemoryStore::new(alloc, Vec::new(alloc), Vec::new(alloc));
     let words = vec![in alloc; String::from_str(alloc, "session")?]?;
-    let status = run(alloc, &words, &mut link, &mut clock, &mut files, &mut store);
+    let mut listener = MemoryListener::new(alloc, Vec::new(alloc));
+    let mut dialer = MemoryDialer::new(alloc, Vec::new(alloc));
+    let status = run(
+        alloc,
+        &words,
+        &mut link,
+        &mut clock,
+        &mut files,
+        &mut store,
+        &mut listener,
+        &mut dialer,
+    );
     assert_eq!(rt; status, 0);
     assert_eq!(rt; link.answered(), 3);
     Ok(())

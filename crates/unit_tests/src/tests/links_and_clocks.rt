@@ -67,6 +67,7 @@ fn a_clock_of_steps_stays_at_the_last_moment(rt: HostRuntime) {
     let mut clock = StepClock {
         at: u64::MAX - 5,
         step: 3,
+        waited: 0,
     };
     assert_eq!(rt; clock.now(), u64::MAX - 5);
     assert_eq!(rt; clock.now(), u64::MAX - 2);

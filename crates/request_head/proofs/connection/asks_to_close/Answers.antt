@@ -1,4 +1,5 @@
-use Rattle.request_head.proofs.HeadLemmas.{closing_more, no_header}
+use Rattle.head_fields.proofs.FieldLemmas.{no_header}
+use Rattle.request_head.proofs.HeadLemmas.{closing_more}
 use Rattle.request_head.proofs.connection.asks_to_close.Goals as goal
 
 pub loop-header-preserved : goal.loop-header-preserved

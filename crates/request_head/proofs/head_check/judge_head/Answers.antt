@@ -1,5 +1,5 @@
 use Rattle.std.proofs.Common.{◌∙◌, ap}
-use Rattle.request_head.specs.Numbers.{value_or_zero}
+use Rattle.head_fields.specs.Numbers.{value_or_zero}
 use Rattle.request_head.specs.HeadFields.{method_named, limit_at, after_number}
 use Rattle.request_head.proofs.HeadLemmas.{refusal_read, says_read, due_refused}
 use Rattle.request_head.proofs.head_check.judge_head.Goals as goal

@@ -1,5 +1,5 @@
 -- The rows, the log and the bytes after a commit are those of the entry, and so are the records.
-use Rattle.swarm_history.proofs.Additions.{adds_from, adds_held}
+use Rattle.swarm_history.proofs.Additions.{adds_from, adds_held, adds_records, adds_no_others}
 use Rattle.swarm_history.proofs.OwnPoints.{sound_history}
 use Rattle.swarm_history.proofs.Bringing.{still_some}
 use Rattle.swarm_history.proofs.adding.add.Goals as goal
@@ -12,3 +12,14 @@ returns-clause-held g c =
     let k = g.M.Machine.kept c.args.machine.now in
     adds_held k _ _ c.args.entry _ c.in-Ok.ensures.ok c.commit.ensures.added (sound_history k c.requires.history) c.requires.held
     (λ new. still_some (λ b. b.now) c.args.bytes (c.requires.whole new))
+
+pub returns-clause-records : goal.returns-clause-records
+returns-clause-records g c =
+    adds_records (g.M.Machine.kept c.args.machine.now) _ _ c.args.entry _ (g.K.Keeper.tables c.args.keeper.now) _ c.in-Ok.ensures.ok c.commit.ensures.added c.in_ok-keep.ensures.keeps
+    (λ new. still_some (λ b. b.now) c.args.bytes (c.requires.whole new)) c.requires.records
+
+pub returns-clause-no_other_blobs : goal.returns-clause-no_other_blobs
+returns-clause-no_other_blobs g c =
+    let k = g.M.Machine.kept c.args.machine.now in
+    adds_no_others k _ _ c.args.entry _ (g.K.Keeper.tables c.args.keeper.now) _ c.in-Ok.ensures.ok c.commit.ensures.added c.in_ok-keep.ensures.keeps
+    c.requires.history (sound_history k c.requires.history) c.requires.follows

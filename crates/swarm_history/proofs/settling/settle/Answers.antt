@@ -33,4 +33,5 @@ loop-entry-preserved g c =
       c.add.ensures.held,
       c.add.ensures.records,
       omega (arith, before, grows),
+      λ none. c.add.ensures.no_other_blobs (c.loop-entry.invariant.4 none),
     )

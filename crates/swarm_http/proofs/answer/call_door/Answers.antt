@@ -15,7 +15,7 @@ returns-in-Ok-whole_reply-clause-answers g c = λ head body same means.
       outcome = answered the_call c.in-Ok.answered;
       acts = is_called s.settings s.writer head body the_call c.args.after c.front_of.result (Ok c.in-Ok.answered) s.seen (g.D.Door.state c.call.new.self).seen
           same c.front_of.ensures means d.done d.elsewhere;
-      moments = c.now-moment.ensures;
+      moments = c.now-moment.ensures.moments;
       keeper = d.faults;
       shown = c.in-Ok-whole_reply.ensures;
     }
@@ -29,7 +29,7 @@ returns-in-Ok-clause-answers g c = λ head body same means.
       outcome = no_reply_memory the_call c.in-Ok.answered;
       acts = is_called s.settings s.writer head body the_call c.args.after c.front_of.result (Ok c.in-Ok.answered) s.seen (g.D.Door.state c.call.new.self).seen
           same c.front_of.ensures means d.done d.elsewhere;
-      moments = c.now-moment.ensures;
+      moments = c.now-moment.ensures.moments;
       keeper = d.faults;
       shown = refl;
     }
@@ -43,7 +43,7 @@ returns-clause-answers g c = λ head body same means.
       outcome = aborted the_call c.in-Err.why;
       acts = is_called s.settings s.writer head body the_call c.args.after c.front_of.result (Err c.in-Err.why) s.seen (g.D.Door.state c.call.new.self).seen
           same c.front_of.ensures means d.done d.elsewhere;
-      moments = c.now-moment.ensures;
+      moments = c.now-moment.ensures.moments;
       keeper = stop_counted the_call c.in-Err.why s.faults (g.D.Door.state c.call.new.self).faults d.keeper d.faults;
       shown = ap (refusal None) c.stop_refusal.ensures;
     }

@@ -21,7 +21,7 @@ invariant_of-result g c =
 pub returns-in-Ok-load_machines-clause-fresh : goal.returns-in-Ok-load_machines-clause-fresh
 returns-in-Ok-load_machines-clause-fresh g c =
     let machines = map g.M.Machine.kept c.in-Ok-load_machines.machines.items in
-    fresh_door c.args.settings.now c.in-Ok.store (map g.K.Keeper.tables c.args.keepers.items) machines (sum_by g.K.Keeper.faults c.load_machines.new.keepers.items) c.in-Ok.ensures
+    fresh_door c.args.settings.now c.in-Ok.store (map g.K.Keeper.tables c.args.keepers.items) (map g.K.Keeper.tables c.load_machines.new.keepers.items) machines (sum_by g.K.Keeper.faults c.load_machines.new.keepers.items) c.in-Ok.ensures
     (length-map c.in-Ok-load_machines.machines.items g.M.Machine.kept ∙ c.in-Ok-load_machines.ensures.count) c.in-Ok-load_machines.ensures.loaded
 
 pub returns-in-Ok-load_machines-clause-lines : goal.returns-in-Ok-load_machines-clause-lines

@@ -1,0 +1,5 @@
+pub mod Found
+pub mod Numbers
+pub mod Rows
+pub mod Taken
+pub mod Walks

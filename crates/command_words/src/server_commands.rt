@@ -1,0 +1,111 @@
+//! The commands that serve by themselves: session, serve and drill.
+
+ghost use Rattle.std.specs.Prelude.{◌≡◌, IfOk, codes, false};
+ghost use Rattle.clap.specs.Words.{app_of, rule_of};
+ghost use Rattle.clap.specs.declared.builder.command.Command.TheViews.{out-Command as fields_of};
+ghost use Rattle.command_words.specs.Grammar.{drill_app, serve_app, session_app, text_rule};
+
+use crate::arguments::{add, command, defaulted, number, text};
+use clap::{Arg, Command};
+use std::alloc::{AllocError, Global};
+
+fn settings<'a>(alloc: Global) -> Arg<'a>
+    ensures rule { rule_of result ≡ text_rule (codes "settings") }
+    ensures plain { result.global ≡ false }
+{
+    text(
+        alloc,
+        "settings",
+        "FILE",
+        "The settings of the server, a TOML file. Without it there is one pool, open to every caller",
+    )
+}
+
+pub(crate) fn session<'a>(alloc: Global) -> Result<Command<'a>, AllocError>
+    ensures app { IfOk result (λ c. app_of c ≡ session_app) }
+    ensures plain { IfOk result (λ c. (fields_of c).has_globals ≡ false) }
+{
+    let session = command(
+        alloc,
+        "session",
+        "Serves one connection: reads HTTP requests from standard input, writes replies to standard output",
+    );
+    add(session, settings(alloc))
+}
+
+pub(crate) fn serve<'a>(alloc: Global) -> Result<Command<'a>, AllocError>
+    ensures app { IfOk result (λ c. app_of c ≡ serve_app) }
+    ensures plain { IfOk result (λ c. (fields_of c).has_globals ≡ false) }
+{
+    let serve = command(
+        alloc,
+        "serve",
+        "Listens at an address and serves connections, then prints a summary of each pool",
+    );
+    let serve = add(serve, settings(alloc))?;
+    let serve = add(
+        serve,
+        defaulted(
+            alloc,
+            "address",
+            "HOST:PORT",
+            "127.0.0.1:8080",
+            "Where to listen",
+        ),
+    )?;
+    let serve = add(
+        serve,
+        number(
+            alloc,
+            "workers",
+            1,
+            1,
+            "1",
+            "How many connections are served at once: 1",
+        ),
+    )?;
+    add(
+        serve,
+        number(
+            alloc,
+            "connections",
+            1,
+            1000000,
+            "1000000",
+            "How many connections are served before the server ends: 1 to 1000000",
+        ),
+    )
+}
+
+pub(crate) fn drill<'a>(alloc: Global) -> Result<Command<'a>, AllocError>
+    ensures app { IfOk result (λ c. app_of c ≡ drill_app) }
+    ensures plain { IfOk result (λ c. (fields_of c).has_globals ≡ false) }
+{
+    let drill = command(
+        alloc,
+        "drill",
+        "Makes a large valid session from a number, serves it in memory, and prints the counts of requests and replies",
+    );
+    let drill = add(
+        drill,
+        number(
+            alloc,
+            "cycles",
+            1,
+            10000,
+            "1000",
+            "How many rounds of requests the session has: 1 to 10000",
+        ),
+    )?;
+    add(
+        drill,
+        number(
+            alloc,
+            "start",
+            0,
+            2147483647,
+            "1",
+            "The number that the session is made from: 0 to 2147483647. The same number makes the same session",
+        ),
+    )
+}

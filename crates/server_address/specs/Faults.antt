@@ -1,0 +1,8 @@
+-- How a fault is told.
+use Rattle.std.specs.Prelude.{ℕ, List, codes}
+use Rattle.server_address.specs.declared.address.AddressFault.{AddressFault}
+use Rattle.server_address.specs.declared.address.AddressFault.TheVariants.{Memory, Grammar}
+
+abbrev pub fault_text : AddressFault → List ℕ
+fault_text Memory = codes "want of memory"
+fault_text Grammar = codes "not an http URL with a host"

@@ -1,0 +1,66 @@
+-- What is done with a door, and what is printed after it.
+use Rattle.std.proofs.Common.{◌≡◌, ℕ, ◌+◌, ◌<◌, ◌≤◌, List, [], ◌∷◌, map, Option, Some, None, refl, sym, ap, ◌∙◌, subst, arith}
+use Rattle.std.specs.Prelude.{option_map, length}
+use mathlib.Core.Path.{fun_ext}
+use Rattle.sw_base.specs.Link.{LinkState}
+use Rattle.sw_base.specs.Told.{Adds, IsOut}
+use Rattle.swarm_model.specs.declared.pool_settings.Settings.{Settings}
+use Rattle.swarm_model.specs.declared.pool_settings.PoolSettings.{PoolSettings}
+use Rattle.swarm_door.specs.Doors.{Logs, DoorState, IsFreshDoor}
+use Rattle.swarm_http.specs.Answered.{KeepsDoor}
+use Rattle.swarm_history.specs.declared.load_fault.LoadFault.{LoadFault}
+use Rattle.swarm_history.specs.declared.load_fault.LoadFault.TheVariants as load
+use Rattle.pool_summaries.specs.Summaries.{summary_of}
+use Rattle.swarm_cli.specs.declared.door_command.DoorCommand.{DoorCommand}
+use Rattle.swarm_cli.specs.declared.door_command.DoorCommand.TheVariants as command
+use Rattle.swarm_cli.specs.declared.serving.Used.{Used}
+use Rattle.swarm_cli.specs.declared.serving.Used.TheVariants as used
+use Rattle.swarm_cli.specs.Outside.{Outside, PrintsMade}
+use Rattle.swarm_cli.specs.Deeds.{Does, ServesConsole, ServesNothing, ServesLinks, served, not_served, work_status}
+use Rattle.swarm_cli.specs.Handling.{IsUsed, IsConcluded, deed_of}
+use Rattle.swarm_cli.specs.KeptRecords.{TellsFault}
+use Rattle.swarm_cli.specs.SettingsFile.{RunsNew, done, no_memory}
+
+-- the console as it is now
+abbrev pub with_console : Outside → LinkState → Outside
+with_console o t = record { console = t; clock = o.clock; listener = o.listener }
+
+pub same_console : (o : Outside) (t : LinkState) → t ≡ o.console → with_console o t ≡ o
+same_console o t same = ap (with_console o) same
+
+-- one is out where one was given more
+pub is_out : (before after : Option ℕ) → Adds before after 1 → IsOut after
+is_out None after adds = subst IsOut (sym adds) tt
+is_out (Some n) after adds = subst IsOut (sym adds) (let more : 0 < n + 1 = omega arith in more)
+
+pub keeps_within : {m n : ℕ} {d e : DoorState} → KeepsDoor m d e → m ≤ n → KeepsDoor n d e
+keeps_within k within = record { settings = k.settings; writer = k.writer; no_other_blobs = k.no_other_blobs; faults = k.faults; calls = omega (arith, k.calls, within) }
+
+-- after the door was used, the rest is printed
+pub does_all : (what : DoorCommand) (before after : DoorState) (o m : Outside) (t : LinkState) (result : Used) (status : ℕ) (text : List ℕ)
+    → IsUsed what before after o m result → IsConcluded result text m.console t status → text ≡ summary_of before.settings.pools after.seen
+    → Does (deed_of what) before after o (with_console m t) status
+does_all command.Session before after o m t (used.Ended good) status text x y is =
+    subst (λ (u : Outside). ServesConsole before after o u status) (sym (same_console m t y.1)) (subst (λ (n : ℕ). ServesConsole before after o m n) (sym y.0) x)
+does_all command.Session before after o m t (used.Worked stop) status text x y is = absurd x
+does_all (command.Serve address connections) before after o m t (used.Ended good) status text x y is =
+    not_served (subst (λ (u : Outside). ServesNothing before after o u status) (sym (same_console m t y.1)) (subst (λ (n : ℕ). ServesNothing before after o m n) (sym y.0) x))
+does_all (command.Serve address connections) before after o m t (used.Worked stop) status text x y is = served (record {
+  stopped = stop;
+  serves = x.0;
+  summary = subst (λ (s : LinkState). PrintsMade (summary_of before.settings.pools after.seen) (work_status stop) s t status) x.1
+      (subst (λ (l : List ℕ). PrintsMade l (work_status stop) m.console t status) is y);
+})
+
+-- the summary is that of the logs that the door has seen
+pub summary_is : (settings : Settings) (before after : DoorState) (pools : List PoolSettings) (logs : Logs) → pools ≡ settings.pools → before.settings ≡ settings → ((p : ℕ) → logs p ≡ after.seen p)
+    → summary_of pools logs ≡ summary_of before.settings.pools after.seen
+summary_is settings before after pools logs pools_are settings_are same =
+    ap (λ (l : List PoolSettings). summary_of l logs) (pools_are ∙ ap (λ (s : Settings). s.pools) (sym settings_are))
+    ∙ ap (λ (l : Logs). summary_of before.settings.pools l) (fun_ext same)
+
+-- no door was made over keepers that keep nothing
+pub none_made : (what : DoorCommand) (settings : Settings) (o : Outside) (t : LinkState) (status : ℕ) (fault : LoadFault) → TellsFault fault o.console t status → fault ≡ load.Memory
+    → RunsNew (deed_of what) settings o (with_console o t) status
+none_made what settings o t status fault told is =
+    let k = subst (λ (f : LoadFault). TellsFault f o.console t status) is told in no_memory k.0 (same_console o t k.1)

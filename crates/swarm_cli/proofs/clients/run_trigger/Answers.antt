@@ -1,0 +1,21 @@
+use Rattle.std.proofs.Common.{refl}
+use Rattle.std.specs.Prelude.{string_bytes}
+use Rattle.swarm_cli.specs.Clients.{carried_out}
+use Rattle.swarm_cli.proofs.Misfits.{told_so}
+use Rattle.swarm_cli.proofs.clients.run_trigger.Goals as goal
+
+pub returns-in-Ok : goal.returns-in-Ok
+returns-in-Ok g c = λ rest. rw (← c.as_str.ensures.value, ← c.as_str-caller.ensures.value, ← c.as_str-in-Ok.ensures.value) (carried_out c.in-Ok.ensures.fits (record {
+  address = (string_bytes c.in-Ok.found.dial, string_bytes c.in-Ok.found.host);
+  address_is = c.in-Ok.ensures.address;
+  by = record { address = c.as_str-address.result; host = c.as_str-host.result; caller = c.as_str-caller.result };
+  dials = c.as_str-address.ensures.value;
+  host_is = c.as_str-host.ensures.value;
+  caller_is = refl;
+  done = c.trigger.ensures rest.waited;
+}) (record { store = refl; listener = refl }))
+
+pub returns-in-Err : goal.returns-in-Err
+returns-in-Err g c = λ rest. rw (← c.as_str.ensures.value, ← c.as_str-caller.ensures.value)
+    (told_so rest (g.F.Files.state c.args.files.now) (g.L.Link.state c.args.console.now) (g.L.Link.state c.tell_misfit.new.console) rest.outside.clock (g.W.Dialer.state c.args.dialer.now) rest.waited
+    c.tell_misfit.result c.in-Err.why c.in-Err.ensures.fits c.tell_misfit.ensures)

@@ -1,0 +1,22 @@
+-- All that the program works on.
+use Rattle.std.specs.Prelude.{◌≡◌, ℕ, Option}
+use Rattle.sw_base.specs.Files.{FilesState}
+use Rattle.sw_base.specs.Dialers.{DialerState}
+use Rattle.swarm_keeper.specs.Stores.{StoreState}
+use Rattle.swarm_cli.specs.Outside.{Outside, SameButConsole}
+
+-- `waited` are the seconds that the clock waited, where it tells them
+pub record Surroundings : Type 0 where
+  pub files : FilesState
+  pub store : StoreState
+  pub outside : Outside
+  pub dialer : DialerState
+  pub waited : Option ℕ
+
+-- nothing changed but the console
+pub record OnlyConsole (x y : Surroundings) : Type 0 where
+  pub files : y.files ≡ x.files
+  pub store : y.store ≡ x.store
+  pub outside : SameButConsole x.outside y.outside
+  pub dialer : y.dialer ≡ x.dialer
+  pub waited : y.waited ≡ x.waited

@@ -1,0 +1,3 @@
+pub mod ExchangeLemmas
+pub mod Meanings
+pub mod Following

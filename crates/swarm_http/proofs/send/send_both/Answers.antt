@@ -1,8 +1,0 @@
-use Rattle.swarm_http.proofs.Sending.{both_sent, front_cut}
-use Rattle.swarm_http.proofs.send.send_both.Goals as goal
-
-pub returns-in-Ok-clause-sends : goal.returns-in-Ok-clause-sends
-returns-in-Ok-clause-sends g c = let p = c.in-Ok.ensures in both_sent p p.outcome p.faults c.send_flushed.ensures.sends
-
-pub returns-in-Err-clause-sends : goal.returns-in-Err-clause-sends
-returns-in-Err-clause-sends g c = front_cut c.args.back.now c.in-Err.ensures

@@ -1,7 +1,0 @@
-use Rattle.std.proofs.Common.{◌∙◌, ◌++◌, sym, take, ap}
-use Rattle.std.proofs.lemmas.List.{take-append-drop}
-use Rattle.swarm_http.proofs.Sending.{more_written}
-use Rattle.swarm_http.proofs.send.send_whole.Goals as goal
-
-pub writes-preserved : goal.writes-preserved
-writes-preserved g c = let m = c.in-Ok.ensures in more_written c.writes.invariant m.moves m.input m.faults (sym (take-append-drop c.in-Ok.n c.writes.rest.now) ∙ ap (λ l. take c.in-Ok.n c.writes.rest.now ++ l) (sym c.split_at.ensures.back))
