@@ -4,7 +4,7 @@
 Usage: bench/trusted_lines.py [--write] [--names]
 
 From the contracts of `run`, `session` and the traits that they are generic over, and from the laws
-of `swarm_laws`, it follows each definition to those that it cites, through the specs/ of this
+of `swarm_laws` and `bot_core`, it follows each definition to those that it cites, through the specs/ of this
 repository and of the kit, and to the types of src/. It prints each row of a table of docs/trusted.md
 that differs from the counts, each file that has no row, and each row that has no file, and ends
 with status 1 if there is one. With --write it puts the counts into the page; with --names it prints
@@ -33,11 +33,12 @@ HEADLINE = [
     ("Rattle.sw_base.specs.Listeners", "ListenerState Gives FailsToListen Shuts"),
     ("Rattle.sw_base.specs.Dialers", "DialerState Dials Declines Hangs"),
     ("Rattle.sw_base.specs.Files", "FilesState Loads"),
+    ("Rattle.runners.specs.Calls", "RunnerState Performs Signals Looks CollectsFile Cleans"),
     ("Rattle.swarm_keeper.specs.Stores", "StoreState HasPlace PlacesStay IsAttached NotAttached Detaches"),
     ("Rattle.swarm_keeper.specs.Tables", "Tables Counts appended bytes_of"),
 ]
 # The traits whose contracts cite these.
-TRAITS = [("sw_base", "link", "Link"), ("sw_base", "clock", "Clock"), ("sw_base", "files", "Files"), ("sw_base", "acceptor", "Acceptor"), ("sw_base", "listener", "Listener"), ("sw_base", "dialer", "Dialer"), ("swarm_keeper", "keeper", "Keeper"), ("swarm_keeper", "store", "Store"), ("swarm_door", "door", "Door")]
+TRAITS = [("sw_base", "link", "Link"), ("sw_base", "clock", "Clock"), ("sw_base", "files", "Files"), ("sw_base", "acceptor", "Acceptor"), ("sw_base", "listener", "Listener"), ("sw_base", "dialer", "Dialer"), ("runners", "runner", "Runner"), ("swarm_keeper", "keeper", "Keeper"), ("swarm_keeper", "store", "Store"), ("swarm_door", "door", "Door")]
 LAWS = [
     ("Rattle.swarm_model.specs.Claims", "ClaimsAreRight"),
     ("Rattle.swarm_model.specs.Verdicts", "VerdictsAreStates FinalsStay TallyCountsVerdicts TallyAddsUp"),
@@ -47,6 +48,12 @@ LAWS = [
     ("Rattle.swarm_model.specs.DueLaw", "DueIsEarliest"),
     ("Rattle.swarm_model.specs.RefusalLaw", "RefusalsAddNothing"),
     ("Rattle.swarm_model.specs.Soundness", "StaysSound"),
+    ("Rattle.bot_core.specs.Output", "SendsWhatWasWritten"),
+    ("Rattle.bot_core.specs.Starts", "StartsOnce"),
+    ("Rattle.bot_core.specs.Signals", "KillsAfterTermAndGrace"),
+    ("Rattle.bot_core.specs.OpenRuns", "CleansUpEachRun"),
+    ("Rattle.bot_core.specs.Repeats", "RepeatsRequests"),
+    ("Rattle.bot_core.specs.Ids", "IdsGrow"),
 ]
 # What runs at the edge of the process.
 EDGE = [
@@ -63,6 +70,12 @@ EDGE = [
     "crates/tcp_links/src/tcp_all.rt",
     "crates/tcp_links/src/closing.rt",
     "crates/tcp_links/src/limits.rt",
+    "crates/shell_runner/src/shell_runner.rt",
+    "crates/shell_runner/src/child_run.rt",
+    "crates/shell_runner/src/work_folder.rt",
+    "crates/shell_runner/src/caches.rt",
+    "crates/shell_runner/src/paths.rt",
+    "crates/shell_runner/src/tools.rt",
     "swarm",
     "scripts/build.py",
 ]

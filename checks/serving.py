@@ -44,10 +44,11 @@ def wait_until_listening(port, process, seconds=20):
 class Server:
     """`swarm serve` on a free port, for so many connections; or by words of one's own, on their port.
 
-    `front` stands before its words.
+    `front` stands before its words. It has to listen within so many seconds; one with large records takes
+    longer than others.
     """
 
-    def __init__(self, connections, settings=None, words=None, port=None, front=()):
+    def __init__(self, connections, settings=None, words=None, port=None, front=(), seconds=20):
         self.port = port or free_port()
         self.url = f"http://{HOST}:{self.port}"
         if not words:
@@ -57,7 +58,7 @@ class Server:
         self.connections, self.made = connections, 0
         self.process = subprocess.Popen(words, stdin=subprocess.DEVNULL, stdout=subprocess.PIPE, stderr=subprocess.PIPE)
         try:
-            wait_until_listening(self.port, self.process)
+            wait_until_listening(self.port, self.process, seconds)
         except RuntimeError:
             self.stop()
             raise

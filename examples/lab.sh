@@ -2,13 +2,15 @@
 # A first look at the task server: a task on its way from a client through a bot and back.
 #
 # It proves and builds the program if that isn't done yet, starts it on a free port with the settings
-# examples/lab.toml, and makes 12 connections: some by the program's own client commands, and the bot's
-# by curl. The server is told to serve so many, so it ends by itself and shows its summary. Nothing is
-# kept: the records are in memory, and the files of this script in a folder that it removes.
+# examples/lab.toml, and makes 12 connections: those of the program's client commands and of its bot, and
+# one by curl, which puts a file. The server is told to serve so many, so it ends by itself and shows its
+# summary. Nothing is kept: the records are in memory, and the files of this script and of the bot in a
+# folder that it removes.
 #
 # Usage: examples/lab.sh
 # It ends with status 0 where all went as it says here, and otherwise with 1 and the reason.
 cd "$(dirname "$0")/.." || exit 1
+top=$(pwd)
 connections=12
 folder=
 server=
@@ -21,7 +23,7 @@ stop() {
 }
 
 end() {
-    [ -z "$server" ] || kill "$server" 2>/dev/null
+    [ -z "$server" ] || { kill "$server" && wait "$server"; } 2>/dev/null
     [ -z "$folder" ] || rm -rf "$folder"
 }
 trap end EXIT
@@ -39,12 +41,13 @@ came() {
     esac
 }
 
-# Runs a command of the program, as joe or whoever is named in its words.
+# Runs a command of the program, as joe or whoever is named in its words, in the folder of this script's
+# files, since a bot makes its own in there. A bot whose server is gone would try again for long.
 swarm() {
     wanted=$1
     shift
     say "\$ ./swarm $*"
-    reply=$(./swarm "$@" 2>&1)
+    reply=$(cd "$folder" && timeout --foreground 60 "$top/swarm" "$@" 2>&1)
     came $? "./swarm $1" "$reply" "$wanted"
 }
 
@@ -75,7 +78,7 @@ is_running() {
     stop "the server ended with status $status before its time (docs/protocol.md has the statuses)"
 }
 
-for it in curl sha256sum base64 python3; do
+for it in curl sha256sum python3; do
     command -v "$it" >/dev/null || stop "this needs the program $it"
 done
 [ -x ./swarm ] || stop "there is no ./swarm beside the folder of this script"
@@ -112,23 +115,10 @@ cat >"$folder/task.json" <<END
 END
 swarm 'task 10 PENDING' trigger --server "$address" --caller joe "$folder/task.json"
 
-step "A bot shakes hands: it says what its machine has."
-has='[{"key":"pool","value":["default"]},{"key":"id","value":["rack-1"]},{"key":"os","value":["Linux"]}]'
-ask '{"bot_id":"rack-1"}' rack /bot/handshake -d '{"bot_id":"rack-1","session":"1","dimensions":'"$has"'}'
-
-step "It polls. A task waits that it can run, so it is told to claim."
-ask '{"cmd":"claim"}' rack /bot/poll -d '{"bot_id":"rack-1","dimensions":'"$has"'}'
-
-step "It claims, and is given the run 11, which is the first of task 10, with all that it needs to know."
-ask '{*"cmd":"run"*"run_id":"11"*}' rack /bot/claim -d '{"pool":"default","bot_id":"rack-1","claim_id":"1"}'
-
-step "It fetches the input: GetBlob."
-ask 'Hello from the lab.' rack "/blobs/default/$digest"
-
-step "It reports the output of the run, and then its end with exit code 0. Nobody asked it to stop."
-output=$(base64 -w 0 <"$folder/greeting")
-ask '{"must_stop":false}' rack /bot/task_update -d '{"bot_id":"rack-1","task_id":"11","output":"'"$output"'","output_chunk_start":0}'
-ask '{"must_stop":false}' rack /bot/task_update -d '{"bot_id":"rack-1","task_id":"11","exit_code":0,"duration_ms":12}'
+step "A bot comes: it tells the server what its machine has, claims the task, fetches the file, runs the
+   command in a folder of its own, and reports its output and its end (six connections). By its default it
+   ends after one task."
+swarm 'bot tasks tasks 1' bot --server "$address" --caller rack --id rack-1 --pool default --dimensions os=Linux
 
 step "The client collects: the state and the exit code, and then the output (two connections)."
 swarm '10 COMPLETED exit 0

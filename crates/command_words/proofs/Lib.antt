@@ -1,3 +1,4 @@
+pub mod BotParts
 pub mod Found
 pub mod Numbers
 pub mod Rows

@@ -1,5 +1,5 @@
 -- Words that the grammar takes ask for a command.
-use Rattle.std.proofs.Common.{◌≡◌, ◌∙◌, ◌&&◌, ◌||◌, ℕ, Bool, cond, true, false, not, true≢false, refl, sym, ap, subst, List, [], ◌∷◌, Option, Some, None, IfSome, is_some, codes}
+use Rattle.std.proofs.Common.{◌≡◌, ◌∙◌, ◌^◌, ◌&&◌, ◌||◌, ℕ, Bool, cond, true, false, not, true≢false, refl, sym, ap, subst, List, [], ◌∷◌, Option, Some, None, IfSome, is_some, codes}
 use Rattle.std.specs.Prelude.{find, option_and_then, option_map}
 use Rattle.std.specs.Option.{option_map_or}
 use Rattle.std.specs.Str.{bytes_eq}
@@ -12,9 +12,9 @@ use Rattle.clap.specs.Simple.{App, Shape, built, built_leaf, entered, inherited,
 use Rattle.clap.specs.Takes.{values_pass}
 use Rattle.clap.specs.Faults.{defaults_fault, entered_fault, fault_of, level_fault, settle_fault, walk_fault}
 use Rattle.clap.specs.declared.builder.value_parser.ValueParser.TheVariants as vp
-use Rattle.command_words.specs.Grammar.{bots_app, cancel_app, collect_app, drill_app, serve_app, swarm_app, tasks_app, trigger_app}
+use Rattle.command_words.specs.Grammar.{bot_app, bots_app, cancel_app, collect_app, drill_app, serve_app, swarm_app, tasks_app, trigger_app}
 use Rattle.command_words.specs.declared.command.Command.{Command}
-use Rattle.command_words.specs.Commands.{value_of, both_of, bots_in, cancel_in, client_in, collect_in, command_in, drill_in, number_at, number_in, serve_in, tasks_in, trigger_in}
+use Rattle.command_words.specs.Commands.{value_of, both_of, bot_in, bots_in, cancel_in, client_in, collect_in, command_in, drill_in, number_at, number_in, serve_in, tasks_in, trigger_in}
 use Rattle.command_words.proofs.Rows.{Each, Gives, Goods, Own, value_at}
 use Rattle.command_words.proofs.Walks.{Leaves, NotHelp, level_leaves, check_parts, no_kinds, walk-stops}
 
@@ -62,6 +62,43 @@ serve_own = (own _ _ refl refl refl, (own _ _ refl refl refl, (own _ _ refl refl
 client_some : (c : List Rule) (rows : List Row) → Goods c rows → (a b : Rule) → arg_by_id c (codes "server") ≡ Some a → arg_by_id c (codes "caller") ≡ Some b
     → has_row (codes "server") rows ≡ true → has_row (codes "caller") rows ≡ true → is_some (client_in rows) ≡ true
 client_some c rows goods a b fa fb ra rb = both_some _ _ (text_some c rows goods (codes "server") a fa ra) (text_some c rows goods (codes "caller") b fb rb)
+
+bot_some : (rows : List Row) → Leaves (leaf bot_app).rules rows → is_some (bot_in rows) ≡ true
+bot_some rows l =
+    let c = (leaf bot_app).rules in
+    map_some _ _ (both_some _ _ (client_some c rows l.goods _ _ refl refl (l.required.0 refl) (l.required.1.0 refl))
+    (both_some _ _ (both_some _ _ (both_some _ _ (text_some c rows l.goods (codes "id") _ refl (l.required.1.1.0 refl))
+    (text_some c rows l.goods (codes "pool") _ refl (l.required.1.1.1.0 refl)))
+    (text_some c rows l.goods (codes "dimensions") _ refl (l.defaults.1.1.1.1.0 refl)))
+    (both_some _ _ (both_some _ _ (both_some _ _ (number_some c rows l.goods (codes "tasks") _ 1 1000000 refl refl (l.defaults.1.1.1.1.1.0 refl))
+    (number_some c rows l.goods (codes "polls") _ 1 1000000 refl refl (l.defaults.1.1.1.1.1.1.0 refl)))
+    (number_some c rows l.goods (codes "steps") _ 1 4000000000 refl refl (l.defaults.1.1.1.1.1.1.1.0 refl)))
+    (both_some _ _ (number_some c rows l.goods (codes "caches") _ 0 64 refl refl (l.defaults.1.1.1.1.1.1.1.1.0 refl))
+    (number_some c rows l.goods (codes "cache-bytes") _ 0 (2 ^ 40) refl refl (l.defaults.1.1.1.1.1.1.1.1.1.0 refl))))))
+
+bot_own : Each (Own (leaf bot_app).rules) (leaf bot_app).rules
+bot_own = (
+  own _ _ refl refl refl,
+  (
+    own _ _ refl refl refl,
+    (
+      own _ _ refl refl refl,
+      (
+        own _ _ refl refl refl,
+        (
+          own _ _ refl refl refl,
+          (
+            own _ _ refl refl refl,
+            (
+              own _ _ refl refl refl,
+              (own _ _ refl refl refl, (own _ _ refl refl refl, (own _ _ refl refl refl, (own _ _ refl refl refl, tt)))),
+            ),
+          ),
+        ),
+      ),
+    ),
+  ),
+)
 
 trigger_some : (rows : List Row) → Leaves (leaf trigger_app).rules rows → is_some (trigger_in rows) ≡ true
 trigger_some rows l =
@@ -144,20 +181,23 @@ subs_ask = (
   (
     (λ name a n words f. serve_some _ (level_leaves (leaf serve_app) serve_own refl words f)),
     (
-      (λ name a n words f. trigger_some _ (level_leaves (leaf trigger_app) trigger_own refl words f)),
+      (λ name a n words f. bot_some _ (level_leaves (leaf bot_app) bot_own refl words f)),
       (
-        (λ name a n words f. collect_some _ (level_leaves (leaf collect_app) collect_own refl words f)),
+        (λ name a n words f. trigger_some _ (level_leaves (leaf trigger_app) trigger_own refl words f)),
         (
-          (λ name a n words f. cancel_some _ (level_leaves (leaf cancel_app) cancel_own refl words f)),
+          (λ name a n words f. collect_some _ (level_leaves (leaf collect_app) collect_own refl words f)),
           (
-            (λ name a n words f. tasks_some _ (level_leaves (leaf tasks_app) tasks_own refl words f)),
+            (λ name a n words f. cancel_some _ (level_leaves (leaf cancel_app) cancel_own refl words f)),
             (
-              (λ name a n words f. bots_some _ (level_leaves (leaf bots_app) bots_own refl words f)),
+              (λ name a n words f. tasks_some _ (level_leaves (leaf tasks_app) tasks_own refl words f)),
               (
-                (λ name a n words f. drill_some _ (level_leaves (leaf drill_app) drill_own refl words f)),
+                (λ name a n words f. bots_some _ (level_leaves (leaf bots_app) bots_own refl words f)),
                 (
-                  (λ name a n words f. absurd (is_help name true a n)),
-                  tt,
+                  (λ name a n words f. drill_some _ (level_leaves (leaf drill_app) drill_own refl words f)),
+                  (
+                    (λ name a n words f. absurd (is_help name true a n)),
+                    tt,
+                  ),
                 ),
               ),
             ),

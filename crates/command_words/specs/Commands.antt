@@ -1,12 +1,26 @@
 -- What the words of a command line ask for.
-use Rattle.std.specs.Prelude.{◌≡◌, ◌==◌, ◌≤◌, ◌&&◌, ⊤, nat_le, ℕ, Bool, List, [], codes, length, Option, Some, None, if◌then◌else◌, option_map, option_and_then, string_bytes, unwrap_or}
+use Rattle.std.specs.Prelude.{◌≡◌, ◌==◌, ◌≤◌, ◌^◌, ◌&&◌, ⊤, nat_le, ℕ, Bool, List, [], codes, length, Option, Some, None, if◌then◌else◌, option_map, option_and_then, string_bytes, unwrap_or}
 use Rattle.std.specs.Str.{bytes_eq}
 use Rattle.std.specs.Str.Parse.{digits_value, without_leading_plus}
 use Rattle.clap.specs.ValueTests.{is_unsigned_in}
 use Rattle.clap.specs.Words.{Row, Text, fault_of, first_of, subcommand_of}
 use Rattle.command_words.specs.Grammar.{swarm_app}
+use Rattle.command_words.specs.declared.command.Bot.{Bot}
 use Rattle.command_words.specs.declared.command.Command.{Command}
 use Rattle.command_words.specs.declared.command.Command.TheVariants as command
+
+-- the options of a bot, with their texts as bytes
+pub record BotOptions : Type 0 where
+  pub server : Text
+  pub caller : Text
+  pub id : Text
+  pub pool : Text
+  pub dimensions : Text
+  pub tasks : ℕ
+  pub polls : ℕ
+  pub steps : ℕ
+  pub caches : ℕ
+  pub cache_bytes : ℕ
 
 -- a command, with its texts as bytes
 pub data CommandValue : Type 0 where
@@ -14,6 +28,7 @@ pub data CommandValue : Type 0 where
   session : Option Text → CommandValue
   -- settings, address, workers, connections
   serve : Option Text → Text → ℕ → ℕ → CommandValue
+  bot : BotOptions → CommandValue
   -- server, caller, file
   trigger : Text → Text → Text → CommandValue
   -- server, caller, polls, every, id
@@ -27,9 +42,24 @@ pub data CommandValue : Type 0 where
   -- cycles, start
   drill : ℕ → ℕ → CommandValue
 
+abbrev pub options_of : Bot → BotOptions
+options_of b = record {
+  server = string_bytes b.server;
+  caller = string_bytes b.caller;
+  id = string_bytes b.id;
+  pool = string_bytes b.pool;
+  dimensions = string_bytes b.dimensions;
+  tasks = b.tasks;
+  polls = b.polls;
+  steps = b.steps;
+  caches = b.caches;
+  cache_bytes = b.cache_bytes;
+}
+
 abbrev pub value_of : Command → CommandValue
 value_of (command.Session s) = session (option_map string_bytes s.settings)
 value_of (command.Serve s) = serve (option_map string_bytes s.settings) (string_bytes s.address) s.workers s.connections
+value_of (command.Bot b) = bot (options_of b)
 value_of (command.Trigger t) = trigger (string_bytes t.server) (string_bytes t.caller) (string_bytes t.file)
 value_of (command.Collect c) = collect (string_bytes c.server) (string_bytes c.caller) c.polls c.every (string_bytes c.id)
 value_of (command.Cancel c) = cancel (string_bytes c.server) (string_bytes c.caller) c.kill (string_bytes c.id)
@@ -37,10 +67,19 @@ value_of (command.Tasks t) = tasks (string_bytes t.server) (string_bytes t.calle
 value_of (command.Bots b) = bots (string_bytes b.server) (string_bytes b.caller) (string_bytes b.pool) b.limit
 value_of (command.Drill d) = drill d.cycles d.start
 
+-- each number of a bot's options lies in its range
+pub record BotRanges (b : BotOptions) : Type 0 where
+  pub tasks : (1 ≤ b.tasks) × (b.tasks ≤ 1000000)
+  pub polls : (1 ≤ b.polls) × (b.polls ≤ 1000000)
+  pub steps : (1 ≤ b.steps) × (b.steps ≤ 4000000000)
+  pub caches : b.caches ≤ 64
+  pub cache_bytes : b.cache_bytes ≤ 2 ^ 40
+
 -- each number lies in its range
 abbrev pub HasRanges : CommandValue → Type 0
 HasRanges (session settings) = ⊤
 HasRanges (serve settings address workers connections) = (workers ≡ 1) × (1 ≤ connections) × (connections ≤ 1000000)
+HasRanges (bot b) = BotRanges b
 HasRanges (trigger server caller file) = ⊤
 HasRanges (collect server caller polls every id) = (1 ≤ polls) × (polls ≤ 100000) × (every ≤ 60)
 HasRanges (cancel server caller kill id) = ⊤
@@ -81,6 +120,38 @@ serve_in rows = option_map (λ p. serve (first_of (codes "settings") rows) p.0 p
     (both_of (first_of (codes "address") rows)
     (both_of (number_at (codes "workers") 1 1 rows) (number_at (codes "connections") 1 1000000 rows)))
 
+-- the id of a bot and its pool
+abbrev pub place_in : List Row → Option (Text × Text)
+place_in rows = both_of (first_of (codes "id") rows) (first_of (codes "pool") rows)
+
+-- the limits of tasks and of polls
+abbrev pub limits_in : List Row → Option (ℕ × ℕ)
+limits_in rows = both_of (number_at (codes "tasks") 1 1000000 rows) (number_at (codes "polls") 1 1000000 rows)
+
+-- how many caches there may be, and of how many bytes in all
+abbrev pub caches_in : List Row → Option (ℕ × ℕ)
+caches_in rows = both_of (number_at (codes "caches") 0 64 rows) (number_at (codes "cache-bytes") 0 (2 ^ 40) rows)
+
+abbrev pub bot_of : (Text × Text) × (((Text × Text) × Text) × (((ℕ × ℕ) × ℕ) × (ℕ × ℕ))) → BotOptions
+bot_of p = record {
+  server = p.0.0;
+  caller = p.0.1;
+  id = p.1.0.0.0;
+  pool = p.1.0.0.1;
+  dimensions = p.1.0.1;
+  tasks = p.1.1.0.0.0;
+  polls = p.1.1.0.0.1;
+  steps = p.1.1.0.1;
+  caches = p.1.1.1.0;
+  cache_bytes = p.1.1.1.1;
+}
+
+abbrev pub bot_in : List Row → Option CommandValue
+bot_in rows = option_map (λ p. bot (bot_of p))
+    (both_of (client_in rows)
+    (both_of (both_of (place_in rows) (first_of (codes "dimensions") rows))
+    (both_of (both_of (limits_in rows) (number_at (codes "steps") 1 4000000000 rows)) (caches_in rows))))
+
 abbrev pub trigger_in : List Row → Option CommandValue
 trigger_in rows = option_map (λ p. trigger p.0.0 p.0.1 p.1) (both_of (client_in rows) (first_of (codes "FILE") rows))
 
@@ -109,13 +180,14 @@ abbrev pub command_in : Text → List Row → Option CommandValue
 command_in name rows =
     if bytes_eq name (codes "session") then session_in rows
     else (if bytes_eq name (codes "serve") then serve_in rows
+    else (if bytes_eq name (codes "bot") then bot_in rows
     else (if bytes_eq name (codes "trigger") then trigger_in rows
     else (if bytes_eq name (codes "collect") then collect_in rows
     else (if bytes_eq name (codes "cancel") then cancel_in rows
     else (if bytes_eq name (codes "tasks") then tasks_in rows
     else (if bytes_eq name (codes "bots") then bots_in rows
     else (if bytes_eq name (codes "drill") then drill_in rows
-    else None)))))))
+    else None))))))))
 
 -- the grammar takes the words
 abbrev pub are_taken : List Text → Bool

@@ -1,6 +1,6 @@
 -- The grammar of the command line, as clap's definitions read it: the subcommands, the options of
 -- each, their ranges and defaults, and what is required.
-use Rattle.std.specs.Prelude.{ℕ, List, [], ◌∷◌, Some, true, codes}
+use Rattle.std.specs.Prelude.{ℕ, ◌^◌, List, [], ◌∷◌, Some, true, codes}
 use Rattle.clap.specs.Simple.{on_top}
 use Rattle.clap.specs.Words.{App, Rule, new_app, new_rule, with_rule, with_subcommand}
 use Rattle.clap.specs.declared.builder.value_parser.ValueParser.TheVariants as vp
@@ -44,6 +44,25 @@ serve_app = with_rule (with_rule (with_rule (with_rule (new_app (codes "serve"))
     (number_rule (codes "workers") 1 1 (codes "1")))
     (number_rule (codes "connections") 1 1000000 (codes "1000000"))
 
+-- a bot before its limits
+abbrev pub bot_place_app : App
+bot_place_app = with_rule (with_rule (with_rule (with_server (new_app (codes "bot")))
+    (required_rule (codes "id")))
+    (required_rule (codes "pool")))
+    (default_rule (codes "dimensions") (codes ""))
+
+-- and before those of its caches
+abbrev pub bot_limits_app : App
+bot_limits_app = with_rule (with_rule (with_rule bot_place_app
+    (number_rule (codes "tasks") 1 1000000 (codes "1")))
+    (number_rule (codes "polls") 1 1000000 (codes "1000")))
+    (number_rule (codes "steps") 1 4000000000 (codes "10000000"))
+
+abbrev pub bot_app : App
+bot_app = with_rule (with_rule bot_limits_app
+    (number_rule (codes "caches") 0 64 (codes "8")))
+    (number_rule (codes "cache-bytes") 0 (2 ^ 40) (codes "8589934592"))
+
 abbrev pub trigger_app : App
 trigger_app = with_rule (with_server (new_app (codes "trigger"))) (place_rule (codes "FILE"))
 
@@ -79,7 +98,7 @@ abbrev pub program_app : App
 program_app = on_top (λ s. record s { no_binary_name = true; subcommand_required = true }) (new_app (codes "swarm"))
 
 abbrev pub server_app : App
-server_app = with_subcommand (with_subcommand program_app session_app.top) serve_app.top
+server_app = with_subcommand (with_subcommand (with_subcommand program_app session_app.top) serve_app.top) bot_app.top
 
 abbrev pub task_app : App
 task_app = with_subcommand (with_subcommand (with_subcommand server_app trigger_app.top) collect_app.top) cancel_app.top

@@ -20,6 +20,28 @@ pub struct Serve {
     pub connections: u32,
 }
 
+/// `swarm bot`: runs the tasks of a server on this machine.
+#[derive(Drop)]
+pub struct Bot {
+    pub server: String,
+    pub caller: String,
+    /// The bot's name.
+    pub id: String,
+    pub pool: String,
+    /// Pairs `key=value` with `;` between them; empty where there are none.
+    pub dimensions: String,
+    /// How many tasks are run at most: 1 to 1000000.
+    pub tasks: u32,
+    /// How often the bot asks for work at most: 1 to 1000000.
+    pub polls: u32,
+    /// How many steps the bot takes at most: 1 to 4000000000.
+    pub steps: u32,
+    /// How many named caches are kept at most: 0 to 64.
+    pub caches: u32,
+    /// How many bytes the caches may have in all: 0 to 2^40.
+    pub cache_bytes: u64,
+}
+
 /// `swarm trigger`: posts a new task.
 #[derive(Drop)]
 pub struct Trigger {
@@ -90,6 +112,7 @@ pub struct Drill {
 pub enum Command {
     Session(Session),
     Serve(Serve),
+    Bot(Bot),
     Trigger(Trigger),
     Collect(Collect),
     Cancel(Cancel),

@@ -4,6 +4,7 @@ ghost use Rattle.std.specs.Prelude.{◌≡◌, IfOk, IfSome, codes, option_and_t
 ghost use Rattle.clap.specs.Words.{first_of, found_of, rows_of, subcommand_rows_of};
 ghost use Rattle.command_words.specs.Commands.{HasRanges, both_of, bots_in, cancel_in, collect_in, command_in, drill_in, serve_in, session_in, tasks_in, trigger_in, value_of};
 
+use crate::bot_reading::bot;
 use crate::command::{Bots, Cancel, Collect, Command, Drill, Serve, Session, Tasks, Trigger};
 use crate::values::{client, flag, number, subcommand, text};
 use clap::ArgMatches;
@@ -174,6 +175,7 @@ fn named(alloc: Global, name: &str, found: &ArgMatches<'_>) -> Result<Option<Com
     match name {
         "session" => session(alloc, found),
         "serve" => serve(alloc, found),
+        "bot" => bot(alloc, found),
         "trigger" => trigger(alloc, found),
         "collect" => collect(alloc, found),
         "cancel" => cancel(alloc, found),

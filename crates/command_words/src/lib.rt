@@ -11,6 +11,8 @@
 #![tactic(auto)]
 
 mod arguments;
+mod bot_command;
+mod bot_reading;
 mod client_commands;
 mod command;
 mod command_reading;
@@ -19,5 +21,5 @@ mod server_commands;
 mod values;
 mod words;
 
-pub use command::{Bots, Cancel, Collect, Command, Drill, Serve, Session, Tasks, Trigger};
+pub use command::{Bot, Bots, Cancel, Collect, Command, Drill, Serve, Session, Tasks, Trigger};
 pub use words::{Words, read_words};

@@ -8,6 +8,7 @@ ghost use Rattle.clap.specs.declared.error.kind.ErrorKind.TheVariants.{OutOfMemo
 ghost use Rattle.command_words.specs.Grammar.{program_app, server_app, swarm_app, task_app};
 
 use crate::arguments::{command, enter};
+use crate::bot_command::bot;
 use crate::client_commands::{bots, cancel, collect, tasks, trigger};
 use crate::server_commands::{drill, serve, session};
 use clap::{ArgMatches, Command, Error};
@@ -35,7 +36,8 @@ fn with_servers<'a>(alloc: Global) -> Result<Command<'a>, AllocError>
 {
     let command = program(alloc)?;
     let command = enter(command, session(alloc)?)?;
-    enter(command, serve(alloc)?)
+    let command = enter(command, serve(alloc)?)?;
+    enter(command, bot(alloc)?)
 }
 
 fn with_tasks<'a>(alloc: Global) -> Result<Command<'a>, AllocError>

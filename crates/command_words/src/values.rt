@@ -35,18 +35,18 @@ pub(crate) fn text(
     }
 }
 
-fn within(number: u64, least: u32, most: u32) -> Option<u32>
+fn within(number: u64, least: u64, most: u64) -> Option<u64>
     ensures value { result ≡ number_within least most number }
     ensures range { IfSome result (λ n. least ≤ n × n ≤ most) }
 {
-    if least as u64 <= number && number <= most as u64 {
-        Some(number as u32)
+    if least <= number && number <= most {
+        Some(number)
     } else {
         None
     }
 }
 
-fn read_number(text: &str, least: u32, most: u32) -> Option<u32>
+fn read_number(text: &str, least: u64, most: u64) -> Option<u64>
     ensures value { result ≡ number_in least most text.now }
     ensures range { IfSome result (λ n. least ≤ n × n ≤ most) }
 {
@@ -57,12 +57,23 @@ fn read_number(text: &str, least: u32, most: u32) -> Option<u32>
 }
 
 /// The number of an option, by its name, where it lies from `least` to `most`.
-pub(crate) fn number(found: &ArgMatches<'_>, id: &str, least: u32, most: u32) -> Option<u32>
+pub(crate) fn large_number(found: &ArgMatches<'_>, id: &str, least: u64, most: u64) -> Option<u64>
     ensures value { result ≡ number_at id.now least most (rows_of (found_of found.now)) }
     ensures range { IfSome result (λ n. least ≤ n × n ≤ most) }
 {
     match written(found, id) {
         Some(text) => read_number(text, least, most),
+        None => None,
+    }
+}
+
+/// The number of an option, by its name, where it lies from `least` to `most`.
+pub(crate) fn number(found: &ArgMatches<'_>, id: &str, least: u32, most: u32) -> Option<u32>
+    ensures value { result ≡ number_at id.now least most (rows_of (found_of found.now)) }
+    ensures range { IfSome result (λ n. least ≤ n × n ≤ most) }
+{
+    match large_number(found, id, least as u64, most as u64) {
+        Some(number) => Some(number as u32),
         None => None,
     }
 }

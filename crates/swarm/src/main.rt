@@ -1,7 +1,9 @@
 //! The program `swarm`: it hands the words of the command line, the console, the system's clock, the
-//! disk, the store of records and the system's sockets to `swarm_cli`, and ends with its answer.
+//! disk, the store of records, the system's sockets and its shell to `swarm_cli`, and ends with its
+//! answer.
 #![tactic(auto)]
 
+use shell_runner::ShellRunner;
 use sqlite_keeper::SqliteStore;
 use std::env;
 use std::process::ExitCode;
@@ -26,6 +28,7 @@ fn main(rt: HostRuntime) -> ExitCode {
     let mut store = SqliteStore::new(&rt);
     let mut listener = TcpAll::new(alloc, &rt, &rt, Limits::of_server());
     let mut dialer = TcpAll::new(alloc, &rt, &rt, Limits::of_client());
+    let mut runner = ShellRunner::new(&rt);
     ExitCode::from(run(
         alloc,
         &words,
@@ -35,5 +38,6 @@ fn main(rt: HostRuntime) -> ExitCode {
         &mut store,
         &mut listener,
         &mut dialer,
+        &mut runner,
     ))
 }

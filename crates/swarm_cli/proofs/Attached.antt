@@ -1,6 +1,6 @@
 -- Keepers that are attached one after the other, and taken back.
-use Rattle.std.proofs.Common.{◌≡◌, ℕ, zero, suc, ◌+◌, ◌<◌, ◌≤◌, List, [], ◌∷◌, ◌++◌, map, length, take, drop, get_or, refl, sym, ap, subst, ◌∙◌, Bool, true, false, Option, Some, None, Result, Ok, Err, arith, zero-add, add-one, IsSome, length-append}
-use Rattle.std.specs.Prelude.{◌&&◌, is_some, IsTrue, sum_by, option_map}
+use Rattle.std.proofs.Common.{◌≡◌, ℕ, zero, suc, ◌+◌, ◌<◌, List, [], ◌∷◌, ◌++◌, map, length, take, drop, get_or, refl, sym, ap, subst, ◌∙◌, true, false, Option, Some, None, arith, zero-add, add-one, IsSome, length-append}
+use Rattle.std.specs.Prelude.{is_some, sum_by, option_map}
 use Rattle.std.specs.List.{list_all, AllByRecursion}
 use Rattle.std.proofs.lemmas.Bool.{and_parts}
 use Rattle.std.proofs.lemmas.List.{map-append, length-map}
@@ -9,15 +9,14 @@ use Rattle.std.proofs.lemmas.List.Sums.{sum_by-append}
 use Rattle.std.proofs.Math.Seq.{take-suc}
 use Rattle.sw_base.specs.Faults.{Rose}
 use Rattle.sw_base.specs.declared.start_fault.StartFault.{StartFault}
-use Rattle.sw_base.specs.declared.start_fault.StartFault.TheVariants as start
 use Rattle.swarm_keeper.specs.Tables.{Tables, nothing}
 use Rattle.swarm_keeper.specs.Stores.{StoreState, HasPlace, PlacesStay, IsAttached, Detaches, with_tables}
 use Rattle.swarm_model.specs.declared.pool_settings.PoolSettings.{PoolSettings}
 use Rattle.swarm_policy.specs.Pools.{have_own_names}
-use Rattle.swarm_cli.specs.Attaching.{Kept, told_of, told_records, is_one_of, KeepsOthers, CountsKeepers, AttachesOne, AttachesAll, AttachesNone, DetachesAll}
+use Rattle.swarm_cli.specs.Attaching.{Kept, told_of, told_records, is_one_of, KeepsOthers, AttachesOne, AttachesAll, AttachesNone, DetachesAll}
 use Rattle.swarm_cli.proofs.Names.{own_place}
 use Rattle.swarm_cli.proofs.Places.{others-more, others-none, others_tell, told_of_other, told_more, all_told, back_again}
-use Rattle.swarm_cli.proofs.Counts.{Rose-trans, counts-none, counts-more, counts_none}
+use Rattle.swarm_cli.proofs.Counts.{counts-none, counts-more, counts_none}
 
 -- ---- lists
 

@@ -1,6 +1,6 @@
 -- How a store's count of faults follows those of its keepers.
-use Rattle.std.proofs.Common.{◌≡◌, ℕ, zero, suc, ◌+◌, ◌<◌, refl, sym, ap, subst, ◌∙◌, Bool, true, false, arith, zero-add}
-use Rattle.std.specs.Prelude.{◌==◌, ◌^◌, min, MatchBool}
+use Rattle.std.proofs.Common.{◌≡◌, ℕ, zero, suc, ◌+◌, ◌<◌, refl, sym, subst, ◌∙◌, Bool, true, false, arith}
+use Rattle.std.specs.Prelude.{◌==◌, MatchBool}
 use Rattle.std.proofs.lemmas.Bool.{eqb-true, eq-eqb}
 use Rattle.sw_base.specs.Faults.{Rose}
 use Rattle.swarm_cli.specs.Attaching.{CountsKeepers}

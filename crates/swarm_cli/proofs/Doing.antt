@@ -1,12 +1,11 @@
 -- What is done with a door, and what is printed after it.
-use Rattle.std.proofs.Common.{◌≡◌, ℕ, ◌+◌, ◌<◌, ◌≤◌, List, [], ◌∷◌, map, Option, Some, None, refl, sym, ap, ◌∙◌, subst, arith}
-use Rattle.std.specs.Prelude.{option_map, length}
+use Rattle.std.proofs.Common.{◌≡◌, ℕ, ◌+◌, ◌<◌, ◌≤◌, List, Option, Some, None, sym, ap, ◌∙◌, subst, arith}
 use mathlib.Core.Path.{fun_ext}
 use Rattle.sw_base.specs.Link.{LinkState}
 use Rattle.sw_base.specs.Told.{Adds, IsOut}
 use Rattle.swarm_model.specs.declared.pool_settings.Settings.{Settings}
 use Rattle.swarm_model.specs.declared.pool_settings.PoolSettings.{PoolSettings}
-use Rattle.swarm_door.specs.Doors.{Logs, DoorState, IsFreshDoor}
+use Rattle.swarm_door.specs.Doors.{Logs, DoorState}
 use Rattle.swarm_http.specs.Answered.{KeepsDoor}
 use Rattle.swarm_history.specs.declared.load_fault.LoadFault.{LoadFault}
 use Rattle.swarm_history.specs.declared.load_fault.LoadFault.TheVariants as load
@@ -16,10 +15,10 @@ use Rattle.swarm_cli.specs.declared.door_command.DoorCommand.TheVariants as comm
 use Rattle.swarm_cli.specs.declared.serving.Used.{Used}
 use Rattle.swarm_cli.specs.declared.serving.Used.TheVariants as used
 use Rattle.swarm_cli.specs.Outside.{Outside, PrintsMade}
-use Rattle.swarm_cli.specs.Deeds.{Does, ServesConsole, ServesNothing, ServesLinks, served, not_served, work_status}
+use Rattle.swarm_cli.specs.Deeds.{Does, ServesConsole, ServesNothing, served, not_served, work_status}
 use Rattle.swarm_cli.specs.Handling.{IsUsed, IsConcluded, deed_of}
 use Rattle.swarm_cli.specs.KeptRecords.{TellsFault}
-use Rattle.swarm_cli.specs.SettingsFile.{RunsNew, done, no_memory}
+use Rattle.swarm_cli.specs.SettingsFile.{RunsNew, no_memory}
 
 -- the console as it is now
 abbrev pub with_console : Outside → LinkState → Outside

@@ -1,6 +1,5 @@
 -- A session that was made from a number.
-use Rattle.std.proofs.Common.{◌≡◌, ℕ, List, [], map, Option, Some, sym, ap, ◌∙◌, subst, refl}
-use Rattle.std.specs.Prelude.{length}
+use Rattle.std.proofs.Common.{◌≡◌, ℕ, List, [], map, Option, Some, ap, ◌∙◌, subst}
 use Rattle.std.specs.List.{count_by}
 use Rattle.drill_requests.specs.Texts.{drill_bytes}
 use Rattle.sw_base.specs.Clock.{steps_from}

@@ -1,6 +1,6 @@
 -- A command over kept records.
-use Rattle.std.proofs.Common.{◌≡◌, ℕ, ◌<◌, List, [], ◌∷◌, map, length, refl, sym, ap, subst, ◌∙◌, Bool, true, Option, Some, None, IsSome, arith}
-use Rattle.std.specs.Prelude.{is_some, sum_by}
+use Rattle.std.proofs.Common.{◌≡◌, ℕ, List, [], ◌∷◌, map, length, refl, sym, ap, subst, ◌∙◌, Bool, true, Option, Some, None, IsSome, arith}
+use Rattle.std.specs.Prelude.{is_some}
 use Rattle.std.specs.List.{list_all}
 use Rattle.std.proofs.lemmas.Bool.{and_from, and_parts}
 use Rattle.std.proofs.lemmas.List.{length-map}
@@ -27,8 +27,8 @@ use Rattle.swarm_history.specs.declared.load_fault.LoadFault.{LoadFault}
 use Rattle.swarm_history.specs.declared.load_fault.LoadFault.TheVariants as load
 use Rattle.swarm_cli.specs.Outside.{Outside}
 use Rattle.swarm_cli.specs.Deeds.{Deed, start_status}
-use Rattle.swarm_cli.specs.Attaching.{Kept, told_records, KeepsOthers, CountsKeepers, AttachesAll, AttachesNone, DetachesAll}
-use Rattle.swarm_cli.specs.KeptRecords.{DoesOver, NoDoor, no_memory, failed, bad_store, TellsFault, RunsOver, with_door, without_door, RunsServed, RunsUnserved, RunsKept, served, unserved}
+use Rattle.swarm_cli.specs.Attaching.{Kept, KeepsOthers, CountsKeepers, AttachesAll, AttachesNone, DetachesAll}
+use Rattle.swarm_cli.specs.KeptRecords.{DoesOver, NoDoor, no_memory, failed, bad_store, TellsFault, RunsOver, with_door, without_door, RunsUnserved, RunsKept, served, unserved}
 use Rattle.swarm_cli.proofs.Doing.{with_console, same_console, does_all, summary_is}
 use Rattle.swarm_cli.proofs.Places.{all_told, back_again, others_tell, others-trans}
 use Rattle.swarm_cli.proofs.Counts.{counts_some, rose_above}

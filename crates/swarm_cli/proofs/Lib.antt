@@ -1,3 +1,4 @@
+pub mod BotMisfits
 pub mod Names
 pub mod Places
 pub mod Counts

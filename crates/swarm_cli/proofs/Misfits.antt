@@ -17,7 +17,7 @@ refused_so : {tests : List OptionTest} {server caller : List ℕ} {does : Server
     (status : ℕ) (name : List ℕ) → first_unfit tests ≡ Some name → PrintsMade (settings_line name (codes "grammar")) 3 s t status
     → RunsClient tests server caller does (client_side rest files s clock dialer waited) (client_side rest files t clock dialer waited) status
 refused_so rest files s t clock dialer waited status name unfit (printed prints) =
-    refused name unfit prints (record { files = refl; store = refl; outside = record { clock = refl; listener = refl }; dialer = refl; waited = refl })
+    refused name unfit prints (record { files = refl; store = refl; outside = record { clock = refl; listener = refl }; dialer = refl; waited = refl; runner = refl })
 refused_so rest files s t clock dialer waited status name unfit (outside.no_memory is same) = no_memory is (ap (λ (k : LinkState). client_side rest files k clock dialer waited) same)
 
 -- a misfit is told
@@ -29,3 +29,4 @@ told_so rest files s t clock dialer waited status misfit.Server unfit told = ref
 told_so rest files s t clock dialer waited status misfit.Caller unfit told = refused_so rest files s t clock dialer waited status (codes "caller") unfit told
 told_so rest files s t clock dialer waited status misfit.Id unfit told = refused_so rest files s t clock dialer waited status (codes "id") unfit told
 told_so rest files s t clock dialer waited status misfit.State unfit told = refused_so rest files s t clock dialer waited status (codes "state") unfit told
+told_so rest files s t clock dialer waited status misfit.Dimensions unfit told = refused_so rest files s t clock dialer waited status (codes "dimensions") unfit told

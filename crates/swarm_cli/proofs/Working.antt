@@ -10,7 +10,6 @@ use Rattle.swarm_door.specs.Doors.{DoorState}
 use Rattle.swarm_http.specs.declared.ended.Ended.{Ended}
 use Rattle.swarm_http.specs.declared.ended.Ended.TheVariants as ended
 use Rattle.swarm_http.specs.Answered.{World, IsAnswered, KeepsDoor}
-use Rattle.swarm_cli.specs.declared.worked.Worked.{Worked}
 use Rattle.swarm_cli.specs.declared.worked.WorkStop.TheVariants as stop
 use Rattle.swarm_cli.specs.Works.{Visit, Sessions, HasFaultsCounted, HadMemory, IsWorked, IsServed, IsIdle}
 

@@ -62,10 +62,11 @@ pub record DoneAt (server caller : List ℕ) (does : Server → Type 0) : Type 0
   pub caller_is : by.caller.now ≡ caller
   pub done : does by
 
--- the store and the listener are as before
+-- the store, the listener and the runner are as before
 pub record AsideFromClient (x y : Surroundings) : Type 0 where
   pub store : y.store ≡ x.store
   pub listener : y.outside.listener ≡ x.outside.listener
+  pub runner : y.runner ≡ x.runner
 
 -- a client's command was carried out, or the first of its options that is out of its grammar is told
 pub data RunsClient (tests : List OptionTest) (server caller : List ℕ) (does : Server → Type 0) (x y : Surroundings) (status : ℕ) : Type 0 where
@@ -105,6 +106,7 @@ client_side rest files console clock dialer waited = record {
   outside = record { console = console; clock = clock; listener = rest.outside.listener };
   dialer = dialer;
   waited = waited;
+  runner = rest.runner;
 }
 
 -- the option of a misfit
@@ -114,6 +116,7 @@ misfit_name misfit.Server = codes "server"
 misfit_name misfit.Caller = codes "caller"
 misfit_name misfit.Id = codes "id"
 misfit_name misfit.State = codes "state"
+misfit_name misfit.Dimensions = codes "dimensions"
 
 -- the line for a misfit is printed, where there is memory for it
 abbrev pub TellsMisfit : Misfit → LinkState → LinkState → ℕ → Type 0

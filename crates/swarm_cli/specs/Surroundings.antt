@@ -2,6 +2,7 @@
 use Rattle.std.specs.Prelude.{◌≡◌, ℕ, Option}
 use Rattle.sw_base.specs.Files.{FilesState}
 use Rattle.sw_base.specs.Dialers.{DialerState}
+use Rattle.runners.specs.Calls.{RunnerState}
 use Rattle.swarm_keeper.specs.Stores.{StoreState}
 use Rattle.swarm_cli.specs.Outside.{Outside, SameButConsole}
 
@@ -12,6 +13,7 @@ pub record Surroundings : Type 0 where
   pub outside : Outside
   pub dialer : DialerState
   pub waited : Option ℕ
+  pub runner : RunnerState
 
 -- nothing changed but the console
 pub record OnlyConsole (x y : Surroundings) : Type 0 where
@@ -20,3 +22,4 @@ pub record OnlyConsole (x y : Surroundings) : Type 0 where
   pub outside : SameButConsole x.outside y.outside
   pub dialer : y.dialer ≡ x.dialer
   pub waited : y.waited ≡ x.waited
+  pub runner : y.runner ≡ x.runner

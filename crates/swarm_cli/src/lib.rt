@@ -1,4 +1,5 @@
-//! All that the program does, over a console, a clock, files, a store, a listener and a dialer.
+//! All that the program does, over a console, a clock, files, a store, a listener, a dialer and a
+//! runner.
 //!
 //! [`run`] reads the words of the command line by `command_words` and carries them out. The words
 //! `session` and `serve` are carried out over a door of their own: `session` serves one connection
@@ -11,10 +12,14 @@
 //! contract, and `RunsBy` of `specs/Run.antt` holds them together. The word `drill` serves a
 //! session that is made from a number over a link in memory; `Drills` of `specs/Drills.antt` is its
 //! contract. The commands of a client are those of `swarm_client`, once their options are in their
-//! grammars; `RunsClient` of `specs/Clients.antt` says so. `serve` and `drill` end with the summary of the pools, which `pool_summaries` writes.
+//! grammars; `RunsClient` of `specs/Clients.antt` says so. `bot` is that of `bot_turns`, over a
+//! runner of children, once its options are in their grammars; `RunsBotCommand` of
+//! `specs/BotCommands.antt` says so. `serve` and `drill` end with the summary of the pools, which
+//! `pool_summaries` writes.
 #![tactic(auto)]
 
 mod attaching;
+mod bot_command;
 mod clients;
 mod door_command;
 mod drill;

@@ -126,5 +126,6 @@ pub(crate) fn tell_misfit<L: Link>(alloc: Global, console: &mut L, why: Misfit) 
         Misfit::Caller => print_grammar(alloc, console, "caller"),
         Misfit::Id => print_grammar(alloc, console, "id"),
         Misfit::State => print_grammar(alloc, console, "state"),
+        Misfit::Dimensions => print_grammar(alloc, console, "dimensions"),
     }
 }

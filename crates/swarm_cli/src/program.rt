@@ -2,10 +2,12 @@
 ghost use Rattle.std.specs.Prelude.{◌≡◌, map, option_map, string_bytes};
 ghost use Rattle.sw_base.specs.Dialers.{DialerState};
 ghost use Rattle.sw_base.specs.Link.{IsClean};
+ghost use Rattle.runners.specs.Calls.{RunnerState};
 ghost use Rattle.command_words.specs.Commands.{HasRanges, command_of, value_of};
 ghost use Rattle.swarm_cli.specs.Handling.{HasRange, deed_of};
 ghost use Rattle.swarm_cli.specs.Run.{CarriesOut, Runs, RunsBy};
 
+use crate::bot_command::run_bot_command;
 use crate::clients::{run_bots, run_cancel, run_collect, run_tasks, run_trigger};
 use crate::door_command::DoorCommand;
 use crate::drill::run_drill;
@@ -13,6 +15,7 @@ use crate::serving::run_new;
 use crate::settings_file::run_file;
 use command_words::{Command, Words, read_words};
 use link_writer::print;
+use runners::Runner;
 use std::alloc::Global;
 use sw_base::{Dialer, Files, Listener};
 use swarm_http::{Clock, Link};
@@ -35,9 +38,9 @@ where
     P::Keeper: Drop,
     requires clean { IsClean (L.state console.old) }
     requires range { HasRange command.now }
-    ensures { (dialer : DialerState) → RunsBy (deed_of command.now) (option_map string_bytes settings.now)
-        (record { files = F.state files.old; store = P.state store.old; outside = record { console = L.state console.old; clock = C.ahead clock.old; listener = N.state listener.old }; dialer = dialer; waited = C.waited clock.old })
-        (record { files = F.state files.new; store = P.state store.new; outside = record { console = L.state console.new; clock = C.ahead clock.new; listener = N.state listener.new }; dialer = dialer; waited = C.waited clock.new }) result }
+    ensures { (dialer : DialerState) (runner : RunnerState) → RunsBy (deed_of command.now) (option_map string_bytes settings.now)
+        (record { files = F.state files.old; store = P.state store.old; outside = record { console = L.state console.old; clock = C.ahead clock.old; listener = N.state listener.old }; dialer = dialer; waited = C.waited clock.old; runner = runner })
+        (record { files = F.state files.new; store = P.state store.new; outside = record { console = L.state console.new; clock = C.ahead clock.new; listener = N.state listener.new }; dialer = dialer; waited = C.waited clock.new; runner = runner }) result }
 {
     match settings {
         None => match open_settings(alloc) {
@@ -57,7 +60,7 @@ where
     }
 }
 
-fn carry_out<L: Link, C: Clock, F: Files, P: Store, N: Listener, W: Dialer>(
+fn carry_out<L: Link, C: Clock, F: Files, P: Store, N: Listener, W: Dialer, R: Runner>(
     alloc: Global,
     command: Command,
     console: &mut L,
@@ -66,14 +69,15 @@ fn carry_out<L: Link, C: Clock, F: Files, P: Store, N: Listener, W: Dialer>(
     store: &mut P,
     listener: &mut N,
     dialer: &mut W,
+    runner: &mut R,
 ) -> u8
 where
     P::Keeper: Drop,
     requires clean { IsClean (L.state console.old) }
     requires ranges { HasRanges (value_of command) }
     ensures { CarriesOut (value_of command)
-        (record { files = F.state files.old; store = P.state store.old; outside = record { console = L.state console.old; clock = C.ahead clock.old; listener = N.state listener.old }; dialer = W.state dialer.old; waited = C.waited clock.old })
-        (record { files = F.state files.new; store = P.state store.new; outside = record { console = L.state console.new; clock = C.ahead clock.new; listener = N.state listener.new }; dialer = W.state dialer.new; waited = C.waited clock.new }) result }
+        (record { files = F.state files.old; store = P.state store.old; outside = record { console = L.state console.old; clock = C.ahead clock.old; listener = N.state listener.old }; dialer = W.state dialer.old; waited = C.waited clock.old; runner = R.state runner.old })
+        (record { files = F.state files.new; store = P.state store.new; outside = record { console = L.state console.new; clock = C.ahead clock.new; listener = N.state listener.new }; dialer = W.state dialer.new; waited = C.waited clock.new; runner = R.state runner.new }) result }
 {
     match command {
         Command::Session(session) => run_door(
@@ -102,6 +106,7 @@ where
                 listener,
             )
         }
+        Command::Bot(words) => run_bot_command(alloc, &words, console, clock, dialer, runner),
         Command::Drill(drill) => run_drill(alloc, drill.start, drill.cycles, console),
         Command::Trigger(words) => run_trigger(alloc, &words, console, files, dialer),
         Command::Collect(words) => run_collect(alloc, &words, console, clock, dialer),
@@ -119,16 +124,16 @@ where
 ///
 /// | Status | Where |
 /// |---|---|
-/// | 0 | the command did its whole work: the input of `session` ended between requests, its last request asked to close, or 65536 were answered; `serve` served as many connections as it may, or no more came; `drill` printed its counts |
+/// | 0 | the command did its whole work: `bot` ran as many tasks as it may, or was told to end; the input of `session` ended between requests, its last request asked to close, or 65536 were answered; `serve` served as many connections as it may, or no more came; `drill` printed its counts |
 /// | 2 | the words are no command, or ask for help; the text that says so is printed |
-/// | 3 | the settings are refused, and `settings PLACE RULE` is printed; or the records of a pool are, and `store PLACE AT` is printed; or an option of a client's command is out of its grammar, and `settings OPTION grammar` is printed; or the file of `trigger` is not there or too long |
-/// | 4 | a read, a write or a flush on the console failed, the file or the records could not be read, no connection could be accepted, or the server could not be reached |
+/// | 3 | the settings are refused, and `settings PLACE RULE` is printed; or the records of a pool are, and `store PLACE AT` is printed; or an option of a client's command or of `bot` is out of its grammar, and `settings OPTION grammar` is printed; or the file of `trigger` is not there or too long |
+/// | 4 | a read, a write or a flush on the console failed, the file or the records could not be read, no connection could be accepted, the server could not be reached by a client's command, or the folder of `bot` could not be made |
 /// | 5 | there was no memory |
-/// | 6 | the server refused the request of a client's command, and the refusal's code is printed |
+/// | 6 | the server refused the request of a client's command, and the refusal's code is printed; or `bot` was refused for good |
 /// | 7 | the input of `session` ended inside a request, or a head was refused |
-/// | 8 | `collect` asked as often as it may, and the task has not ended |
+/// | 8 | `collect` asked as often as it may, and the task has not ended; or `bot` used up its polls or its steps |
 /// | 9 | what the server sent is no reply |
-pub fn run<L: Link, C: Clock, F: Files, P: Store, N: Listener, W: Dialer>(
+pub fn run<L: Link, C: Clock, F: Files, P: Store, N: Listener, W: Dialer, R: Runner>(
     alloc: Global,
     words: &[String],
     console: &mut L,
@@ -137,17 +142,18 @@ pub fn run<L: Link, C: Clock, F: Files, P: Store, N: Listener, W: Dialer>(
     store: &mut P,
     listener: &mut N,
     dialer: &mut W,
+    runner: &mut R,
 ) -> u8
 where
     P::Keeper: Drop,
     requires { IsClean (L.state console.old) }
     ensures { Runs (command_of (map string_bytes words.now))
-        (record { files = F.state files.old; store = P.state store.old; outside = record { console = L.state console.old; clock = C.ahead clock.old; listener = N.state listener.old }; dialer = W.state dialer.old; waited = C.waited clock.old })
-        (record { files = F.state files.new; store = P.state store.new; outside = record { console = L.state console.new; clock = C.ahead clock.new; listener = N.state listener.new }; dialer = W.state dialer.new; waited = C.waited clock.new }) result }
+        (record { files = F.state files.old; store = P.state store.old; outside = record { console = L.state console.old; clock = C.ahead clock.old; listener = N.state listener.old }; dialer = W.state dialer.old; waited = C.waited clock.old; runner = R.state runner.old })
+        (record { files = F.state files.new; store = P.state store.new; outside = record { console = L.state console.new; clock = C.ahead clock.new; listener = N.state listener.new }; dialer = W.state dialer.new; waited = C.waited clock.new; runner = R.state runner.new }) result }
 {
     match read_words(alloc, words) {
         Ok(Words::Command(command)) => carry_out(
-            alloc, command, console, clock, files, store, listener, dialer,
+            alloc, command, console, clock, files, store, listener, dialer, runner,
         ),
         Ok(Words::Refused { text }) => print(console, text.as_bytes(), 2),
         Err(_) => 5,

@@ -9,10 +9,10 @@ use Rattle.swarm_model.specs.declared.task_view.TaskView.{TaskView}
 use Rattle.swarm_model.specs.declared.reply.Reply.{Reply}
 use Rattle.swarm_model.specs.Finding.{is_final}
 use Rattle.swarm_client.specs.declared.server.Server.{Server}
-use Rattle.swarm_client.specs.declared.exchanged.Exchanged.{Exchanged}
+use Rattle.server_calls.specs.declared.exchanged.Exchanged.{Exchanged}
 use Rattle.routes.specs.declared.route.Route.{Route}
-use Rattle.swarm_client.specs.Requests.{Call, IsBody, request_text, stdout_call}
-use Rattle.swarm_client.specs.Exchanges.{IsExchanged}
+use Rattle.swarm_client.specs.Requests.{Call, IsBody, posted, stdout_call}
+use Rattle.server_calls.specs.Exchanges.{IsExchanged}
 use Rattle.swarm_client.specs.Plans.{Plan, end, say, wait, ask, World, Exchanges, Follows, ends, says, fails, waits, asks, lacks_memory, after}
 use Rattle.swarm_client.specs.Commands.{or_no_reply, polling, delivering, pause, collecting, fetched, fetching}
 use Rattle.swarm_client.specs.Steps.{world, Leads, Carries}
@@ -27,12 +27,12 @@ exchanged {call = call} {s = s} {c = c} {waited = waited} x t next e = λ v stat
 
 -- the request that was exchanged is one of the call
 pub exchanges_of : {server : Server} {s t : DialerState} {x : Exchanged} {route : Route} (call : Call) (path body request : List ℕ) → call.route ≡ route → call.path ≡ path → IsBody route call.body body
-    → request ≡ request_text path server body → IsExchanged s t server.address.now request route x → Exchanges server call s t x
+    → request ≡ posted path server body → IsExchanged s t server.address.now request route x → Exchanges server call s t x
 exchanges_of {server = server} {s = s} {t = t} {x = x} {route = route} call path body request er ep is e k = record {
   body = body;
   is_body = subst (λ r. IsBody r call.body body) (sym er) is;
-  exchanged = subst (λ r. IsExchanged s t server.address.now (request_text call.path server body) r x) (sym er)
-      (subst (λ p. IsExchanged s t server.address.now (request_text p server body) route x) (sym ep) (subst (λ q. IsExchanged s t server.address.now q route x) e k));
+  exchanged = subst (λ r. IsExchanged s t server.address.now (posted call.path server body) r x) (sym er)
+      (subst (λ p. IsExchanged s t server.address.now (posted p server body) route x) (sym ep) (subst (λ q. IsExchanged s t server.address.now q route x) e k));
 }
 
 -- a text that was sent is printed

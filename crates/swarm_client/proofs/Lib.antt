@@ -1,3 +1,2 @@
-pub mod ExchangeLemmas
 pub mod Meanings
 pub mod Following

@@ -16,7 +16,7 @@ use Rattle.swarm_model.specs.Finding.{is_final}
 use Rattle.swarm_model.specs.States.{state_name}
 use Rattle.json_fields.specs.Ids.{task_id, run_id}
 use Rattle.swarm_client.specs.declared.server.Server.{Server}
-use Rattle.swarm_client.specs.declared.exchanged.Exchanged.{Exchanged}
+use Rattle.server_calls.specs.declared.exchanged.Exchanged.{Exchanged}
 use Rattle.swarm_client.specs.Requests.{Call, new_task_call, cancel_call, result_call, stdout_call, tasks_call, bots_call}
 use Rattle.swarm_client.specs.Plans.{Plan, end, say, wait, ask, after, World, Follows}
 

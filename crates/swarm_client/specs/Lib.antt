@@ -1,6 +1,5 @@
 pub mod Bodies
 pub mod Requests
-pub mod Exchanges
 pub mod Plans
 pub mod Steps
 pub mod Commands

@@ -6,12 +6,12 @@ use Rattle.sw_base.specs.Link.{LinkState, IsClean}
 use Rattle.sw_base.specs.Dialers.{DialerState}
 use Rattle.link_writer.specs.Sends.{Written}
 use Rattle.swarm_model.specs.declared.reply.Reply.{Reply}
-use Rattle.reply_reading.specs.declared.told.Told.TheVariants.{Good, No}
+use Rattle.server_calls.specs.declared.told.Told.TheVariants.{Good, No}
 use Rattle.swarm_client.specs.declared.server.Server.{Server}
-use Rattle.swarm_client.specs.declared.exchanged.Exchanged.{Exchanged}
-use Rattle.swarm_client.specs.declared.exchanged.Exchanged.TheVariants.{Told, NoReply, Lost, Memory}
-use Rattle.swarm_client.specs.Requests.{Call, IsBody, request_text}
-use Rattle.swarm_client.specs.Exchanges.{IsExchanged}
+use Rattle.server_calls.specs.declared.exchanged.Exchanged.{Exchanged}
+use Rattle.server_calls.specs.declared.exchanged.Exchanged.TheVariants.{Told, NoReply, Lost, Memory}
+use Rattle.swarm_client.specs.Requests.{Call, IsBody, posted}
+use Rattle.server_calls.specs.Exchanges.{IsExchanged}
 
 -- What is left to do: to end with a status, to print a text first, to wait so many seconds first, or to
 -- exchange a call for an answer first, which decides what follows.
@@ -43,7 +43,7 @@ pub record FailsToPrint (text : List ℕ) (s t : LinkState) : Type 0 where
 pub record Exchanges (server : Server) (call : Call) (s t : DialerState) (x : Exchanged) : Type 0 where
   pub body : List ℕ
   pub is_body : IsBody call.route call.body body
-  pub exchanged : IsExchanged s t server.address.now (request_text call.path server body) call.route x
+  pub exchanged : IsExchanged s t server.address.now (posted call.path server body) call.route x
 
 -- The plan was carried out, each step once and in order, and ended with this status: with the plan's
 -- own, with 4 as the console failed, or with 5 for want of memory.

@@ -1,5 +1,5 @@
--- The requests of a client: their heads, and what the server reads in their bodies.
-use Rattle.std.specs.Prelude.{◌≡◌, ℕ, Bool, List, [], ◌++◌, length, Option, None, Result, Ok, codes, decimal}
+-- The requests of a client, and what the server reads in their bodies.
+use Rattle.std.specs.Prelude.{◌≡◌, ℕ, Bool, List, [], Option, None, Result, Ok, codes}
 use Rattle.task_props.specs.declared.prop_fault.PropFault.{PropFault}
 use Rattle.swarm_model.specs.declared.pool_settings.Settings.{Settings}
 use Rattle.swarm_model.specs.declared.request.Request.{Request}
@@ -13,18 +13,14 @@ use Rattle.swarm_wire.specs.declared.asked.Asked.{Asked}
 use Rattle.swarm_wire.specs.declared.asked.WireFault.{WireFault}
 use Rattle.swarm_wire.specs.declared.parts.Parts.{Parts}
 use Rattle.swarm_wire.specs.Asking.{asked, asked_of, or_bad_field, pool_at, pool_named}
+use Rattle.client_requests.specs.Requests.{request_text}
 use Rattle.swarm_client.specs.declared.server.Server.{Server}
 
--- ---- heads
+-- ---- texts
 
-unfoldable pub head_text : List ℕ → Server → ℕ → List ℕ
-head_text path server size =
-    codes "POST " ++ (path ++ (codes " HTTP/1.1\r\nHost: " ++ (server.host.now ++ (codes "\r\nX-Swarming-Caller: " ++ (server.caller.now
-    ++ (codes "\r\nContent-Length: " ++ (decimal size ++ codes "\r\n\r\n")))))))
-
--- the bytes of a request: its head, and then its body
-abbrev pub request_text : List ℕ → Server → List ℕ → List ℕ
-request_text path server body = head_text path server (length body) ++ body
+-- a request that is posted to a path of the server
+abbrev pub posted : List ℕ → Server → List ℕ → List ℕ
+posted path server body = request_text (codes "POST") path server.host.now server.caller.now body
 
 -- ---- bodies
 

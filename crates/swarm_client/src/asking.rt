@@ -3,14 +3,12 @@ ghost use Rattle.std.specs.Prelude.{◌≡◌, ℕ, Option};
 ghost use Rattle.swarm_client.specs.Requests.{Call, IsBody};
 ghost use Rattle.swarm_client.specs.Steps.{world, Asks};
 
-use crate::exchanged::Exchanged;
-use crate::exchanging::exchange;
 use crate::printing::print_code;
-use crate::requests::request_text;
 use crate::server::Server;
+use client_requests::request_text;
 use dimensions::Seq;
-use reply_reading::Told;
 use routes::Route;
+use server_calls::{Exchanged, Told, exchange};
 use std::alloc::Global;
 use sw_base::{Dialer, Link};
 use swarm_model::Reply;
@@ -37,7 +35,7 @@ pub(crate) fn ask<W: Dialer, L: Link>(
     ensures { (call : Call) (waited : Option ℕ) → call.route ≡ route → call.path ≡ path.now → IsBody route call.body body.now →
         Asks server.now call (world (W.state dialer.old) (L.state console.old) waited) (world (W.state dialer.new) (L.state console.new) waited) result }
 {
-    let Ok(request) = request_text(alloc, path, server, body) else {
+    let Ok(request) = request_text(alloc, "POST", path, server.host, server.caller, body) else {
         return Err(5);
     };
     match exchange(alloc, dialer, server.address, &request, route) {

@@ -1,6 +1,8 @@
 use crate::records::{Records, read_records};
 use drill_requests::drill_input;
+use runners::MemoryRunner;
 use std::alloc::{AllocError, Global};
+use std::collections::VecDeque;
 use sw_base::{MemoryDialer, MemoryFiles, MemoryLink, MemoryListener, StartFault, StepClock};
 use swarm_cli::run;
 use swarm_keeper::Store;
@@ -78,6 +80,7 @@ where
     };
     let mut listener = MemoryListener::new(alloc, Vec::new(alloc));
     let mut dialer = MemoryDialer::new(alloc, Vec::new(alloc));
+    let mut runner = MemoryRunner::new(alloc, VecDeque::new(alloc));
     let status = run(
         alloc,
         &words,
@@ -87,6 +90,7 @@ where
         store,
         &mut listener,
         &mut dialer,
+        &mut runner,
     );
     if status != 0 {
         return Err(StartFault::Failed);

@@ -1,4 +1,4 @@
-ghost use Rattle.std.specs.Prelude.{◌≡◌, ◌↔◌, [], IsOk, vec_len};
+ghost use Rattle.std.specs.Prelude.{◌≡◌, ◌↔◌, [], IfSome, IsOk, vec_len};
 
 use crate::{Conversation, Transcript, TranscriptError};
 use std::alloc::{AllocError, Global};
@@ -218,5 +218,44 @@ pub fn compare_moments(transcript: &Transcript, asked: usize) -> Result<(), Tran
         line: transcript.line,
         wanted,
         came: asked,
+    })
+}
+
+/// Compares how many seconds a run waited with those of its transcript, where it has them.
+///
+/// # Errors
+///
+/// It waited for more seconds, or for fewer.
+pub fn compare_waits(transcript: &Transcript, waited: u64) -> Result<(), TranscriptError>
+    ensures alike { IsOk result ↔ IfSome transcript.now.waits (λ wanted. waited ≡ wanted) }
+{
+    let Some(wanted) = transcript.waits else {
+        return Ok(());
+    };
+    if waited == wanted {
+        return Ok(());
+    }
+    Err(TranscriptError::Waits {
+        line: transcript.line,
+        wanted,
+        came: waited,
+    })
+}
+
+/// Compares how many answers of the runner are left behind a run, which is to take all of them.
+///
+/// # Errors
+///
+/// Some are left.
+pub fn compare_runner(transcript: &Transcript, left: usize) -> Result<(), TranscriptError>
+    ensures alike { IsOk result ↔ (left ≡ 0) }
+{
+    if left == 0 {
+        return Ok(());
+    }
+    Err(TranscriptError::RunnerAnswers {
+        line: transcript.line,
+        wanted: transcript.runner_answers.len(),
+        left,
     })
 }

@@ -107,12 +107,25 @@ pub enum TranscriptError {
         wanted: usize,
         came: usize,
     },
-    /// Pools were asked at more moments, or at fewer, than the transcript that begins at this line
-    /// has.
+    /// The clock was asked for more moments, or for fewer, than the transcript that begins at this
+    /// line has.
     Moments {
         line: usize,
         wanted: usize,
         came: usize,
+    },
+    /// More seconds were waited, or fewer, than the transcript that begins at this line has.
+    Waits {
+        line: usize,
+        wanted: u64,
+        came: u64,
+    },
+    /// Of so many answers that the runner gives in the transcript that begins at this line, some were
+    /// not taken.
+    RunnerAnswers {
+        line: usize,
+        wanted: usize,
+        left: usize,
     },
     Memory,
 }
@@ -126,7 +139,9 @@ impl TranscriptError {
             | TranscriptError::More { line, .. }
             | TranscriptError::Status { line, .. }
             | TranscriptError::Links { line, .. }
-            | TranscriptError::Moments { line, .. } => *line,
+            | TranscriptError::Moments { line, .. }
+            | TranscriptError::Waits { line, .. }
+            | TranscriptError::RunnerAnswers { line, .. } => *line,
             TranscriptError::Memory => 0,
         }
     }
@@ -156,6 +171,14 @@ impl fmt::Display for TranscriptError {
             TranscriptError::Moments { wanted, came, .. } => write!(
                 f,
                 "the clock was to be asked {wanted} times, and was asked {came} times"
+            ),
+            TranscriptError::Waits { wanted, came, .. } => write!(
+                f,
+                "{wanted} seconds were to be waited, and {came} were"
+            ),
+            TranscriptError::RunnerAnswers { wanted, left, .. } => write!(
+                f,
+                "all {wanted} answers of the runner were to be taken, and {left} are left"
             ),
             TranscriptError::Memory => write!(f, "there was no memory"),
         }

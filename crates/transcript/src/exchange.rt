@@ -26,6 +26,7 @@ pub(crate) fn request_bytes(
 /// The bytes of a request that the program writes to the server `lab`.
 pub(crate) fn dialed_bytes(
     alloc: Global,
+    method: &str,
     path: &[u8],
     caller: &str,
     body: &[u8],
@@ -34,7 +35,8 @@ pub(crate) fn dialed_bytes(
     let head = format!(in alloc;
         " HTTP/1.1\r\nHost: lab\r\nX-Swarming-Caller: {caller}\r\nContent-Length: {size}\r\n\r\n"
     )?;
-    let mut bytes = Vec::from_slice(alloc, b"POST ")?;
+    let mut bytes = Vec::from_slice(alloc, method.as_bytes())?;
+    bytes.extend_from_slice(b" ")?;
     bytes.extend_from_slice(path)?;
     bytes.extend_from_slice(head.as_bytes())?;
     bytes.extend_from_slice(body)?;

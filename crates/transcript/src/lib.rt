@@ -4,8 +4,9 @@
 //!
 //! [`read`] takes the transcripts out of a text. [`compare_console`] holds what was printed in a run
 //! against a transcript, [`compare_link`] what was written to another link, [`compare_links`] how many
-//! links it used, [`compare_status`] its status and [`compare_moments`] how often its clock was asked. A text has one
-//! entry a line. Lines that are blank or begin with `#` are left out.
+//! links it used, [`compare_status`] its status, [`compare_moments`] how often its clock was asked,
+//! [`compare_waits`] how many seconds it waited and [`compare_runner`] whether it took all answers of
+//! its runner. A text has one entry a line. Lines that are blank or begin with `#` are left out.
 //!
 //! | Line | Meaning |
 //! |---|---|
@@ -26,11 +27,15 @@
 //! | `dial` | begins the next link that the program dials: what is sent over it is what the program reads, and what is answered what the program writes |
 //! | `console` | the rows that follow go over the console, as those before the first `connection` or `dial` |
 //! | `>reply STATUS \| FRONT \| BODY` | a reply that a dialed link gives, in the form of `<` |
+//! | `>blob STATUS \| FRONT \| BYTES` | the same, in the form of `<blob` |
 //! | `<request PATH BODY` | a request that the program writes to a dialed link, with the fields `Host: lab`, `X-Swarming-Caller` and `Content-Length` in this order |
+//! | `<put PATH BODY`, `<get PATH` | the same by PUT, and by GET |
+//! | `runner ANSWER` | what the runner answers next to a call of the program: `done`, `output TEXT`, `quiet`, `ended CODE`, `file TEXT`, `no_file`, `cleaned SIZE ..` or `fails`, each as the [`RunnerAnswer`](runners::RunnerAnswer) of this name. Past the last answer each call fails |
 //! | `mentions TEXT` | the text stands somewhere in what is printed, which is then not compared with the replies |
 //! | `cuts STATUS` | the transcript is also run with what its last dialed link gives cut at each place: nothing is printed, and the program ends with this status |
 //! | `listen_fails CALL ..`, `accept_fails CALL ..`, `dial_fails CALL ..` | the calls that listen, accept and dial and that fail, each kind counted from 0 |
-//! | `moment SECONDS` | one more second at which a pool is asked, for a request that is sent by `>>` |
+//! | `moment SECONDS ..` | more moments that the clock answers, for requests that are sent by `>>`, and for a bot, whose clock is asked at its begin and after each of its actions |
+//! | `waits SECONDS` | how many seconds the program waits in all, over the clock of these moments; not compared where the line is absent |
 //! | `step SECONDS` | the transcript is also run over a clock that begins at its first moment and goes on by this step at each call |
 //! | `pieces FIRST LAST` | the transcript is run once for each size of the pieces in which its bytes come; `pieces 1000 1000` where the line is absent |
 //! | `fails CALL ..` | the calls on the link that the rows go over that fail: reads, writes and flushes, counted together from 0 |
@@ -79,10 +84,12 @@ mod exchange;
 mod names;
 mod parts;
 mod reader;
+mod runner_answers;
 mod transcript;
 
 pub use comparison::{
-    compare_console, compare_link, compare_links, compare_moments, compare_nothing, compare_status,
+    compare_console, compare_link, compare_links, compare_moments, compare_nothing, compare_runner,
+    compare_status, compare_waits,
 };
 pub use conversation::Conversation;
 pub use error::{TextFault, TranscriptError};

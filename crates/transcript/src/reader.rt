@@ -2,6 +2,7 @@ use crate::draft::{Draft, Place};
 use crate::exchange::{dialed_bytes, reply_bytes, request_bytes};
 use crate::names::Names;
 use crate::parts::{form_error, is_front, is_name, is_status, read_number, read_numbers};
+use crate::runner_answers::read_runner_answer;
 use crate::{Pieces, TextFault, Transcript, TranscriptError};
 use std::alloc::Global;
 
@@ -63,12 +64,17 @@ impl Reader {
             "again" => self.begin_again(entry),
             "ends" => self.set_status(entry),
             "field" => self.add_field(entry),
-            "moment" => self.add_moment(entry),
+            "moment" => self.add_moments(entry),
+            "waits" => self.set_waits(entry),
+            "runner" => self.add_runner_answer(entry),
             ">" => self.add_request("POST", entry),
             ">put" => self.add_request("PUT", entry),
             ">get" => self.add_request("GET", entry),
-            ">reply" => self.add_dialed_reply(entry),
-            "<request" => self.add_dialed_request(entry),
+            ">reply" => self.add_dialed_reply("application/json", entry),
+            ">blob" => self.add_dialed_reply("application/octet-stream", entry),
+            "<request" => self.add_dialed_request("POST", entry),
+            "<put" => self.add_dialed_request("PUT", entry),
+            "<get" => self.add_dialed_request("GET", entry),
             "<" => self.add_reply("application/json", entry),
             "<blob" => self.add_reply("application/octet-stream", entry),
             ">>" => self.add_sent(entry),
@@ -284,9 +290,22 @@ impl Reader {
         Ok(())
     }
 
-    fn add_moment(&mut self, entry: &str) -> Result<(), TranscriptError> {
-        let moment = read_number(self.alloc, self.line, entry)?;
-        self.draft()?.transcript.moments.push(moment)?;
+    fn add_moments(&mut self, entry: &str) -> Result<(), TranscriptError> {
+        let moments = read_numbers(self.alloc, self.line, entry)?;
+        let given = &mut self.draft()?.transcript.moments;
+        given.extend_from_slice(moments.as_slice())?;
+        Ok(())
+    }
+
+    fn set_waits(&mut self, entry: &str) -> Result<(), TranscriptError> {
+        let seconds = read_number(self.alloc, self.line, entry)?;
+        self.draft()?.transcript.waits = Some(seconds);
+        Ok(())
+    }
+
+    fn add_runner_answer(&mut self, entry: &str) -> Result<(), TranscriptError> {
+        let answer = read_runner_answer(self.alloc, self.line, &mut self.names, entry)?;
+        self.draft()?.transcript.runner_answers.push(answer)?;
         Ok(())
     }
 
@@ -295,7 +314,8 @@ impl Reader {
             return Err(self.form_error("MOMENT PATH BODY", entry));
         };
         if moment != "-" {
-            self.add_moment(moment)?;
+            let moment = read_number(self.alloc, self.line, moment)?;
+            self.draft()?.transcript.moments.push(moment)?;
         }
         let (path, body) = target.split_once(' ').unwrap_or((target, ""));
         let path = self.expand(path)?;
@@ -344,14 +364,14 @@ impl Reader {
     }
 
     /// Adds a reply that a dialed link gives.
-    fn add_dialed_reply(&mut self, entry: &str) -> Result<(), TranscriptError> {
-        let bytes = self.read_reply("application/json", entry)?;
+    fn add_dialed_reply(&mut self, content_type: &str, entry: &str) -> Result<(), TranscriptError> {
+        let bytes = self.read_reply(content_type, entry)?;
         self.draft()?.add_request(bytes.as_slice())?;
         Ok(())
     }
 
     /// Adds a request that the program writes to a dialed link.
-    fn add_dialed_request(&mut self, entry: &str) -> Result<(), TranscriptError> {
+    fn add_dialed_request(&mut self, method: &str, entry: &str) -> Result<(), TranscriptError> {
         let line = self.line;
         let (path, body) = entry.split_once(' ').unwrap_or((entry, ""));
         let path = self.expand(path)?;
@@ -361,6 +381,7 @@ impl Reader {
         };
         let bytes = dialed_bytes(
             self.alloc,
+            method,
             path.as_slice(),
             caller.as_str(),
             body.as_slice(),

@@ -1,4 +1,5 @@
 use crate::Conversation;
+use runners::RunnerAnswer;
 use std::alloc::{AllocError, Global};
 
 /// The bytes of a reply, and the line at which it stands.
@@ -53,8 +54,10 @@ pub struct Transcript {
     /// Where the last dialed link's bytes are also cut at each place: the status with which the
     /// program then ends, once it has printed nothing.
     pub cut_status: Option<u8>,
-    /// The seconds at which pools are asked, in order.
+    /// The moments that the clock answers, in seconds and in order.
     pub moments: Vec<u64>,
+    /// How many seconds are waited in all, where that is compared.
+    pub waits: Option<u64>,
     /// The step of the second clock over which it is run, in seconds.
     pub step: Option<u64>,
     pub pieces: Pieces,
@@ -62,6 +65,8 @@ pub struct Transcript {
     pub listen_fails: Vec<u64>,
     pub accept_fails: Vec<u64>,
     pub dial_fails: Vec<u64>,
+    /// What the runner answers to the calls on it, in order.
+    pub runner_answers: Vec<RunnerAnswer>,
     /// The files, no two of which have one path.
     pub files: Vec<File>,
     /// The numbers of the loads of files that fail.
@@ -88,6 +93,7 @@ impl Transcript {
             dials: Vec::new(alloc),
             cut_status: None,
             moments: Vec::new(alloc),
+            waits: None,
             step: None,
             pieces: Pieces {
                 first: 1000,
@@ -96,6 +102,7 @@ impl Transcript {
             listen_fails: Vec::new(alloc),
             accept_fails: Vec::new(alloc),
             dial_fails: Vec::new(alloc),
+            runner_answers: Vec::new(alloc),
             files: Vec::new(alloc),
             file_fails: Vec::new(alloc),
             attach_fails: Vec::new(alloc),

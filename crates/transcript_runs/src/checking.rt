@@ -1,10 +1,14 @@
 use crate::links::{compare_dialed, compare_served, dialer_of, listener_of};
+use dimensions::TryCopy;
+use runners::MemoryRunner;
 use std::alloc::{AllocError, Global};
+use std::collections::VecDeque;
 use sw_base::{Clock, ListClock, MemoryDialer, MemoryFiles, MemoryLink, StepClock};
 use swarm_cli::run;
 use swarm_keeper::MemoryStore;
 use transcript::{
-    Transcript, TranscriptError, compare_console, compare_moments, compare_nothing, compare_status,
+    Transcript, TranscriptError, compare_console, compare_moments, compare_nothing, compare_runner,
+    compare_status, compare_waits,
 };
 
 /// The files of a transcript, for one run.
@@ -28,8 +32,17 @@ fn store_of(alloc: Global, transcript: &Transcript) -> Result<MemoryStore, Alloc
     Ok(MemoryStore::new(alloc, attach_fails, keeper_fails))
 }
 
-/// Runs a transcript over a clock, a store and a dialer, its bytes in pieces of this size, and
-/// answers what it wrote to the console and its status, once the links that came are compared.
+/// The runner of a transcript, for one run.
+fn runner_of(alloc: Global, transcript: &Transcript) -> Result<MemoryRunner, AllocError> {
+    let mut answers = VecDeque::new(alloc);
+    for answer in transcript.runner_answers.iter() {
+        answers.push_back(answer.try_copy(alloc)?)?;
+    }
+    Ok(MemoryRunner::new(alloc, answers))
+}
+
+/// Runs a transcript over a clock, a store, a dialer and a runner, its bytes in pieces of this size,
+/// and answers what it wrote to the console and its status, once the links that came are compared.
 fn run_over<C: Clock>(
     alloc: Global,
     transcript: &Transcript,
@@ -37,6 +50,7 @@ fn run_over<C: Clock>(
     clock: &mut C,
     store: &mut MemoryStore,
     dialer: &mut MemoryDialer,
+    runner: &mut MemoryRunner,
 ) -> Result<(MemoryLink, u8), TranscriptError> {
     let input = Vec::from_slice(alloc, transcript.console.input.as_slice())?;
     let fails = Vec::from_slice(alloc, transcript.console.fails.as_slice())?;
@@ -52,13 +66,14 @@ fn run_over<C: Clock>(
         store,
         &mut listener,
         dialer,
+        runner,
     );
     compare_served(alloc, transcript, &listener)?;
     Ok((link, status))
 }
 
 /// Runs a transcript over a clock and a store, its bytes in pieces of this size, and compares what
-/// was written and the status.
+/// was written, what is left of the runner's answers, and the status.
 fn check_over<C: Clock>(
     alloc: Global,
     transcript: &Transcript,
@@ -67,9 +82,19 @@ fn check_over<C: Clock>(
     store: &mut MemoryStore,
 ) -> Result<(), TranscriptError> {
     let mut dialer = dialer_of(alloc, transcript, piece, None)?;
-    let (link, status) = run_over(alloc, transcript, piece, clock, store, &mut dialer)?;
-    compare_console(alloc, transcript, link.output())?;
+    let mut runner = runner_of(alloc, transcript)?;
+    let (link, status) = run_over(
+        alloc,
+        transcript,
+        piece,
+        clock,
+        store,
+        &mut dialer,
+        &mut runner,
+    )?;
     compare_dialed(alloc, transcript, &dialer)?;
+    compare_console(alloc, transcript, link.output())?;
+    compare_runner(transcript, runner.answers_left())?;
     compare_status(transcript, transcript.status, status)
 }
 
@@ -88,7 +113,16 @@ fn check_cut(
         waited: 0,
     };
     let mut dialer = dialer_of(alloc, transcript, most.max(1), Some(most))?;
-    let (link, status) = run_over(alloc, transcript, 1000, &mut clock, store, &mut dialer)?;
+    let mut runner = runner_of(alloc, transcript)?;
+    let (link, status) = run_over(
+        alloc,
+        transcript,
+        1000,
+        &mut clock,
+        store,
+        &mut dialer,
+        &mut runner,
+    )?;
     compare_nothing(alloc, transcript, link.output())?;
     compare_status(transcript, wanted, status)
 }
@@ -109,7 +143,7 @@ fn check_cuts(
 }
 
 /// Runs transcripts one after the other over one store and their moments, each of which has to be
-/// asked for.
+/// asked for, and compares the seconds that they wait.
 fn check_moments(
     alloc: Global,
     runs: &[Transcript],
@@ -124,6 +158,7 @@ fn check_moments(
         };
         check_over(alloc, transcript, piece, &mut clock, store)?;
         compare_moments(transcript, clock.asked)?;
+        compare_waits(transcript, clock.waited)?;
     }
     Ok(())
 }
@@ -170,8 +205,8 @@ fn check_sizes(
 ///
 /// # Errors
 ///
-/// The first run that writes other bytes, ends with another status or asks for more moments or for
-/// fewer, and want of memory.
+/// The first run that writes other bytes, ends with another status, leaves answers of its runner,
+/// or asks for more moments or waits for more seconds or for fewer, and want of memory.
 pub fn check(alloc: Global, runs: &[Transcript]) -> Result<(), TranscriptError> {
     match runs.first() {
         Some(first) => check_sizes(alloc, first, runs),

@@ -1,8 +1,8 @@
 //! Runs of transcripts: [`check`] runs the program over the connections of one transcript and holds
 //! what it answered against it, and [`run_folder`] does so for every transcript of a folder.
 //!
-//! A run is `run` of `swarm_cli`, over a console, files, a store, a listener and a dialer in memory
-//! and a clock that answers the transcript's moments. The store is that of the transcript: a run
+//! A run is `run` of `swarm_cli`, over a console, files, a store, a listener, a dialer and a runner in
+//! memory and a clock that answers the transcript's moments. The store is that of the transcript: a run
 //! behind `again` finds what the run before it left there.
 #![tactic(auto)]
 

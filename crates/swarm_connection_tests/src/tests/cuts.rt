@@ -1,6 +1,8 @@
 //! An input that ends within a request.
 
 use crate::tests::NEW_TASK;
+use runners::MemoryRunner;
+use std::collections::VecDeque;
 use std::test::Fail;
 use sw_base::{MemoryDialer, MemoryFiles, MemoryLink, MemoryListener, StepClock};
 use swarm_cli::run;
@@ -22,6 +24,7 @@ fn an_input_that_is_cut_anywhere(rt: HostRuntime) -> Result<(), Fail> {
         let mut store = MemoryStore::new(alloc, Vec::new(alloc), Vec::new(alloc));
         let mut listener = MemoryListener::new(alloc, Vec::new(alloc));
         let mut dialer = MemoryDialer::new(alloc, Vec::new(alloc));
+        let mut runner = MemoryRunner::new(alloc, VecDeque::new(alloc));
         let status = run(
             alloc,
             &words,
@@ -31,6 +34,7 @@ fn an_input_that_is_cut_anywhere(rt: HostRuntime) -> Result<(), Fail> {
             &mut store,
             &mut listener,
             &mut dialer,
+            &mut runner,
         );
         assert_eq!(rt; status, 7);
         assert_eq!(rt; link.output().len(), 0);

@@ -2,7 +2,9 @@
 
 use crate::tests::NEW_TASK;
 use dimensions::Text;
+use runners::MemoryRunner;
 use std::alloc::{AllocError, Global};
+use std::collections::VecDeque;
 use std::test::Fail;
 use sw_base::{MemoryDialer, MemoryFiles, MemoryLink, MemoryListener, StepClock};
 use swarm_cli::run;
@@ -39,6 +41,7 @@ fn run_over(
     };
     let mut listener = MemoryListener::new(alloc, Vec::new(alloc));
     let mut dialer = MemoryDialer::new(alloc, Vec::new(alloc));
+    let mut runner = MemoryRunner::new(alloc, VecDeque::new(alloc));
     let status = run(
         alloc,
         &words,
@@ -48,6 +51,7 @@ fn run_over(
         store,
         &mut listener,
         &mut dialer,
+        &mut runner,
     );
     Ok((status, Vec::from_slice(alloc, link.output())?))
 }

@@ -3,7 +3,9 @@
 ghost use Rattle.std.specs.Prelude.{◌≤◌, length, None};
 
 use crate::tests::NEW_TASK;
+use runners::MemoryRunner;
 use std::alloc::{AllocError, Global};
+use std::collections::VecDeque;
 use std::test::Fail;
 use sw_base::{Failed, Link, MemoryDialer, MemoryFiles, MemoryListener, StepClock};
 use swarm_cli::run;
@@ -102,6 +104,7 @@ fn a_client_that_waits_for_each_reply(rt: HostRuntime) -> Result<(), Fail> {
     let words = vec![in alloc; String::from_str(alloc, "session")?]?;
     let mut listener = MemoryListener::new(alloc, Vec::new(alloc));
     let mut dialer = MemoryDialer::new(alloc, Vec::new(alloc));
+    let mut runner = MemoryRunner::new(alloc, VecDeque::new(alloc));
     let status = run(
         alloc,
         &words,
@@ -111,6 +114,7 @@ fn a_client_that_waits_for_each_reply(rt: HostRuntime) -> Result<(), Fail> {
         &mut store,
         &mut listener,
         &mut dialer,
+        &mut runner,
     );
     assert_eq!(rt; status, 0);
     assert_eq!(rt; link.answered(), 3);

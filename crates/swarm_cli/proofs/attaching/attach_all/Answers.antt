@@ -1,8 +1,6 @@
-use Rattle.std.proofs.Common.{◌≡◌, ℕ, List, map, sum_by, take, length, arith, ap, sym, subst}
+use Rattle.std.proofs.Common.{◌≡◌, ℕ, map, sum_by, take, length, arith, ap, subst}
 use Rattle.std.specs.List.{AllByRecursion}
 use Rattle.swarm_keeper.specs.Stores.{HasPlace}
-use Rattle.swarm_model.specs.declared.pool_settings.PoolSettings.{PoolSettings}
-use Rattle.swarm_cli.specs.Attaching.{DetachesAll}
 use Rattle.swarm_cli.proofs.Names.{own_names-take}
 use Rattle.swarm_cli.proofs.Attached.{places_stay, attached_none, attached_next, held_more}
 use Rattle.swarm_cli.proofs.attaching.attach_all.Goals as goal

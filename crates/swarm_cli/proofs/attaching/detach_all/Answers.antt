@@ -1,9 +1,6 @@
-use Rattle.std.proofs.Common.{◌≡◌, ◌+◌, ◌∷◌, ◌∙◌, sym, suc, drop, arith, add-one, map, sum_by, take, length, subst}
-use Rattle.std.proofs.lemmas.List.{take_all}
+use Rattle.std.proofs.Common.{◌∙◌, sym, arith, add-one}
 use Rattle.std.specs.Vec.Iter.{into_iter_items}
-use Rattle.swarm_model.specs.declared.pool_settings.PoolSettings.{PoolSettings}
-use Rattle.swarm_cli.specs.Attaching.{DetachesAll}
-use Rattle.swarm_cli.proofs.Attached.{drop_step, detached_next, place_at, detaches-none}
+use Rattle.swarm_cli.proofs.Attached.{drop_step, detached_next}
 use Rattle.swarm_cli.proofs.attaching.detach_all.Goals as goal
 
 pub pools-preserved : goal.pools-preserved

@@ -13,7 +13,7 @@ returns-in-Ok g c = λ rest. rw (← c.as_str.ensures.value, ← c.as_str-caller
   host_is = c.as_str-host.ensures.value;
   caller_is = refl;
   done = c.cancel.ensures rest.waited;
-}) (record { store = refl; listener = refl }))
+}) (record { store = refl; listener = refl; runner = refl }))
 
 pub returns-in-Err : goal.returns-in-Err
 returns-in-Err g c = λ rest. rw (← c.as_str.ensures.value, ← c.as_str-caller.ensures.value, ← c.as_str-id.ensures.value)

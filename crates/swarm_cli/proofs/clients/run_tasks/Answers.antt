@@ -20,7 +20,7 @@ returns-in-Ok g c = λ rest. rw (← c.as_str.ensures.value, ← c.as_str-caller
       (world (g.W.Dialer.state c.args.dialer.now) (g.L.Link.state c.args.console.now) rest.waited)
       (world (g.W.Dialer.state c.list_tasks.new.dialer) (g.L.Link.state c.list_tasks.new.console) rest.waited) c.list_tasks.result)
       c.in-Ok.ensures.wanted (c.list_tasks.ensures rest.waited);
-}) (record { store = refl; listener = refl }))
+}) (record { store = refl; listener = refl; runner = refl }))
 
 pub returns-in-Err : goal.returns-in-Err
 returns-in-Err g c = λ rest. rw (← c.as_str.ensures.value, ← c.as_str-caller.ensures.value, ← c.as_str-2.ensures.value)

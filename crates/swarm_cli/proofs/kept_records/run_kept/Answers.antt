@@ -1,4 +1,4 @@
-use Rattle.std.proofs.Common.{◌≡◌, map, sum_by}
+use Rattle.std.proofs.Common.{map, sum_by}
 use Rattle.swarm_cli.specs.Handling.{deed_of}
 use Rattle.swarm_cli.proofs.KeptSessions.{not_attached, kept_over}
 use Rattle.swarm_cli.proofs.kept_records.run_kept.Goals as goal

@@ -1,4 +1,4 @@
-use Rattle.std.proofs.Common.{◌≡◌, ◌∙◌, map, length, ap, sym}
+use Rattle.std.proofs.Common.{◌∙◌, map, length, ap, sym}
 use Rattle.std.specs.Prelude.{sum_by}
 use Rattle.swarm_model.specs.declared.pool_settings.Settings.{Settings}
 use Rattle.swarm_cli.specs.KeptRecords.{with_door, without_door}

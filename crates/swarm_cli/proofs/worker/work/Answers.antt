@@ -1,5 +1,4 @@
-use Rattle.std.proofs.Common.{arith}
-use Rattle.swarm_cli.proofs.Working.{begun, one_more, lacked_memory, no_more, failed, all_served}
+use Rattle.swarm_cli.proofs.Working.{begun, one_more, lacked_memory}
 use Rattle.swarm_cli.proofs.worker.work.Goals as goal
 
 pub links-init : goal.links-init

@@ -1,5 +1,5 @@
 use Rattle.std.proofs.Common.{rules}
-use Rattle.swarm_client.specs.declared.exchanged.Exchanged.TheVariants as answer
+use Rattle.server_calls.specs.declared.exchanged.Exchanged.TheVariants as answer
 use Rattle.swarm_client.specs.Plans.{after, lacks_memory, ends}
 use Rattle.swarm_client.proofs.Following.{exchanged, exchanges_of}
 use Rattle.swarm_client.proofs.asking.ask.Goals as goal

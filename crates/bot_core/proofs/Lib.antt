@@ -1,0 +1,9 @@
+pub mod StateBounds
+pub mod OutputLemmas
+pub mod StartLemmas
+pub mod RowParts
+pub mod Rows
+pub mod SignalLemmas
+pub mod OpenRunLemmas
+pub mod RepeatLemmas
+pub mod IdLemmas

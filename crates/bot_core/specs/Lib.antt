@@ -1,0 +1,11 @@
+pub mod RunChanges
+pub mod Table
+pub mod Bounds
+pub mod States
+pub mod Output
+pub mod Starts
+pub mod Signals
+pub mod OpenRuns
+pub mod Repeats
+pub mod Ids
+pub mod Examples

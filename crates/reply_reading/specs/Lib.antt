@@ -1,9 +1,0 @@
-pub mod Members
-pub mod Places
-pub mod Refusals
-pub mod Tasks
-pub mod Pages
-pub mod Bots
-pub mod Commands
-pub mod Blobs
-pub mod Reading

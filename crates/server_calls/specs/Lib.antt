@@ -1,0 +1,10 @@
+pub mod Members
+pub mod Places
+pub mod Refusals
+pub mod Tasks
+pub mod Pages
+pub mod Bots
+pub mod Commands
+pub mod Blobs
+pub mod Reading
+pub mod Exchanges

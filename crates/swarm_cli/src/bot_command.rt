@@ -1,0 +1,222 @@
+//! The command of a bot.
+ghost use Rattle.std.specs.Prelude.{◌≡◌, ◌∷◌, [], None, Some, IfOk, codes, string_bytes};
+ghost use Rattle.std.specs.List.{list_all};
+ghost use Rattle.dimensions.specs.Rules.{is_key_byte};
+ghost use Rattle.swarm_model.specs.Fits.{is_name as spec_is_name};
+ghost use Rattle.server_address.specs.Addresses.{address_of};
+ghost use Rattle.bot_dimensions.specs.Pairs.{fitting_pairs};
+ghost use Rattle.command_words.specs.Commands.{BotOptions, options_of};
+ghost use Rattle.swarm_cli.specs.Clients.{Fits, first_unfit};
+ghost use Rattle.swarm_cli.specs.BotCommands.{IsNewBot, RunsBotCommand, bot_side, bot_tests, dimensions_test, limits_of, name_test, stop_line as spec_stop_line, stop_status as spec_stop_status, why_word as spec_why_word};
+ghost use Rattle.swarm_cli.specs.Outside.{PrintsMade};
+ghost use Rattle.swarm_cli.specs.Surroundings.{Surroundings};
+
+use crate::misfit::Misfit;
+use crate::options::{server_of, tell_misfit};
+use bot_core::{BotLimits, StopWhy};
+use bot_dimensions::{PairsFault, read_pairs};
+use bot_requests::Hands;
+use bot_turns::{Stopped, run_bot};
+use command_words::Bot;
+use dimensions::{Seq, Text};
+use link_writer::print;
+use named_caches::CacheTable;
+use runners::Runner;
+use server_address::ServerAddress;
+use std::alloc::{AllocError, Global};
+use sw_base::{Dialer, StartFault};
+use swarm_http::{Clock, Link};
+
+fn is_name_byte(byte: u8) -> bool
+    ensures { result ≡ is_key_byte byte }
+{
+    byte.is_ascii_alphanumeric() || byte == b'-' || byte == b'_' || byte == b'.'
+}
+
+fn has_name_bytes(name: &str) -> bool
+    ensures { result ≡ list_all is_key_byte name.now }
+{
+    name.as_bytes().iter().all(|byte| is_name_byte(*byte))
+}
+
+/// Whether a bot may have this name: 1 to 64 ASCII letters, digits, `-`, `_` and `.`.
+fn is_name(name: &str) -> bool
+    ensures { result ≡ spec_is_name name.now }
+{
+    1 <= name.len() && name.len() <= 64 && has_name_bytes(name)
+}
+
+fn pairs_of(alloc: Global, words: &Bot) -> Result<Seq<(Text, Text)>, Misfit>
+    ensures pairs { IfOk result (λ pairs. fitting_pairs (options_of words.now).id (options_of words.now).pool (options_of words.now).dimensions ≡ Some pairs) }
+    ensures fits { Fits (dimensions_test (options_of words.now) ∷ []) result }
+{
+    match read_pairs(
+        alloc,
+        words.id.as_str(),
+        words.pool.as_str(),
+        words.dimensions.as_str(),
+    ) {
+        Ok(pairs) => Ok(pairs),
+        Err(PairsFault::Memory) => Err(Misfit::Memory),
+        Err(PairsFault::Grammar) => Err(Misfit::Dimensions),
+    }
+}
+
+fn named_pairs(alloc: Global, words: &Bot) -> Result<Seq<(Text, Text)>, Misfit>
+    ensures pairs { IfOk result (λ pairs. fitting_pairs (options_of words.now).id (options_of words.now).pool (options_of words.now).dimensions ≡ Some pairs) }
+    ensures fits { Fits (name_test (options_of words.now).id ∷ dimensions_test (options_of words.now) ∷ []) result }
+{
+    if is_name(words.id.as_str()) {
+        pairs_of(alloc, words)
+    } else {
+        Err(Misfit::Id)
+    }
+}
+
+/// The address of the server and the pairs of the dimensions, where all options are in their
+/// grammars.
+fn server_and_pairs(
+    alloc: Global,
+    words: &Bot,
+) -> Result<(ServerAddress, Seq<(Text, Text)>), Misfit>
+    ensures address { IfOk result (λ a. address_of (options_of words.now).server ≡ Some (string_bytes a.0.dial, string_bytes a.0.host)) }
+    ensures pairs { IfOk result (λ a. fitting_pairs (options_of words.now).id (options_of words.now).pool (options_of words.now).dimensions ≡ Some a.1) }
+    ensures fits { Fits (bot_tests (options_of words.now)) result }
+{
+    match server_of(alloc, words.server.as_str(), words.caller.as_str()) {
+        Ok(address) => match named_pairs(alloc, words) {
+            Ok(pairs) => Ok((address, pairs)),
+            Err(why) => Err(why),
+        },
+        Err(why) => Err(why),
+    }
+}
+
+/// What the bot works with at its start.
+fn new_hands(
+    alloc: Global,
+    words: &Bot,
+    server: ServerAddress,
+    pairs: Seq<(Text, Text)>,
+) -> Result<Hands, AllocError>
+    ensures { IfOk result (λ hands. address_of (options_of words.now).server ≡ Some (string_bytes server.dial, string_bytes server.host) →
+        fitting_pairs (options_of words.now).id (options_of words.now).pool (options_of words.now).dimensions ≡ Some pairs → IsNewBot (options_of words.now) hands) }
+{
+    Ok(Hands {
+        address: Text::from_string(server.dial),
+        host: Text::from_string(server.host),
+        caller: Text::from_str(alloc, words.caller.as_str())?,
+        id: Text::from_str(alloc, words.id.as_str())?,
+        pool: Text::from_str(alloc, words.pool.as_str())?,
+        dims: pairs,
+        caches: CacheTable::new(alloc, words.caches, words.cache_bytes)?,
+        run: None,
+        pending: Vec::new(alloc),
+        files: Seq::new(alloc),
+    })
+}
+
+fn limits(words: &Bot) -> BotLimits
+    ensures { result ≡ limits_of (options_of words.now) }
+{
+    BotLimits {
+        tasks: words.tasks,
+        polls: words.polls,
+        steps: words.steps,
+    }
+}
+
+fn why_word(why: StopWhy) -> &'static str
+    ensures { result.now ≡ spec_why_word why }
+{
+    match why {
+        StopWhy::Terminated => "terminated",
+        StopWhy::Tasks => "tasks",
+        StopWhy::Polls => "polls",
+        StopWhy::Steps => "steps",
+        StopWhy::Refused => "refused",
+    }
+}
+
+fn stop_status(why: StopWhy) -> u8
+    ensures { result ≡ spec_stop_status why }
+{
+    match why {
+        StopWhy::Terminated | StopWhy::Tasks => 0,
+        StopWhy::Polls | StopWhy::Steps => 8,
+        StopWhy::Refused => 6,
+    }
+}
+
+#[tactic(auto, unfolding(crate::specs::BotCommands::stop_line))]
+fn stop_line(alloc: Global, stopped: &Stopped) -> Result<String, AllocError>
+    ensures { IfOk result (λ line. string_bytes line ≡ spec_stop_line stopped.now) }
+{
+    let why = why_word(stopped.why);
+    let tasks = stopped.tasks;
+    format!(in alloc; "bot {why} tasks {tasks}\n")
+}
+
+/// Prints why the bot stopped, and after how many tasks.
+fn print_stop<L: Link>(alloc: Global, console: &mut L, stopped: &Stopped) -> u8
+    ensures { PrintsMade (spec_stop_line stopped.now) (spec_stop_status stopped.now.why) (L.state console.old) (L.state console.new) result }
+{
+    match stop_line(alloc, stopped) {
+        Ok(line) => print(console, line.as_bytes(), stop_status(stopped.why)),
+        Err(_) => 5,
+    }
+}
+
+/// Opens the folder of the bot, and lets the bot act until it stops.
+fn run_hands<L: Link, C: Clock, W: Dialer, R: Runner>(
+    alloc: Global,
+    limits: BotLimits,
+    hands: &mut Hands,
+    console: &mut L,
+    clock: &mut C,
+    dialer: &mut W,
+    runner: &mut R,
+) -> u8
+    ensures { (rest : Surroundings) (o : BotOptions) → first_unfit (bot_tests o) ≡ None → limits ≡ limits_of o → IsNewBot o hands.old → RunsBotCommand o
+        (bot_side rest (L.state console.old) (C.ahead clock.old) (W.state dialer.old) (C.waited clock.old) (R.state runner.old))
+        (bot_side rest (L.state console.new) (C.ahead clock.new) (W.state dialer.new) (C.waited clock.new) (R.state runner.new)) result }
+{
+    match runner.open(&hands.id) {
+        Ok(()) => match run_bot(alloc, hands, clock, dialer, runner, limits) {
+            Ok(stopped) => print_stop(alloc, console, &stopped),
+            Err(_) => 5,
+        },
+        Err(StartFault::Memory) => 5,
+        Err(StartFault::Failed) => 4,
+    }
+}
+
+/// Runs a bot.
+pub(crate) fn run_bot_command<L: Link, C: Clock, W: Dialer, R: Runner>(
+    alloc: Global,
+    words: &Bot,
+    console: &mut L,
+    clock: &mut C,
+    dialer: &mut W,
+    runner: &mut R,
+) -> u8
+    ensures { (rest : Surroundings) → RunsBotCommand (options_of words.now)
+        (bot_side rest (L.state console.old) (C.ahead clock.old) (W.state dialer.old) (C.waited clock.old) (R.state runner.old))
+        (bot_side rest (L.state console.new) (C.ahead clock.new) (W.state dialer.new) (C.waited clock.new) (R.state runner.new)) result }
+{
+    match server_and_pairs(alloc, words) {
+        Ok((server, pairs)) => match new_hands(alloc, words, server, pairs) {
+            Ok(mut hands) => run_hands(
+                alloc,
+                limits(words),
+                &mut hands,
+                console,
+                clock,
+                dialer,
+                runner,
+            ),
+            Err(_) => 5,
+        },
+        Err(why) => tell_misfit(alloc, console, why),
+    }
+}
