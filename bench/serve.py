@@ -1,7 +1,7 @@
 #!/usr/bin/env python3
 """Figures of `swarm serve` beside Debian's nginx: requests per second, and how long a reply takes.
 
-Usage: bench/serve.py [--rounds N] [--seconds N] [--write] [--calls] [PROGRAM]
+Usage: bench/serve.py [--rounds N] [--seconds N] [--write] [--calls] [--profile] [PROGRAM]
 
 nginx answers a constant whose body has the size of the reply that it is compared with, by one process.
 Each server has a processor for itself, and who asks has the others. Both are asked in turn, in each of
@@ -16,7 +16,9 @@ second, and the shortest times within which half and 99 in a hundred of the repl
   request is in all its figures).
 
 --write puts the table into docs/performance.md. --calls counts the system calls of a server for each
-request, by strace, in place of all this. It needs the packages nginx and wrk, or strace.
+request, by strace, in place of all this. --profile tells in what share of its time the server does
+what, by perf, in place of all this; with --write that goes into docs/performance.md too. It needs the
+packages nginx and wrk, or strace, or linux-perf.
 
 The program is built by the first `./swarm session`.
 """
@@ -38,6 +40,7 @@ from session import COUNT, HERE, NEW_TASK, request
 HOST = "127.0.0.1"
 PAGE = os.path.join(HERE, "docs", "performance.md")
 BEGIN, END = "<!-- The table that bench/serve.py writes -->", "<!-- The end of the table -->"
+PROFILE, PROFILE_END = "<!-- The profile that bench/serve.py writes -->", "<!-- The end of the profile -->"
 PIPELINED = 16
 CLIENTS = 16
 TASKS = 1000
@@ -275,10 +278,71 @@ def count_calls(bench, folder):
             print(f"{name}, {kind}: {sum(counts.values()):.2f} system calls a request: {listed}", flush=True)
 
 
-def write_table(table):
+# What the functions of a server belong to: the first that fits, by the library and the name of the function.
+SHARES = (
+    ("the kernel", re.compile(r"^\[k\]")),
+    ("memory taken and given back", re.compile(r"malloc|free\b|realloc|rattle_alloc|unlink_chunk|calloc")),
+    ("bytes moved and zeroed", re.compile(r"memmove|memset|memcpy|memcmp")),
+    ("JSON", re.compile(r"serde_json|\bjson|reply_bodies|_bodies::|swarm_wire|btree")),
+    ("heads and routes", re.compile(r"httparse|head|matchit|routes|link_reader|link_writer|swarm_http|http::|memchr|itoa")),
+    ("dimensions", re.compile(r"\bdimensions::")),
+    ("the pool", re.compile(r"swarm_machine|swarm_rules|pool_index|dim_queue|task_rows|bot_registry|row_changes|pool_queries|pool_changes|content_store|region::")),
+    ("checks and copies of a task", re.compile(r"task_checks|task_props|swarm_model")),
+    ("SHA-256", re.compile(r"sha2")),
+)
+PROFILED = 3
+
+
+def profile(bench, folder):
+    """For each kind of request the share of the server's time of each kind of function, by perf."""
+    columns = {}
+    for name in ("CountTasks", f"CountTasks, {PIPELINED} in one write", *AMONG):
+        counts, path = {}, os.path.join(folder, "perf.data")
+        end = time.monotonic() + PROFILED
+        while time.monotonic() < end:
+            server = bench.swarm()
+            with socket.create_connection((HOST, server.port), 20) as link:
+                link.setsockopt(socket.IPPROTO_TCP, socket.TCP_NODELAY, 1)
+                bench.ask(link, [handshake(bot) for bot in BOTS])
+                for call, (requests, _) in AMONG.items():
+                    if call == name:
+                        break
+                    if name in AMONG:
+                        bench.ask(link, requests)
+                words = ["perf", "record", "-q", "-F", "4999", "-o", path, "-p", str(server.process.pid)]
+                tracer = subprocess.Popen(words, stdout=subprocess.DEVNULL, stderr=subprocess.DEVNULL)
+                time.sleep(0.5)
+                if name in AMONG:
+                    bench.ask(link, AMONG[name][0])
+                elif name == "CountTasks":
+                    bench.ask(link, [ONE] * 20000)
+                else:
+                    for _ in range(2000):
+                        link.sendall(ONE * PIPELINED)
+                        left = PIPELINED
+                        while left:
+                            left -= link.recv(65536).count(b"HTTP/1.1 200 ")
+                tracer.send_signal(signal.SIGINT)
+                tracer.wait(20)
+            server.end()
+            words = ["perf", "script", "-i", path, "-F", "ip,sym,dso"]
+            shown_lines = subprocess.run(words, capture_output=True, text=True, check=False).stdout.splitlines()
+            for line in shown_lines:
+                at = "[k] " if "[kernel" in line or "([guest" in line else ""
+                kind = next((it for it, test in SHARES if test.search(at + line)), "all else")
+                counts[kind] = counts.get(kind, 0) + 1
+        columns[name] = counts
+    rows = ["| What | " + " | ".join(columns) + " |", "|---|" + "---|" * len(columns)]
+    for kind in [*(it for it, _ in SHARES), "all else"]:
+        cells = [f"{100 * counts.get(kind, 0) / max(1, sum(counts.values())):.0f} %" for counts in columns.values()]
+        rows.append("| " + " | ".join([kind, *cells]) + " |")
+    return "\n".join(rows) + "\n"
+
+
+def write_table(table, begin_mark=BEGIN, end_mark=END):
     with open(PAGE, encoding="utf-8") as it:
-        front, begin, rest = it.read().partition(BEGIN + "\n")
-    _, end, back = rest.partition(END)
+        front, begin, rest = it.read().partition(begin_mark + "\n")
+    _, end, back = rest.partition(end_mark)
     if not begin or not end:
         sys.exit(f"{PAGE} has no place for the table")
     with open(PAGE, "w", encoding="utf-8") as it:
@@ -286,22 +350,28 @@ def write_table(table):
 
 
 def main():
-    parser = argparse.ArgumentParser(usage="bench/serve.py [--rounds N] [--seconds N] [--write] [--calls] [PROGRAM]")
+    parser = argparse.ArgumentParser(usage="bench/serve.py [--rounds N] [--seconds N] [--write] [--calls] [--profile] [PROGRAM]")
     parser.add_argument("--rounds", type=int, default=5, metavar="N")
     parser.add_argument("--seconds", type=int, default=3, metavar="N")
     parser.add_argument("--write", action="store_true")
     parser.add_argument("--calls", action="store_true")
+    parser.add_argument("--profile", action="store_true")
     parser.add_argument("program", nargs="?", default=os.path.join(HERE, "crates/swarm/out/swarm"))
     words = parser.parse_args()
     if not os.access(words.program, os.X_OK):
         sys.exit("%s is not there: build it by ./swarm session" % words.program)
-    for it in ("nginx", "strace" if words.calls else "wrk"):
+    for it in ["perf"] if words.profile else ["nginx", "strace" if words.calls else "wrk"]:
         shutil.which(it) or sys.exit(f"{it} isn't installed")
     with tempfile.TemporaryDirectory() as folder:
         os.chmod(folder, 0o755)
         bench = Bench(words, folder)
         if words.calls:
             return count_calls(bench, folder)
+        if words.profile:
+            os.sched_setaffinity(0, bench.of_client)
+            table = profile(bench, folder)
+            print(table, end="")
+            return write_table(table, PROFILE, PROFILE_END) if words.write else None
         bench.run()
         print(bench.table(), end="")
         if words.write:

@@ -28,7 +28,7 @@ pub record IsRepeated (s t u : BotState) : Type 0 where
   pub sleeps : action_of t ≡ action.Sleep 5
   pub again : (action_of u ≡ action_of s) ⊎ StopsAtLimit s (action_of u)
 
--- of every state, over the two events: the loss, or a refusal for now, and the end of the sleep
+-- of every state, over the two events: the loss, or a refusal since the log is full (26), its keeper failed (28) or memory is short (29); and the end of the sleep
 abbrev pub RepeatsRequests : Type 0
 RepeatsRequests =
     (s t u : BotState) (e : BotEvent) (m n : ℕ) → is_request (action_of s) ≡ true → is_transient e ≡ true →

@@ -1,3 +1,8 @@
 mod RowEffects
 mod Folding
 mod Named
+mod Next
+pub mod Alike
+pub mod Counting
+mod Demands
+mod Recounting

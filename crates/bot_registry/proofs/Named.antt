@@ -5,7 +5,6 @@ use Rattle.std.specs.Prelude.{cond}
 use Rattle.std.specs.declared.cmp.Ordering.TheVariants.{Less, Equal, Greater}
 use Rattle.std.specs.List.{insert, AllPairs, Contains}
 use Rattle.std.specs.List.Sorted.{IsSortedBy, IsPartitionPoint, IsNonDecreasingBy}
-use Rattle.std.specs.Option.{option_map}
 use Rattle.std.specs.Ordering.{is_lt, is_eq, ordering_index, ordering_reverse}
 use Rattle.std.specs.Cmp.Lexicographic.{nat_list_cmp_total, texts_ties, bytes_decides}
 use Rattle.std.proofs.lemmas.Bool.{cases_lt}
@@ -19,7 +18,9 @@ use Rattle.dimensions.specs.Order.{text_cmp}
 use Rattle.swarm_model.specs.declared.bot_row.BotRow.{BotRow}
 use Rattle.swarm_model.specs.Numbers.{AreNumbered}
 use Rattle.swarm_model.specs.Effects.{no_of_bot}
-use Rattle.bot_registry.specs.Acting.{row_named}
+use Rattle.row_changes.specs.Rows.{StandsAt}
+use Rattle.row_changes.proofs.Numbered.{found}
+use Rattle.bot_registry.specs.Acting.{row_of, row_named}
 use Rattle.bot_registry.specs.Names.{name_of, name_at, is_name_below, AreByName}
 
 -- ---- texts
@@ -45,14 +46,27 @@ find_none key (row ∷ rows) none =
     ap (λ (t : Bool). cond t (Some row) (row_named rows key)) (other_text row.name key (none 0 (omega arith)))
     ∙ find_none key rows (λ k low. none (suc k) (omega arith))
 
-find_first : (key : List ℕ) (rows : List BotRow) (k : ℕ) → k < length rows → get_or (map name_of rows) k [] ≡ key → AllPairs (λ a b. a ≢ b) (map name_of rows) →
-    option_map no_of_bot (row_named rows key) ≡ Some (get_or (map no_of_bot rows) k 0)
-find_first key [] k low is apart = absurd (omega arith)
-find_first key (row ∷ rows) zero low is apart = ap (λ (t : Bool). option_map no_of_bot (cond t (Some row) (row_named rows key))) (same_text row.name key is)
-find_first key (row ∷ rows) (suc k) low is apart =
-    let other : row.name ≢ key = λ e. apart 0 (suc k) [] (omega arith) (omega (arith, length-map rows name_of)) (e ∙ sym is) in
-    ap (λ (t : Bool). option_map no_of_bot (cond t (Some row) (row_named rows key))) (other_text row.name key other)
-    ∙ find_first key rows k (omega arith) is (λ i j e less under. apart (suc i) (suc j) e (omega arith) (omega arith))
+-- the row at a place, and its name
+pub row_there : (rows : List BotRow) (k : ℕ) → k < length rows → (row : BotRow) × (row ≡ get_or rows k row)
+row_there [] k low = absurd (omega arith)
+row_there (row ∷ rows) zero low = (row, refl)
+row_there (row ∷ rows) (suc k) low = row_there rows k (omega arith)
+
+pub name_there : (rows : List BotRow) (k : ℕ) (row : BotRow) → k < length rows → row ≡ get_or rows k row → get_or (map name_of rows) k [] ≡ row.name
+name_there [] k row low is = absurd (omega arith)
+name_there (first ∷ rows) zero row low is = ap name_of (sym is)
+name_there (first ∷ rows) (suc k) row low is = name_there rows k row (omega arith) is
+
+find_first : (key : List ℕ) (rows : List BotRow) (k : ℕ) (row : BotRow) → k < length rows → row ≡ get_or rows k row → row.name ≡ key → AllPairs (λ a b. a ≢ b) (map name_of rows) →
+    row_named rows key ≡ Some row
+find_first key [] k row low is name apart = absurd (omega arith)
+find_first key (first ∷ rows) zero row low is name apart =
+    ap (λ (t : Bool). cond t (Some first) (row_named rows key)) (same_text first.name key (ap name_of (sym is) ∙ name)) ∙ ap (λ (bot : BotRow). Some bot) (sym is)
+find_first key (first ∷ rows) (suc k) row low is name apart =
+    let under : k < length rows = omega arith in
+    let other : first.name ≢ key = λ e. apart 0 (suc k) [] (omega arith) (omega (arith, low, length-map rows name_of)) (e ∙ sym name ∙ sym (name_there rows k row under is)) in
+    ap (λ (t : Bool). cond t (Some first) (row_named rows key)) (other_text first.name key other)
+    ∙ find_first key rows k row under is name (λ i j e less below. apart (suc i) (suc j) e (omega arith) (omega arith))
 
 none_named : (key : List ℕ) (rows : List BotRow) → row_named rows key ≡ None → (k : ℕ) → k < length rows → get_or (map name_of rows) k [] ≢ key
 none_named key [] none k low is = absurd (omega arith)
@@ -72,7 +86,7 @@ number_at n [] k d numbered low = absurd (omega arith)
 number_at n (row ∷ rows) zero d numbered low = omega (arith, numbered.0)
 number_at n (row ∷ rows) (suc k) d numbered low = omega (arith, number_at (n + 1) rows k d numbered.1 (omega arith))
 
-name_place : (names : List (List ℕ)) (k : ℕ) → name_at names (1 + k) ≡ get_or names k []
+pub name_place : (names : List (List ℕ)) (k : ℕ) → name_at names (1 + k) ≡ get_or names k []
 name_place names k = let e : 1 + k - 1 ≡ k = omega arith in ap (λ (j : ℕ). get_or names j []) e
 
 less_not : (a b : List ℕ) → text_cmp a b ≡ Less → is_lt (text_cmp b a) ≡ false
@@ -91,20 +105,33 @@ module _ (rows : List BotRow) (sorted : List ℕ) (numbered : AreNumbered no_of_
       (there.0, under, sym there.2 ∙ number_at 1 rows there.0 n numbered under)
 
   -- the number of each row is among the sorted ones
-  sought : (k : ℕ) → k < length rows → Contains sorted (1 + k)
+  pub sought : (k : ℕ) → k < length rows → Contains sorted (1 + k)
   sought k low =
       Contains-permutation (map no_of_bot rows) sorted (1 + k) named.all
       (k, omega (arith, low, length-map rows no_of_bot), number_at 1 rows k (1 + k) numbered low)
 
-  rising : (key : List ℕ) → IsNonDecreasingBy (λ n. ordering_index (text_cmp (name_at (map name_of rows) n) key)) sorted
+  pub rising : (key : List ℕ) → IsNonDecreasingBy (λ n. ordering_index (text_cmp (name_at (map name_of rows) n) key)) sorted
   rising key = searchable_from_sorted nat_list_cmp_total (name_at (map name_of rows)) sorted key named.order
 
-  pub found_named : (key : List ℕ) (i : ℕ) → i < length sorted → text_cmp (name_at (map name_of rows) (get_or sorted i 0)) key ≡ Equal →
-      Some (get_or sorted i 0) ≡ option_map no_of_bot (row_named rows key)
-  found_named key i low equal =
+  -- the row of a number among the sorted ones
+  pub row_at : (i : ℕ) → i < length sorted → (k : ℕ) × (row : BotRow) × (k < length rows) × (row ≡ get_or rows k row) × (row_of rows (get_or sorted i 0) ≡ Some row) × (name_at (map name_of rows) (get_or sorted i 0) ≡ row.name)
+  row_at i low =
       let p = place i low in
-      let is : get_or (map name_of rows) p.0 [] ≡ key = sym (ap (name_at (map name_of rows)) p.2 ∙ name_place (map name_of rows) p.0) ∙ equal_text _ key equal in
-      ap (λ (n : ℕ). Some n) (p.2 ∙ sym (number_at 1 rows p.0 0 numbered p.1)) ∙ sym (find_first key rows p.0 p.1 is named.apart)
+      let there = row_there rows p.0 p.1 in
+      let stands : StandsAt rows (get_or sorted i 0) p.0 = record { within = p.1; number_is = omega (arith, p.2) } in (
+        p.0,
+        there.0,
+        p.1,
+        there.1,
+        found no_of_bot rows (get_or sorted i 0) p.0 there.0 numbered stands there.1,
+        ap (name_at (map name_of rows)) p.2 ∙ name_place (map name_of rows) p.0 ∙ name_there rows p.0 there.0 p.1 there.1,
+      )
+
+  pub found_named : (key : List ℕ) (i : ℕ) → i < length sorted → text_cmp (name_at (map name_of rows) (get_or sorted i 0)) key ≡ Equal →
+      (row : BotRow) × (row_of rows (get_or sorted i 0) ≡ Some row) × (row_named rows key ≡ Some row)
+  found_named key i low equal =
+      let (k, row, under, is, of_number, name) = row_at i low in
+      (row, of_number, find_first key rows k row under is (sym name ∙ equal_text _ key equal) named.apart)
 
   abbrev pub Parts : List ℕ → ℕ → Type 0
   Parts key i = IsPartitionPoint (λ n. text_cmp (name_at (map name_of rows) n) key ≡ Less) (λ n. text_cmp (name_at (map name_of rows) n) key ≡ Greater) sorted i

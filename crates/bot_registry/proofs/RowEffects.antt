@@ -4,7 +4,7 @@ use Rattle.std.specs.Prelude.{◌==◌, ◌<◌, if◌then◌else◌, MatchOptio
 use Rattle.std.specs.List.{find, All}
 use Rattle.std.specs.Option.{option_map_or}
 use Rattle.std.proofs.lemmas.Bool.Decides.{nat_tests}
-use Rattle.std.proofs.lemmas.List.{map_push}
+use Rattle.std.proofs.lemmas.List.{map_push, length_push, length-map}
 use Rattle.std.proofs.lemmas.List.Elements.{All-map, All-weaker, All-push, All-append, All-cons, All-nil}
 use Rattle.dimensions.specs.declared.text.Text.{Text}
 use Rattle.dimensions.specs.declared.bot_dims.BotDims.{BotDims}
@@ -49,7 +49,7 @@ idle_bot_no b (Some last) bot = if_no (bot.no == b) _ bot refl
 pub heard_no : (moment b : ℕ) (bot : BotRow) → (bot_at b (heard moment) bot).no ≡ bot.no
 heard_no moment b bot = if_no (bot.no == b) _ bot refl
 
-after_no : (moment : ℕ) (k : EntryKind) (bot : BotRow) → (bot_after moment k bot).no ≡ bot.no
+pub after_no : (moment : ℕ) (k : EntryKind) (bot : BotRow) → (bot_after moment k bot).no ≡ bot.no
 after_no moment (kind.Silence t) bot = if_no (runs_task t bot) _ bot refl
 after_no moment (kind.Dead b) bot = if_no (bot.no == b) _ bot refl
 after_no moment (kind.Handshake b id session dims q) bot = own_no b (session_row moment b id session dims q) bot refl
@@ -250,6 +250,22 @@ rows_stay moment (kind.Handshake b id session dims q) kept early follows old =
     next_of (Some bot) same = tt
 rows_stay moment k kept early follows old =
     record { numbered = numbered_after moment k kept.rows old.numbered; heard = heard_after moment k kept.rows early old.heard }
+
+-- ---- the rows are few
+
+session_few : (row : BotRow) (rows : List BotRow) (most : ℕ) (o : Option BotRow) → o ≡ row_of rows row.no → length rows ≤ most → MatchOption o (length rows < most) (λ bot. ⊤) → length (with_bot row rows) ≤ most
+session_few row rows most None is few more = rw (with_bot-new row rows (sym is)) (omega (arith, more, length_push rows row))
+session_few row rows most (Some bot) is few more =
+    rw (with_bot-known row bot rows (sym is)) (omega (arith, few, length-map rows (change_at no_of_bot row.no (λ old. row))))
+
+pub rows_few : (moment : ℕ) (k : EntryKind) (kept : RegistryState) → Follows kept k → length kept.rows ≤ kept.most → length (bots_after moment k kept.rows) ≤ kept.most
+rows_few moment (kind.Handshake b id session dims q) kept follows few =
+    session_few (session_row moment b id session dims q) kept.rows kept.most (row_of kept.rows b) refl few (more_of (row_of kept.rows b) follows)
+  where
+    more_of : (o : Option BotRow) → MatchOption o (IsNewBot kept b id) (λ bot. bot.name ≡ id) → MatchOption o (length kept.rows < kept.most) (λ bot. ⊤)
+    more_of None new = new.few
+    more_of (Some bot) same = tt
+rows_few moment k kept follows few = omega (arith, few, length-map kept.rows (bot_after moment k))
 
 -- where a handshake needs room, there may be one bot more
 pub room_for : (kept : RegistryState) (k : EntryKind) (len capacity : ℕ) → Follows kept k → (length kept.rows < kept.most → len < capacity) → HasRoomFor kept.rows len capacity k

@@ -1,5 +1,5 @@
 -- What an entry does to the rows, and what it needs of them.
-use Rattle.std.specs.Prelude.{◌≡◌, ℕ, ◌+◌, ◌<◌, List, length, Option, None, MatchOption, ⊤}
+use Rattle.std.specs.Prelude.{◌≡◌, ℕ, ◌+◌, ◌<◌, List, length, Option, None, MatchOption, slice_get, ⊤}
 use Rattle.std.specs.List.{find}
 use Rattle.swarm_model.specs.declared.bot_row.BotRow.{BotRow}
 use Rattle.swarm_model.specs.declared.pool_state.PoolState.{PoolState}
@@ -7,6 +7,7 @@ use Rattle.swarm_model.specs.declared.entry.Entry.{Entry}
 use Rattle.swarm_model.specs.declared.entry.EntryKind.{EntryKind}
 use Rattle.swarm_model.specs.declared.entry.EntryKind.TheVariants as kind
 use Rattle.swarm_model.specs.Finding.{is_bot, is_called}
+use Rattle.swarm_model.specs.Pages.{listed_bots}
 use Rattle.swarm_model.specs.Effects.{after}
 use Rattle.bot_registry.specs.Plain.{RegistryState}
 
@@ -17,6 +18,10 @@ row_of rows number = find (is_bot number) rows
 -- the row of a name
 abbrev pub row_named : List BotRow → List ℕ → Option BotRow
 row_named rows name = find (is_called name) rows
+
+-- the row is the first that a page after the name shows, of every pool that has these rows
+abbrev pub IsNextAfter : List BotRow → List ℕ → Option BotRow → Type 0
+IsNextAfter rows name row = (s : PoolState) → s.bots ≡ rows → row ≡ slice_get (listed_bots s name) 0
 
 -- the rows after the entry are those of every pool that had the rows before it
 abbrev pub IsAfter : List BotRow → Entry → List BotRow → Type 0

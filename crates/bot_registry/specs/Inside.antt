@@ -14,6 +14,7 @@ use Rattle.bot_registry.specs.declared.registry.Registry.TheInside.{Inside}
 use Rattle.bot_registry.specs.Plain.{RegistryState}
 use Rattle.bot_registry.specs.Acting.{row_of, row_named}
 use Rattle.bot_registry.specs.Names.{name_of, AreByName}
+use Rattle.bot_registry.specs.Demands.{AreCounted}
 
 abbrev pub kept_of : Inside → RegistryState
 kept_of registry =
@@ -28,12 +29,15 @@ pub record HasPlaces (rows most row_len row_room number_len number_room : ℕ) :
   pub row : rows < most → row_len < row_room
   pub number : rows < most → number_len < number_room
 
--- the rows are numbered by their places, each bot was heard at an early moment, the numbers are
--- known by name, no living bot was heard before a moment, and where an entry is ready, there is room for it
+-- the rows are as few as there may be and numbered by their places, each bot was heard at an early
+-- moment, the numbers are known by name, the sets are counted, no living bot was heard before a moment,
+-- and where an entry is ready, there is room for it
 pub record IsKept (registry : Inside) : Type 0 where
+  pub few : length registry.rows.items ≤ registry.most
   pub numbered : AreNumbered no_of_bot 1 registry.rows.items
   pub heard : All IsHeard registry.rows.items
   pub named : AreByName (map no_of_bot registry.rows.items) (map name_of registry.rows.items) registry.by_name.items
+  pub demands : AreCounted registry.rows.items registry.demands
   pub early : registry.heard_since ≤ 2 ^ 40
   pub since : All (HeardSince registry.heard_since) registry.rows.items
   pub prepared : IfSome registry.ready (λ parts.

@@ -1,13 +1,14 @@
 //! The numbers of the rows, sorted by name.
-ghost use Rattle.std.specs.Prelude.{◌≡◌, ℕ, ◌+◌, ◌<◌, ◌≤◌, ◌++◌, ◌∷◌, [], map, length, vec_len, vec_capacity, None};
-ghost use Rattle.std.specs.Option.{option_map};
-ghost use Rattle.std.specs.List.Sorted.{IsSearchInRange, IsBinarySearchResult};
-ghost use Rattle.std.specs.List.{insert};
-ghost use Rattle.dimensions.specs.Order.{text_cmp};
+ghost use Rattle.std.specs.Prelude.{◌≡◌, ℕ, ◌+◌, ◌<◌, ◌≤◌, ◌++◌, ◌∷◌, [], map, length, vec_len, vec_capacity, slice_get, None};
+ghost use Rattle.std.specs.Option.{option_copied};
+ghost use Rattle.std.specs.List.Sorted.{IsSearchInRange, IsBinarySearchResult, IsPartitionPoint};
+ghost use Rattle.std.specs.List.{insert, filter};
+ghost use Rattle.dimensions.specs.Order.{text_cmp, sorted_by};
+ghost use Rattle.swarm_model.specs.Pages.{is_after, is_named_before};
 ghost use Rattle.swarm_model.specs.Numbers.{AreNumbered};
 ghost use Rattle.swarm_model.specs.Effects.{no_of_bot};
 ghost use Rattle.bot_registry.specs.Acting.{row_named};
-ghost use Rattle.bot_registry.specs.Names.{name_of, name_at, AreByName};
+ghost use Rattle.bot_registry.specs.Names.{name_of, name_at, AreByName, IsUpTo, IsPast};
 ghost use Rattle.row_changes.specs.Bots.{bots_after};
 ghost use Rattle.bot_registry.specs.Inside.{FollowsIn};
 
@@ -34,15 +35,39 @@ fn name_place(rows: &[BotRow], numbers: &[u32], name: &Text) -> Result<usize, us
     numbers.binary_search_by(|number| order_at(rows, *number, name))
 }
 
-/// The number of the bot of a name.
-pub(crate) fn number_of(rows: &[BotRow], numbers: &[u32], name: &Text) -> Option<u32>
+/// The row of the bot of a name.
+pub(crate) fn row_named<'a>(rows: &'a [BotRow], numbers: &[u32], name: &Text) -> Option<&'a BotRow>
     requires numbered { AreNumbered no_of_bot 1 rows.now }
     requires named { AreByName (map no_of_bot rows.now) (map name_of rows.now) numbers.now }
-    ensures { result ≡ option_map no_of_bot (row_named rows.now name.now) }
+    ensures { option_copied result ≡ row_named rows.now name.now }
 {
     match name_place(rows, numbers, name) {
-        Ok(place) => Some(numbers[place]),
+        Ok(place) => row_of(rows, numbers[place]),
         Err(_) => None,
+    }
+}
+
+/// The place of the first number whose name comes after a name.
+fn place_after(rows: &[BotRow], numbers: &[u32], name: &Text) -> usize
+    requires numbered { AreNumbered no_of_bot 1 rows.now }
+    requires named { AreByName (map no_of_bot rows.now) (map name_of rows.now) numbers.now }
+    ensures bound { result ≤ length numbers.now }
+    ensures place { IsPartitionPoint (IsUpTo (map name_of rows.now) name.now) (IsPast (map name_of rows.now) name.now) numbers.now result }
+{
+    numbers.partition_point(|number| order_at(rows, *number, name).is_le())
+}
+
+/// The row of the bot whose name comes next after a name.
+pub(crate) fn row_after<'a>(rows: &'a [BotRow], numbers: &[u32], name: &Text) -> Option<&'a BotRow>
+    requires numbered { AreNumbered no_of_bot 1 rows.now }
+    requires named { AreByName (map no_of_bot rows.now) (map name_of rows.now) numbers.now }
+    ensures { option_copied result ≡ slice_get (filter (is_after name.now) (sorted_by is_named_before rows.now)) 0 }
+{
+    let place = place_after(rows, numbers, name);
+    if place < numbers.len() {
+        row_of(rows, numbers[place])
+    } else {
+        None
     }
 }
 

@@ -4,12 +4,13 @@ ghost use Rattle.std.specs.Option.{option_copied, option_map};
 ghost use Rattle.swarm_model.specs.Slices.{could_run};
 ghost use Rattle.swarm_model.specs.Effects.{no_of_bot};
 ghost use Rattle.row_changes.specs.Parts.{bot_parts};
-ghost use Rattle.bot_registry.specs.Acting.{row_of, row_named, IsAfter, Follows};
+ghost use Rattle.bot_registry.specs.Acting.{row_of, row_named, IsNextAfter, IsAfter, Follows};
 ghost use Rattle.bot_registry.specs.Silence.{IsDueDeath};
 
+use crate::demand::Demands;
 use crate::{names, silence};
 use dimensions::{DimSet, Text};
-use row_changes::{BotParts, change_bots, is_capable, row_of};
+use row_changes::{BotParts, change_bots, row_of};
 use std::alloc::{AllocError, Global};
 use std::marker::Model;
 use std::mem;
@@ -26,6 +27,8 @@ pub struct Registry {
     by_name: Vec<u32>,
     /// No bot that isn't dead was last heard before this moment.
     heard_since: u64,
+    /// The sets that tasks asked for, each with the number of fit bots that match it.
+    demands: Demands,
     /// What the entry that was reserved moves into a row.
     ready: Option<BotParts>,
 }
@@ -55,40 +58,59 @@ impl Registry {
             rows: Vec::new(alloc),
             by_name: Vec::new(alloc),
             heard_since: 0,
+            demands: Demands::new(alloc),
             ready: None,
         }
     }
 
-    /// How many bots there are.
+    /// How many bots there are, at a constant cost.
     pub fn count(&self) -> usize
         ensures { result ≡ length self.now.rows }
     {
         self.rows.len()
     }
 
-    /// The number of the bot of a name.
+    /// The number of the bot of a name. It costs a bisection over the bots.
     pub fn number(&self, name: &Text) -> Option<u32>
         ensures { result ≡ option_map no_of_bot (row_named self.now.rows name.now) }
     {
-        names::number_of(&self.rows, &self.by_name, name)
+        self.named(name).map(|bot| bot.no)
     }
 
-    /// The row of the bot of a number.
+    /// The row of the bot of a name. It costs a bisection over the bots.
+    pub fn named(&self, name: &Text) -> Option<&BotRow>
+        ensures { option_copied result ≡ row_named self.now.rows name.now }
+    {
+        names::row_named(&self.rows, &self.by_name, name)
+    }
+
+    /// The row of the bot whose name comes next after a name, in the order of bytes. It costs a
+    /// bisection over the bots.
+    pub fn next_after(&self, name: &Text) -> Option<&BotRow>
+        ensures { IsNextAfter self.now.rows name.now (option_copied result) }
+    {
+        names::row_after(&self.rows, &self.by_name, name)
+    }
+
+    /// The row of the bot of a number, which stands at its place, at a constant cost.
     pub fn bot(&self, no: u32) -> Option<&BotRow>
         ensures { option_copied result ≡ row_of self.now.rows no }
     {
         row_of(&self.rows, no)
     }
 
-    /// Whether some fit bot, busy or not, has the dimensions.
+    /// Whether some fit bot, busy or not, has the dimensions. For a set that a task asked for it
+    /// costs a search among those that are known, which are 1,024 at most, and for any other a pass
+    /// over the bots too.
     pub fn capable(&self, dims: &DimSet) -> bool
         ensures { result ≡ list_any (could_run dims.now) self.now.rows }
     {
-        is_capable(&self.rows, dims)
+        self.demands.is_capable(&self.rows, dims)
     }
 
     /// Of the deadlines of bots that aren't dead, the earliest by moment and then number, where it
-    /// has come by the moment: its moment, and the number of the bot.
+    /// has come by the moment: its moment, and the number of the bot. It costs a pass over the bots
+    /// only where a bot may have been silent for so long.
     pub fn first_silence(&self, moment: u64) -> Option<(u64, u32)>
         ensures { IsDueDeath self.now moment result }
     {
@@ -99,6 +121,14 @@ impl Registry {
     }
 
     /// Makes ready all that the entry's change of the rows needs, so that `apply` takes no memory.
+    /// It costs the copy of what the entry moves into a row. A new task's sets of dimensions are
+    /// known from here on, also where the entry is never applied: each costs a search among those
+    /// that are known, and where it isn't, a pass over the bots. Of 1,024 sets, one more takes the
+    /// place of the next in turn.
+    ///
+    /// # Errors
+    ///
+    /// Where memory is wanting, nothing is ready.
     pub fn reserve(&mut self, entry: &Entry) -> Result<(), AllocError>
         ensures ok { OnOk result (self.new ≡ record self.old { ready = Some (bot_parts entry.now.kind) }) }
         ensures err { OnErr result (self.new ≡ record self.old { ready = None }) }
@@ -108,12 +138,17 @@ impl Registry {
             self.rows.reserve(1)?;
             self.by_name.reserve(1)?;
         }
+        self.demands.add_sets(self.alloc, &self.rows, &entry.kind)?;
         let parts = BotParts::copied(self.alloc, &entry.kind)?;
         drop(mem::replace(&mut self.ready, Some(parts)));
         Ok(())
     }
 
     /// Does to the rows what the entry does that was reserved just before. It takes no memory.
+    /// Where it changes the dimensions of a bot, or whether it is fit, it costs a pass over the sets
+    /// that are known; a sign of life costs none. A bot that comes for the first time costs a
+    /// bisection and the move of the numbers behind its own. A silent run costs a pass over the
+    /// bots, and so does an entry by whose moment the bot that was heard the longest ago may be dead.
     pub fn apply(&mut self, entry: &Entry)
         requires ready { self.old.ready ≡ Some (bot_parts entry.now.kind) }
         requires early { entry.now.moment ≤ 2 ^ 40 }
@@ -125,7 +160,10 @@ impl Registry {
             None => unreachable!(),
             Some(parts) => {
                 names::follow(&self.rows, &mut self.by_name, &entry.kind);
+                let included = self.demands.remove_changing(&self.rows, &entry.kind);
                 change_bots(&mut self.rows, self.alloc, entry.moment, &entry.kind, parts);
+                self.demands
+                    .count_changed(&self.rows, &entry.kind, included);
                 let since = self.heard_since.min(entry.moment);
                 self.heard_since = silence::heard_since(
                     &self.rows,

@@ -8,7 +8,8 @@ ghost use Rattle.row_changes.specs.Bots.{death_of};
 ghost use Rattle.bot_registry.specs.Silence.{death};
 ghost use Rattle.bot_registry.specs.Inside.{HeardSince, IsDeath};
 
-use row_changes::{death_of, sooner_of};
+use pool_index::sooner_of;
+use row_changes::death_of;
 use swarm_model::{BotRow, Deadline};
 
 /// The earliest deadline of a bot.

@@ -4,8 +4,7 @@
 //! number. [`change_bots`] does to all rows of bots what an entry does, and [`record_report`] to the
 //! row of a task what a bot's report does. What an entry moves into rows, [`TaskParts`] and
 //! [`BotParts`], can be made ready before, and so can the room for a chunk ([`make_fresh_room`]).
-//! [`new_row`] and [`session_row`] are the rows that entries add, and [`sooner_of`] is the order of
-//! deadlines.
+//! [`new_row`] and [`session_row`] are the rows that entries add.
 //!
 //! `specs/` says what is known of a row (`Rows`), what an entry moves (`Parts`), what it does to the
 //! bots (`Bots`) and what a chunk needs (`Output`), in the words of `swarm_model`'s `Effects` and
@@ -28,7 +27,7 @@ pub use bot_changes::{
 };
 pub use bots::change_bots;
 pub use changing::{Change, Row, change_row, place_of, row_of};
-pub use deadlines::{blob_end, death_of, silence_limit, slice_end, sooner_of};
+pub use deadlines::{blob_end, death_of, silence_limit, slice_end};
 pub use output::{fresh_chunk, keep_chunk, make_fresh_room, record_report};
 pub use parts::{BotParts, TaskParts, split};
 pub use queries::{is_capable, is_claimed, is_sent, needs, waits_for};

@@ -66,10 +66,10 @@ impl MemoryRunner {
         requires plain { (a : RunnerAnswer) (rest : List RunnerAnswer) → as_answer call a rest ≡ as_done a rest }
         ensures { Performs result (⟦<MemoryRunner as Runner>⟧.state self.old) (⟦<MemoryRunner as Runner>⟧.state self.new) call }
     {
-        if !is_told(&mut self.calls, call) {
+        if !push_call(&mut self.calls, call) {
             return Err(StartFault::Memory);
         }
-        if is_done(&self.output, &mut self.at, &mut self.answers) {
+        if take_done(&self.output, &mut self.at, &mut self.answers) {
             Ok(())
         } else {
             count_fault(&mut self.faults);
@@ -84,8 +84,8 @@ fn count_fault(faults: &mut u64)
     *faults = faults.saturating_add(1);
 }
 
-// Whether there was memory to tell a call, the last one.
-fn is_told(calls: &mut Vec<RunnerCall>, call: RunnerCall) -> bool
+// Adds a call, the last one: false where there is no memory for it.
+fn push_call(calls: &mut Vec<RunnerCall>, call: RunnerCall) -> bool
     ensures { calls.new.items ≡ (if result then calls.old.items ++ call ∷ [] else calls.old.items) }
 {
     calls.push(call).is_ok()
@@ -107,9 +107,9 @@ fn next_answer(output: &[u8], at: &mut usize, answers: &mut VecDeque<RunnerAnswe
     }
 }
 
-// Whether a call succeeds that answers nothing more, by the next answer.
+// Takes the next answer, to a call that answers nothing more: true where it is success.
 #[tactic(auto, using(crate::proofs::Taking::taken_as_done))]
-fn is_done(output: &[u8], at: &mut usize, answers: &mut VecDeque<RunnerAnswer>) -> bool
+fn take_done(output: &[u8], at: &mut usize, answers: &mut VecDeque<RunnerAnswer>) -> bool
     requires { at.old ≤ length output.now }
     ensures taken { first_taken as_done (with_output (drop at.old output.now) answers.old.items) ≡ ((if result then answer.Done else answer.Failure), answers.new.items) }
     ensures done { at.new ≡ length output.now }
@@ -192,7 +192,7 @@ impl Runner for MemoryRunner {
 
     fn look(&mut self, into: &mut [u8]) -> Result<Look, Failed> {
         let call = RunnerCall::Look { room: into.len() };
-        if !is_told(&mut self.calls, call) {
+        if !push_call(&mut self.calls, call) {
             count_fault(&mut self.faults);
             return Err(Failed);
         }
@@ -214,11 +214,11 @@ impl Runner for MemoryRunner {
     }
 
     fn signal(&mut self, signal: Signal) -> Result<(), Failed> {
-        if !is_told(&mut self.calls, RunnerCall::Signal { signal }) {
+        if !push_call(&mut self.calls, RunnerCall::Signal { signal }) {
             count_fault(&mut self.faults);
             return Err(Failed);
         }
-        if is_done(&self.output, &mut self.at, &mut self.answers) {
+        if take_done(&self.output, &mut self.at, &mut self.answers) {
             Ok(())
         } else {
             count_fault(&mut self.faults);
@@ -231,7 +231,7 @@ impl Runner for MemoryRunner {
             path: path.try_copy(self.alloc)?,
             most,
         };
-        if !is_told(&mut self.calls, call) {
+        if !push_call(&mut self.calls, call) {
             return Err(CollectFault::Memory);
         }
         match next_file(&self.output, &mut self.at, &mut self.answers) {
@@ -255,7 +255,7 @@ impl Runner for MemoryRunner {
         let call = RunnerCall::Clean {
             caches: copy_list(self.alloc, caches)?,
         };
-        if !is_told(&mut self.calls, call) {
+        if !push_call(&mut self.calls, call) {
             return Err(StartFault::Memory);
         }
         if let RunnerAnswer::Cleaned { sizes } = next_answer(

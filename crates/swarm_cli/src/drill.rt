@@ -17,8 +17,8 @@ use sw_base::{MemoryLink, StepClock};
 use swarm_history::PlainDoor;
 use swarm_http::{Counted, Ended, Link, counted_session};
 use swarm_keeper::NoKeeper;
+use swarm_machine::Pool;
 use swarm_model::{Machine, PoolSettings, Settings};
-use swarm_plain::ListPool;
 use swarm_policy::open_settings;
 
 // The most bytes that a call on the link in memory moves.
@@ -101,7 +101,7 @@ fn drill_over<L: Link>(
     requires count { length keepers.items ≡ length settings.now.pools }
     ensures { (start cycles : ℕ) → input.items ≡ drill_bytes start cycles → Drills start cycles (L.state console.old) (L.state console.new) result }
 {
-    match PlainDoor::<ListPool, NoKeeper>::new(alloc, settings, keepers) {
+    match PlainDoor::<Pool, NoKeeper>::new(alloc, settings, keepers) {
         Ok(mut door) => {
             let mut clock = StepClock {
                 at: 1000,

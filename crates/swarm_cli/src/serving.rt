@@ -23,8 +23,8 @@ use sw_base::{Listener, StartFault};
 use swarm_history::{LoadFault, PlainDoor};
 use swarm_http::{Clock, Door, Ended, Link, session};
 use swarm_keeper::{Keeper, NoKeeper};
+use swarm_machine::Pool;
 use swarm_model::{Machine, PoolSettings, Settings};
-use swarm_plain::ListPool;
 
 /// What comes of the use of a door.
 #[derive(Clone, Copy, Debug, PartialEq, Eq)]
@@ -180,7 +180,7 @@ pub(crate) fn run_over<L: Link, C: Clock, N: Listener, K: Keeper + Drop>(
     ensures count { length result.1.items ≡ length settings.now.pools }
     ensures told { IsTrue (list_all is_some (map K.tables keepers.items)) → IsTrue (list_all is_some (map K.tables result.1.items)) }
 {
-    match PlainDoor::<ListPool, K>::new(alloc, settings, keepers) {
+    match PlainDoor::<Pool, K>::new(alloc, settings, keepers) {
         Ok(mut door) => {
             let used = use_door(
                 alloc, settings, command, &mut door, console, clock, listener,

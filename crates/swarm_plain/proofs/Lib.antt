@@ -1,9 +1,5 @@
-pub mod Legality
-pub mod Committing
-pub mod Contents
-pub mod Storing
+mod Committing
 mod RowEffects
-mod BlobEffects
 mod Holding
 mod Finding
 mod TasksBelow

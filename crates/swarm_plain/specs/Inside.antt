@@ -1,7 +1,6 @@
 -- What the rows stand for, and what lies ready for an entry.
-use Rattle.std.specs.Prelude.{◌≡◌, ◌<◌, ℕ, ⊤, List, [], ◌∷◌, ◌++◌, map, length, Option, Some, IfSome, vec_len, vec_capacity}
+use Rattle.std.specs.Prelude.{◌≡◌, ◌<◌, ℕ, ⊤, List, [], ◌∷◌, ◌++◌, map, Option, vec_len, vec_capacity}
 use Rattle.std.specs.List.{All}
-use Rattle.sha2.specs.Sha256.{sha256}
 use Rattle.swarm_model.specs.declared.attempt.Chunk.{Chunk}
 use Rattle.swarm_model.specs.declared.task_row.TaskRow.{TaskRow}
 use Rattle.swarm_model.specs.declared.pool_state.PoolState.{PoolState}
@@ -10,13 +9,13 @@ use Rattle.swarm_model.specs.declared.entry.EntryKind.TheVariants as kind
 use Rattle.swarm_model.specs.declared.task_state.TaskState.{TaskState}
 use Rattle.swarm_model.specs.Numbers.{AreNumbered}
 use Rattle.swarm_model.specs.Answers.{entry_at}
-use Rattle.swarm_model.specs.Bytes.{brings, held_after}
+use Rattle.swarm_model.specs.Bytes.{held_after}
 use Rattle.swarm_model.specs.Effects.{no_of_task, no_of_bot, new_row, task_at, started_run, ended_run_at, chunk_at, fresh_chunk, if_some, after}
 use Rattle.row_changes.specs.declared.parts.TaskParts.{TaskParts}
 use Rattle.row_changes.specs.declared.parts.TaskParts.TheVariants as parts
-use Rattle.row_changes.specs.Output.{run_of, StaysShort, TakesFresh}
+use Rattle.row_changes.specs.Output.{run_of, TakesFresh}
 use Rattle.row_changes.specs.Rows.{HasFewSlices}
-use Rattle.swarm_plain.specs.Blobs.{held_in, IsOfPool}
+use Rattle.pool_changes.specs.Blobs.{held_in, IsOfPool}
 use Rattle.swarm_plain.specs.declared.rows.Rows.{Rows}
 
 -- the state that the rows stand for
@@ -38,15 +37,6 @@ pub record HasRoom (rows : Rows) : Type 0 where
 abbrev pub HasChunkRoom : List TaskRow → ℕ → EntryKind → Type 0
 HasChunkRoom tasks spare (kind.Update b t try_no chunk last) = TakesFresh spare (run_of tasks t) chunk
 HasChunkRoom tasks spare entry = ⊤
-
--- the output with the chunk of an entry is short
-abbrev pub KeepsShort : List TaskRow → EntryKind → Type 0
-KeepsShort tasks (kind.Update b t try_no chunk last) = StaysShort (run_of tasks t) chunk
-KeepsShort tasks entry = ⊤
-
--- bytes that come are those that an entry of this kind brings
-abbrev pub AreBrought : EntryKind → Option (List ℕ) → Type 0
-AreBrought k bytes = IfSome bytes (λ b. brings k ≡ Some (sha256 b, length b))
 
 -- the rows, and the bytes that are held, go on by an entry of this kind, with which these bytes come
 pub record Becomes (old new : Rows) (moment : ℕ) (k : EntryKind) (bytes : Option (List ℕ)) : Type 0 where

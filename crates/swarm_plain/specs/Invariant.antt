@@ -10,7 +10,7 @@ use Rattle.swarm_plain.specs.declared.rows.Rows.{Rows}
 use Rattle.swarm_plain.specs.declared.list_pool.Ready.{Ready}
 use Rattle.swarm_plain.specs.declared.list_pool.ListPool.TheInside.{Inside}
 use Rattle.swarm_plain.specs.Plain.{ListPoolState}
-use Rattle.swarm_plain.specs.Blobs.{IsOfPool}
+use Rattle.pool_changes.specs.Blobs.{IsOfPool}
 use Rattle.swarm_plain.specs.Inside.{state_of, HasRoom, HasChunkRoom}
 
 -- what lies ready is what the entry does, and each list has room for one more

@@ -1,5 +1,4 @@
 pub mod Plain
-pub mod Blobs
 pub mod Inside
 pub mod Invariant
 pub mod Lowest

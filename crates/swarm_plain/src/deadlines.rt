@@ -9,7 +9,8 @@ ghost use Rattle.row_changes.specs.Rows.{IsEarly, IsHeard};
 ghost use Rattle.swarm_plain.specs.Inside.{state_of};
 
 use crate::rows::Rows;
-use row_changes::{blob_end, death_of, row_of, silence_limit, slice_end, sooner_of};
+use pool_index::sooner_of;
+use row_changes::{blob_end, death_of, row_of, silence_limit, slice_end};
 use swarm_model::{BlobRow, BotRow, Deadline, TaskRow, TaskState};
 
 fn bot_of(rows: &Rows, number: u32) -> Option<&BotRow>

@@ -7,15 +7,15 @@ ghost use Rattle.swarm_model.specs.History.{MayFollow};
 ghost use Rattle.swarm_model.specs.Soundness.{IsSound};
 ghost use Rattle.row_changes.specs.Output.{run_of, StaysShort, TakesFresh};
 ghost use Rattle.row_changes.specs.Parts.{task_parts};
-ghost use Rattle.swarm_plain.specs.Blobs.{IsOfPool};
-ghost use Rattle.swarm_plain.specs.Inside.{state_of, IsInOrder, HasRoom, HasChunkRoom, KeepsShort, AreBrought, Becomes, with_claim, with_new, with_report};
+ghost use Rattle.pool_changes.specs.Blobs.{IsOfPool, AreBrought, KeepsShort, fresh_in};
+ghost use Rattle.swarm_plain.specs.Inside.{state_of, IsInOrder, HasRoom, HasChunkRoom, Becomes, with_claim, with_new, with_report};
 
-use crate::blobs::change_blobs;
 use crate::rows::Rows;
+use pool_changes::{blob_effect, change_blobs};
 use reserved_vec::{ReservedVec, SpareBuffer};
 use row_changes::{
-    Cancel, ExpireSlice, LoseRun, MarkKill, StartRun, TaskParts, change_bots, change_row, new_row,
-    record_report, row_of, split,
+    Cancel, ExpireSlice, LoseRun, MarkKill, StartRun, TaskParts, change_bots, change_row,
+    fresh_chunk, new_row, record_report, row_of, split,
 };
 use std::alloc::Global;
 use swarm_model::{Chunk, Entry, EntryKind, TaskRow, TaskState};
@@ -107,6 +107,17 @@ impl Rows {
         }
     }
 
+    /// The chunk of the entry, where it goes on from the output that is kept.
+    fn fresh_in(&self, kind: &EntryKind) -> Option<Chunk>
+        requires { IsInOrder self.now }
+        ensures { result ≡ fresh_in (state_of self.now) kind.now }
+    {
+        match kind {
+            EntryKind::Update { t, chunk, .. } => fresh_chunk(self.tasks.as_slice(), *t, *chunk),
+            _ => None,
+        }
+    }
+
     /// How many seconds a blob is kept.
     fn blob_life(&self) -> u64
         ensures value { result ≡ self.now.settings.blob_life_secs }
@@ -175,7 +186,7 @@ impl Rows {
             kind,
         } = copy;
         let (task, bot) = split(kind);
-        let effect = self.blob_effect(&entry.kind);
+        let effect = blob_effect(&entry.kind, self.fresh_in(&entry.kind));
         let life = self.blob_life();
         // For the proof: the limits of the settings.
         let _most = self.settings.most_entries;

@@ -1,6 +1,7 @@
 //! Runs the transcripts of all files of the folder that it is started in, or of the one that its
-//! word names. It prints how many each file has, and where a run differs from its transcript, and
-//! ends with status 1 if one does, or if a file of the folder holds no transcripts.
+//! word names: through the program, and those that need no more than `session` over the machine that
+//! scans lists too. It prints how many each file has of both, and where a run differs from its
+//! transcript, and ends with status 1 if one does, or if a file of the folder holds no transcripts.
 #![tactic(auto)]
 
 use std::process::ExitCode;

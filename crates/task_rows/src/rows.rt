@@ -1,4 +1,6 @@
 ghost use Rattle.std.specs.Prelude.{◌≡◌, ◌+◌, [], length, Some, None, IfSome, OnOk, OnErr};
+ghost use Rattle.std.specs.Option.{option_copied};
+ghost use Rattle.swarm_model.specs.Effects.{fresh_chunk};
 ghost use Rattle.row_changes.specs.Output.{run_of, StaysShort};
 ghost use Rattle.row_changes.specs.Rows.{HasFewSlices};
 ghost use Rattle.row_changes.specs.Parts.{task_parts};
@@ -7,7 +9,7 @@ ghost use Rattle.task_rows.specs.Acting.{row_of, chunk_in, IsAfter, IsAfterRun, 
 use crate::in_place::{change, end_run, start};
 use crate::making::{chunk_of, make_room, row_from};
 use reserved_vec::SpareBuffer;
-use row_changes::{Cancel, ExpireSlice, MarkKill, TaskParts, keep_chunk, row_of};
+use row_changes::{Cancel, ExpireSlice, MarkKill, TaskParts, fresh_chunk, keep_chunk, row_of};
 use std::alloc::{AllocError, Global};
 use std::marker::Model;
 use std::mem;
@@ -51,6 +53,28 @@ impl TaskRows {
             spare: SpareBuffer::new(alloc),
             ready: None,
         }
+    }
+
+    /// How many tasks there are.
+    pub fn count(&self) -> usize
+        ensures { result ≡ length self.now.rows }
+    {
+        self.rows.len()
+    }
+
+    /// The row of the task of a number, for what a machine keeps beside the rows when an entry is
+    /// committed. What answers a request reads by `row`, which is counted.
+    pub fn uncounted_row(&self, no: u32) -> Option<&TaskRow>
+        ensures { option_copied result ≡ row_of self.now.rows no }
+    {
+        row_of(&self.rows, no)
+    }
+
+    /// The chunk, where it goes on from the output of the task of a number.
+    pub fn fresh_chunk(&self, no: u32, chunk: Option<Chunk>) -> Option<Chunk>
+        ensures { result ≡ fresh_chunk (run_of self.now.rows no) chunk }
+    {
+        fresh_chunk(&self.rows, no, chunk)
     }
 
     /// Makes ready all that the entry's change of a row needs.

@@ -3,12 +3,12 @@ use dimensions::TryCopy;
 use runners::MemoryRunner;
 use std::alloc::{AllocError, Global};
 use std::collections::VecDeque;
-use sw_base::{Clock, ListClock, MemoryDialer, MemoryFiles, MemoryLink, StepClock};
+use sw_base::{Clock, MemoryDialer, MemoryFiles, MemoryLink, StepClock};
 use swarm_cli::run;
 use swarm_keeper::MemoryStore;
+use tested_programs::{TestedProgram, check_runs};
 use transcript::{
-    Transcript, TranscriptError, compare_console, compare_moments, compare_nothing, compare_runner,
-    compare_status, compare_waits,
+    Transcript, TranscriptError, compare_console, compare_nothing, compare_runner, compare_status,
 };
 
 /// The files of a transcript, for one run.
@@ -142,61 +142,27 @@ fn check_cuts(
     Ok(())
 }
 
-/// Runs transcripts one after the other over one store and their moments, each of which has to be
-/// asked for, and compares the seconds that they wait.
-fn check_moments(
-    alloc: Global,
-    runs: &[Transcript],
-    piece: usize,
-    store: &mut MemoryStore,
-) -> Result<(), TranscriptError> {
-    for transcript in runs {
-        let mut clock = ListClock {
-            moments: transcript.moments.as_slice(),
-            asked: 0,
-            waited: 0,
-        };
-        check_over(alloc, transcript, piece, &mut clock, store)?;
-        compare_moments(transcript, clock.asked)?;
-        compare_waits(transcript, clock.waited)?;
-    }
-    Ok(())
+/// The program by its words, over a store in memory.
+#[derive(Drop)]
+struct WholeProgram {
+    store: MemoryStore,
 }
 
-/// Runs transcripts one after the other over one store, and over clocks that begin at their first
-/// moments and go on by a step.
-fn check_step(
-    alloc: Global,
-    runs: &[Transcript],
-    piece: usize,
-    step: u64,
-    store: &mut MemoryStore,
-) -> Result<(), TranscriptError> {
-    for transcript in runs {
-        let at = transcript.moments.first().copied().unwrap_or(0);
-        let mut clock = StepClock {
-            at,
-            step,
-            waited: 0,
-        };
-        check_over(alloc, transcript, piece, &mut clock, store)?;
+impl TestedProgram for WholeProgram {
+    fn renew_store(&mut self, alloc: Global, first: &Transcript) -> Result<(), AllocError> {
+        self.store = store_of(alloc, first)?;
+        Ok(())
     }
-    Ok(())
-}
 
-/// Runs transcripts one after the other over stores of the first one, for each size of its pieces.
-fn check_sizes(
-    alloc: Global,
-    first: &Transcript,
-    runs: &[Transcript],
-) -> Result<(), TranscriptError> {
-    for piece in first.pieces.first..=first.pieces.last {
-        check_moments(alloc, runs, piece, &mut store_of(alloc, first)?)?;
-        if let Some(step) = first.step {
-            check_step(alloc, runs, piece, step, &mut store_of(alloc, first)?)?;
-        }
+    fn check_run<C: Clock>(
+        &mut self,
+        alloc: Global,
+        transcript: &Transcript,
+        piece: usize,
+        clock: &mut C,
+    ) -> Result<(), TranscriptError> {
+        check_over(alloc, transcript, piece, clock, &mut self.store)
     }
-    check_cuts(alloc, first, &mut store_of(alloc, first)?)
 }
 
 /// Runs a transcript and those that go on with its store, each time from a new store on: for each
@@ -208,8 +174,10 @@ fn check_sizes(
 /// The first run that writes other bytes, ends with another status, leaves answers of its runner,
 /// or asks for more moments or waits for more seconds or for fewer, and want of memory.
 pub fn check(alloc: Global, runs: &[Transcript]) -> Result<(), TranscriptError> {
-    match runs.first() {
-        Some(first) => check_sizes(alloc, first, runs),
-        None => Ok(()),
-    }
+    let Some(first) = runs.first() else {
+        return Ok(());
+    };
+    let store = store_of(alloc, first)?;
+    check_runs(alloc, runs, &mut WholeProgram { store })?;
+    check_cuts(alloc, first, &mut store_of(alloc, first)?)
 }

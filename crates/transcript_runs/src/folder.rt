@@ -1,4 +1,5 @@
 use crate::check;
+use plain_runs::check_sessions;
 use std::alloc::{AllocError, Global};
 use std::rt::Files;
 use std::{fs, io};
@@ -16,16 +17,17 @@ fn tell<R: Print + Eprint + AllocGlobal>(rt: &R, failure: &str) -> io::Result<bo
     Ok(false)
 }
 
-/// The line of a transcript that failed.
+/// The line of a transcript that failed over a machine.
 fn failure_of(
     alloc: Global,
     file: &str,
     transcript: &Transcript,
+    machine: &str,
     error: &TranscriptError,
 ) -> Result<String, AllocError> {
     let line = error.line();
     let name = transcript.name.as_str();
-    format!(in alloc; "{file}:{line}: {name}: {error}")
+    format!(in alloc; "{file}:{line}: {name}{machine}: {error}")
 }
 
 /// The first of these transcripts, and those behind it that go on with its store.
@@ -40,7 +42,8 @@ fn runs_at_front(transcripts: &[Transcript]) -> &[Transcript] {
     &transcripts[..count.min(transcripts.len())]
 }
 
-/// Runs the transcripts of a text, and answers whether all of them passed.
+/// Runs the transcripts of a text through the program, and those that need no more than `session` over
+/// machines that scan lists too, and answers whether all of them passed.
 fn run_text<R: Print + Eprint + AllocGlobal>(rt: &R, file: &str, text: &str) -> io::Result<bool> {
     let alloc = rt.alloc();
     let transcripts = match read(alloc, text) {
@@ -53,6 +56,7 @@ fn run_text<R: Print + Eprint + AllocGlobal>(rt: &R, file: &str, text: &str) -> 
     let mut has_passed = true;
     let mut count = 0usize;
     let mut replies = 0usize;
+    let mut over_lists = 0usize;
     for (at, transcript) in transcripts.iter().enumerate() {
         replies = replies.saturating_add(transcript.console.replies.len());
         if transcript.is_again {
@@ -61,10 +65,22 @@ fn run_text<R: Print + Eprint + AllocGlobal>(rt: &R, file: &str, text: &str) -> 
         count = count.saturating_add(1);
         let runs = runs_at_front(&transcripts[at..]);
         if let Err(error) = check(alloc, runs) {
-            has_passed = tell(rt, failure_of(alloc, file, transcript, &error)?.as_str())?;
+            let failure = failure_of(alloc, file, transcript, "", &error)?;
+            has_passed = tell(rt, failure.as_str())?;
+        }
+        match check_sessions(alloc, runs) {
+            Ok(true) => over_lists = over_lists.saturating_add(1),
+            Ok(false) => {}
+            Err(error) => {
+                let failure = failure_of(alloc, file, transcript, " over lists", &error)?;
+                has_passed = tell(rt, failure.as_str())?;
+            }
         }
     }
-    println!(rt; "{file}: {count} transcripts, {replies} replies")?;
+    let rest = count.saturating_sub(over_lists);
+    println!(rt;
+        "{file}: {count} transcripts, {replies} replies; {over_lists} over lists too, {rest} not"
+    )?;
     Ok(has_passed)
 }
 
@@ -108,7 +124,8 @@ fn names_of<R: Files + AllocGlobal + Clone + Drop>(
 /// Runs the transcripts of all files of a folder, and answers whether all of them passed. What lies
 /// in the folder and is no file of transcripts does not pass.
 ///
-/// It prints how many transcripts and replies each file has, and each failure.
+/// It prints how many transcripts and replies each file has, how many transcripts were run over lists
+/// too and how many not, and each failure.
 ///
 /// # Errors
 ///

@@ -1,8 +1,6 @@
 -- A new name has a place among the others.
-use Rattle.std.proofs.Common.{◌≤◌, ap, Option, length}
-use Rattle.std.specs.Option.{option_map}
-use Rattle.swarm_model.specs.declared.bot_row.BotRow.{BotRow}
-use Rattle.swarm_model.specs.Effects.{no_of_bot}
+use Rattle.std.proofs.Common.{◌≤◌, sym, ◌∙◌, length}
+use Rattle.std.proofs.lemmas.Option.{none-some}
 use Rattle.bot_registry.proofs.Named.{found_named, parts, inserted}
 use Rattle.bot_registry.proofs.names.add.Goals as goal
 
@@ -10,8 +8,7 @@ pub unreachable-requires : goal.unreachable-requires
 unreachable-requires c =
     let found = found_named c.args.rows.now c.args.numbers.now.items c.requires.numbered c.requires.named c.args.name.now c.in-Ok.field-0
     (rw c.deref.ensures.value at c.in-Ok.ensures.bound) (rw c.deref.ensures.value at (c.in-Ok.ensures.place 0)) in
-    let none = ap (λ (o : Option BotRow). option_map no_of_bot o) c.requires.fresh in
-    cc (found, none)
+    none-some found.0 (sym c.requires.fresh ∙ found.2)
 
 pub returns : goal.returns
 returns c =

@@ -1,12 +1,12 @@
 -- What was reserved is what is applied.
-use Rattle.std.proofs.Common.{arith, sym, ap, ◌∙◌, List}
+use Rattle.std.proofs.Common.{arith, sym, ap, ◌∙◌, ◌<◌, ◌^◌, length, List}
 use Rattle.std.specs.Prelude.{vec_len, vec_capacity}
 use Rattle.swarm_model.specs.declared.bot_row.BotRow.{BotRow}
 use Rattle.row_changes.specs.Bots.{bots_after}
 use Rattle.row_changes.proofs.RowEffects.{bots_after-is}
 use Rattle.bot_registry.specs.Plain.{RegistryState}
 use Rattle.bot_registry.specs.Inside.{kept_of}
-use Rattle.bot_registry.proofs.RowEffects.{rows_stay, since_stays, room_for, follows_in, room_of}
+use Rattle.bot_registry.proofs.RowEffects.{rows_stay, rows_few, since_stays, room_for, follows_in, room_of}
 use Rattle.bot_registry.proofs.Folding.{since_weaker}
 use Rattle.bot_registry.proofs.registry.Registry.apply.Goals as goal
 
@@ -24,9 +24,28 @@ follow-requires-clause-follows c =
     rw c.deref.ensures.value (follows_in (kept_of c.self.inside) c.args.entry.now.kind (vec_len c.self.inside.by_name) (vec_capacity c.self.inside.by_name) follows
     (room_of c.self.inside.ready c.in-Some.parts is c.self.invariant.prepared).number)
 
+pub count_changed-requires-clause-few : goal.count_changed-requires-clause-few
+count_changed-requires-clause-few c =
+    let follows = rw (← c.self.view_is) at c.requires.follows in
+    let few = rows_few c.args.entry.now.moment c.args.entry.now.kind (kept_of c.self.inside) follows c.self.invariant.few in
+    let most : c.self.inside.most < 2 ^ 32 = omega (arith, c.self.ranges) in
+    let small : length (bots_after c.args.entry.now.moment c.args.entry.now.kind c.self.inside.rows.items) < 2 ^ 32 = omega (arith, few, most) in
+    rw (c.deref-in-Some-2.ensures.value, c.change_bots.ensures) small
+
+pub count_changed-requires-clause-numbered : goal.count_changed-requires-clause-numbered
+count_changed-requires-clause-numbered c =
+    let follows = rw (← c.self.view_is) at c.requires.follows in
+    let all = rows_stay c.args.entry.now.moment c.args.entry.now.kind (kept_of c.self.inside) c.requires.early follows
+    (record { numbered = c.self.invariant.numbered; heard = c.self.invariant.heard }) in
+    rw (c.deref-in-Some-2.ensures.value, c.change_bots.ensures) all.numbered
+
+pub count_changed-requires-clause-known : goal.count_changed-requires-clause-known
+count_changed-requires-clause-known c =
+    rw (c.deref-in-Some-2.ensures.value, c.change_bots.ensures, ← c.deref-in-Some.ensures.value) (c.remove_changing-included.ensures c.args.entry.now.moment)
+
 pub heard_since-self-inside-requires-clause-since : goal.heard_since-self-inside-requires-clause-since
 heard_since-self-inside-requires-clause-since c =
-    rw (c.deref-in-Some.ensures.value, c.change_bots.ensures)
+    rw (c.deref-in-Some-3.ensures.value, c.change_bots.ensures)
     (since_stays c.min-since.result c.args.entry.now.moment c.args.entry.now.kind c.self.inside.rows.items (omega (arith, c.min-since.ensures))
     (since_weaker c.self.inside.heard_since c.min-since.result c.self.inside.rows.items (omega (arith, c.min-since.ensures)) c.self.invariant.since))
 
@@ -36,11 +55,13 @@ invariant_of-self c =
     let all = rows_stay c.args.entry.now.moment c.args.entry.now.kind (kept_of c.self.inside) c.requires.early follows
     (record { numbered = c.self.invariant.numbered; heard = c.self.invariant.heard }) in
     record {
+      few = rw c.change_bots.ensures (rows_few c.args.entry.now.moment c.args.entry.now.kind (kept_of c.self.inside) follows c.self.invariant.few);
       numbered = rw c.change_bots.ensures all.numbered;
       heard = rw c.change_bots.ensures all.heard;
       named = rw (c.change_bots.ensures, ← c.deref.ensures.value) (c.follow.ensures c.args.entry.now.moment);
+      demands = rw c.deref-in-Some-2.ensures.value at c.count_changed.ensures;
       early = omega (arith, c.requires.early, c.heard_since-self-inside.ensures.not_later);
-      since = rw c.deref-in-Some.ensures.value at c.heard_since-self-inside.ensures.since;
+      since = rw c.deref-in-Some-3.ensures.value at c.heard_since-self-inside.ensures.since;
       prepared = rw c.take.ensures.after tt;
     }
 

@@ -3,7 +3,7 @@ use Rattle.std.proofs.Common.{subst, length, IfSome, IsTrue}
 use Rattle.swarm_model.specs.Finding.{has_blob}
 use Rattle.swarm_plain.specs.Plain.{ListPoolState}
 use Rattle.swarm_plain.specs.Inside.{state_of}
-use Rattle.swarm_plain.proofs.Storing.{lent_size}
+use Rattle.pool_changes.proofs.Storing.{lent_size}
 use Rattle.swarm_plain.proofs.list_pool.ListPoolMachine.bytes.Goals as goal
 
 pub returns-clause-sized : goal.returns-clause-sized

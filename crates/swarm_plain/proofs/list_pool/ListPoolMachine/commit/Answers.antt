@@ -14,11 +14,12 @@ use Rattle.swarm_model.specs.Bytes.{held_after}
 use Rattle.swarm_model.specs.declared.entry.Entry.{Entry}
 use Rattle.content_store.specs.Contents.{bytes_of}
 use Rattle.swarm_plain.specs.Plain.{ListPoolState, machine_of}
-use Rattle.swarm_plain.specs.Blobs.{held_in}
+use Rattle.pool_changes.specs.Blobs.{held_in}
 use Rattle.swarm_plain.specs.Inside.{state_of, HasChunkRoom}
 use Rattle.swarm_plain.specs.Invariant.{IsReady, kept_of}
-use Rattle.swarm_plain.proofs.Legality.{rooms, legal_more}
-use Rattle.swarm_plain.proofs.Committing.{ready_is, of_ready, replayed_more, placed_below, brought_is}
+use Rattle.pool_changes.proofs.Legality.{rooms, legal_more}
+use Rattle.pool_changes.proofs.Growing.{replayed_more, placed_below, brought_is}
+use Rattle.swarm_plain.proofs.Committing.{ready_is, of_ready}
 use Rattle.swarm_plain.proofs.Holding.{kept_sound, kept_history}
 use Rattle.swarm_plain.proofs.list_pool.ListPoolMachine.commit.Goals as goal
 

@@ -9,7 +9,7 @@ use Rattle.swarm_model.specs.MachineState.{MachineState}
 use Rattle.swarm_plain.specs.Plain.{ListPoolState, machine_of}
 use Rattle.swarm_plain.specs.declared.list_pool.Ready.{Ready}
 use Rattle.swarm_plain.specs.Inside.{state_of}
-use Rattle.swarm_plain.proofs.Storing.{held_by, filled_bytes, filled_is}
+use Rattle.pool_changes.proofs.Storing.{held_by, filled_bytes, filled_is}
 use Rattle.swarm_plain.proofs.list_pool.ListPoolMachine.fill.Goals as goal
 
 pub returns : goal.returns

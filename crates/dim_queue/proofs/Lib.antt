@@ -1,0 +1,8 @@
+pub mod Order
+pub mod Positions
+pub mod First
+pub mod Changes
+pub mod Following
+pub mod Next
+pub mod Apart
+pub mod Sets

@@ -1,0 +1,4 @@
+pub mod Order
+pub mod Plain
+pub mod QueueList
+pub mod Inside

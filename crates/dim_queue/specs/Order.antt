@@ -1,0 +1,25 @@
+-- Waiting tasks in the order in which they are given out.
+use Rattle.std.specs.Prelude.{◌≡◌, ◌≢◌, ◌↔◌, ℕ, Bool, true, ◌<◌, ◌==◌, ◌&&◌, ◌||◌, nat_lt, List, Option, None, Some, length, slice_index_or, ◌⊎◌}
+use Rattle.std.specs.List.{Contains}
+use Rattle.dim_queue.specs.declared.waiting.Waiting.{Waiting}
+
+-- the lower priority goes first, and at equal priorities the lower number
+abbrev pub goes_first : Waiting → Waiting → Bool
+goes_first a b = nat_lt a.priority b.priority || (a.priority == b.priority && nat_lt a.number b.number)
+
+-- there is no other task, or this one goes before it
+abbrev pub precedes : Waiting → Option Waiting → Bool
+precedes one None = true
+precedes one (Some other) = goes_first one other
+
+-- each task goes before all that stand behind it in the list
+abbrev pub IsInOrder : List Waiting → Type 0
+IsInOrder tasks = (i j : ℕ) (d : Waiting) → i < j → j < length tasks → goes_first (slice_index_or tasks i d) (slice_index_or tasks j d) ≡ true
+
+-- the list has one task more
+pub record Adds (one : Waiting) (old new : List Waiting) : Type 0 where
+  pub each : (w : Waiting) → Contains new w ↔ ((w ≡ one) ⊎ Contains old w)
+
+-- the list has one task less
+pub record Removes (one : Waiting) (old new : List Waiting) : Type 0 where
+  pub each : (w : Waiting) → Contains new w ↔ (Contains old w × (w ≢ one))

@@ -1,0 +1,25 @@
+//! The tasks of a pool that wait for a bot, in one queue for each set of dimensions.
+//!
+//! [`Queues::first_for`] answers which task a bot gets: of the waiting tasks whose dimensions it
+//! matches, the one of the lowest priority, and at equal priorities the one of the lowest number.
+//! A task waits from `enter` to `leave`. `enter` takes no memory: `reserve` has made room before,
+//! and is the only call that can fail. Contracts say which task waits with which dimensions
+//! (`Waits` in `specs/Plain.antt`); which queue has which place is not promised.
+//!
+//! A queue keeps the priority of a task beside its number, so no row of a task is read here.
+//! `first_for` visits each queue once, `enter` and `leave` search one queue and move at most half
+//! of it, and `reserve` compares its set with that of each queue. No two queues have the same set,
+//! and one without tasks is given to another set before a queue is added. A waiting task takes 35
+//! bytes in full buffers: 8 in its queue and 27 in a map by number. A full buffer doubles, and none
+//! shrinks. The crate stands on `dimensions`.
+#![tactic(auto)]
+
+mod places;
+mod queue;
+mod queue_list;
+mod queues;
+mod tasks;
+mod waiting;
+
+pub use queues::Queues;
+pub use waiting::Waiting;

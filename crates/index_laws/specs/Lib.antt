@@ -1,0 +1,11 @@
+pub mod Touched
+pub mod RowDeadlines
+pub mod Keys
+pub mod TaskQueues
+pub mod TaskClaims
+pub mod TaskUuids
+pub mod DimsToCome
+pub mod StateCounts
+pub mod TaskSources
+pub mod RowSums
+pub mod TaskUses

@@ -1,0 +1,31 @@
+-- The rows go on as the log does.
+use Rattle.std.proofs.Common.{◌≡◌, ℕ, ◌<◌, List, [], ◌∷◌, ◌++◌, length, Option, Some, None, Bor, sym, ap, ◌∙◌, refl, arith}
+use Rattle.std.specs.Prelude.{IfSome}
+use Rattle.std.specs.Option.{option_map}
+use Rattle.sha2.specs.Sha256.{sha256}
+use Rattle.swarm_model.specs.declared.entry.Entry.{Entry}
+use Rattle.swarm_model.specs.declared.entry.EntryKind.{EntryKind}
+use Rattle.swarm_model.specs.declared.pool_settings.PoolSettings.{PoolSettings}
+use Rattle.swarm_model.specs.declared.pool_state.PoolState.{PoolState}
+use Rattle.swarm_model.specs.Bytes.{brings}
+use Rattle.swarm_model.specs.Effects.{opening, after}
+use Rattle.swarm_model.specs.History.{replay}
+use Rattle.swarm_laws.proofs.BlobLaws.{placed_few}
+use Rattle.pool_changes.specs.Blobs.{AreBrought}
+
+replay_push : (s : PoolState) (log : List Entry) (entry : Entry) → replay s (log ++ entry ∷ []) ≡ after (replay s log) entry
+replay_push s [] entry = refl
+replay_push s (e ∷ log) entry = replay_push (after s e) log entry
+
+pub replayed_more : (s old new : PoolState) (log more : List Entry) (entry : Entry) → old ≡ replay s log → more ≡ log ++ entry ∷ [] → new ≡ after old entry → new ≡ replay s more
+replayed_more s old new log more entry is grown changed =
+    changed ∙ ap (λ (o : PoolState). after o entry) is ∙ sym (replay_push s log entry) ∙ ap (replay s) (sym grown)
+
+-- a log of at most so many entries, to which one is added, has placed fewer blobs
+pub placed_below : (settings : PoolSettings) (s : PoolState) (log : List Entry) → s ≡ replay (opening settings) log → length log < settings.most_entries → s.placed < settings.most_entries
+placed_below settings s log is few = let placed = placed_few settings log in let same = ap (λ (p : PoolState). p.placed) is in omega (arith, placed, same, few)
+
+-- bytes that are lent are those that they are
+pub brought_is : (k : EntryKind) (bytes : Option (Bor (List ℕ))) → IfSome bytes (λ b. brings k ≡ Some (sha256 b.now, length b.now)) → AreBrought k (option_map (λ b. b.now) bytes)
+brought_is k None brought = tt
+brought_is k (Some b) brought = brought

@@ -1,0 +1,5 @@
+pub mod Legality
+pub mod Growing
+pub mod Contents
+pub mod Storing
+pub mod BlobEffects

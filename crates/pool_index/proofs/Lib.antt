@@ -1,0 +1,10 @@
+pub mod DeadlineOrder
+pub mod TreeRoot
+pub mod Earliest
+pub mod PlaceSearch
+pub mod LinkSearch
+pub mod ClaimKeys
+pub mod UuidKeys
+pub mod LinkValues
+pub mod SourceKeys
+pub mod UseKeys

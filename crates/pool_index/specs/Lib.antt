@@ -1,0 +1,10 @@
+pub mod Deadlines
+pub mod TreeNodes
+pub mod TreeInside
+pub mod SortedLinks
+pub mod Links
+pub mod LinkInside
+pub mod Claims
+pub mod Uuids
+pub mod Sources
+pub mod Uses

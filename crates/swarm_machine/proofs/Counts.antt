@@ -1,0 +1,24 @@
+-- Counts in the order of the states.
+use Rattle.std.proofs.Common.{◌≡◌, ℕ, true, List, [], ◌∷◌, map, length, slice_index_or, count_by, refl, arith}
+use Rattle.dimensions.proofs.Counting.{count-pass}
+use Rattle.swarm_model.specs.declared.task_state.TaskState.{TaskState}
+use Rattle.swarm_model.specs.declared.task_state.TaskState.TheVariants.{Pending, Running, Expired, TimedOut, BotDied, Canceled, Completed, Killed, NoResource}
+use Rattle.swarm_model.specs.Finding.{state_place}
+use Rattle.swarm_model.specs.History.{states}
+
+-- all items are counted
+pub count_all : {X : Type 0} (xs : List X) → count_by (λ x. true) xs ≡ length xs
+count_all [] = refl
+count_all {X = X} (x ∷ xs) = let rest = count_all xs in let first = count-pass {X = X} (λ y. true) x xs refl in omega (arith, rest, first)
+
+-- the count of a state stands at the place of the state
+pub count_at : (count : TaskState → ℕ) (state : TaskState) → slice_index_or (map count states) (state_place state) 0 ≡ count state
+count_at count Pending = refl
+count_at count Running = refl
+count_at count Expired = refl
+count_at count TimedOut = refl
+count_at count BotDied = refl
+count_at count Canceled = refl
+count_at count Completed = refl
+count_at count Killed = refl
+count_at count NoResource = refl

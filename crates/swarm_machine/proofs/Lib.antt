@@ -1,0 +1,12 @@
+mod Tasks
+mod Holding
+mod Entering
+mod TasksBelow
+mod Finding
+mod NumberedTasks
+mod Following
+mod Counts
+mod Keeping
+mod Committing
+mod UsesChange
+mod UsesFollow

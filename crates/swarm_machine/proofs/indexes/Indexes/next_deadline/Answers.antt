@@ -1,0 +1,13 @@
+-- The earliest of the three that are at hand.
+use Rattle.std.proofs.Common.{Option, ap, ◌∙◌}
+use Rattle.swarm_model.specs.declared.deadline.Deadline.{Deadline}
+use Rattle.pool_index.specs.Deadlines.{earlier_of}
+use Rattle.index_laws.proofs.DeadlineIsNext.{deadline_is_next}
+use Rattle.swarm_machine.proofs.indexes.Indexes.next_deadline.Goals as goal
+
+pub returns : goal.returns
+returns c = λ s sound indexes.
+    let own = c.args.self.now in
+    c.sooner_of.ensures
+    ∙ ap (λ (o : Option Deadline). earlier_of o own.blob_end) c.sooner_of-soonest.ensures
+    ∙ deadline_is_next s sound own.task_ends own.bot_ends indexes.task_ends indexes.bot_ends c.first.result c.first-2.result own.blob_end c.first.ensures.first c.first-2.ensures.first indexes.blob_end

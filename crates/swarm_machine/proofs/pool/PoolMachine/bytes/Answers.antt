@@ -1,0 +1,13 @@
+-- The rows of the blobs tell the size.
+use Rattle.std.proofs.Common.{subst, length, IfSome, IsTrue}
+use Rattle.swarm_model.specs.Finding.{has_blob}
+use Rattle.swarm_machine.specs.Plain.{KeptPool}
+use Rattle.swarm_machine.specs.Inside.{state_of}
+use Rattle.pool_changes.proofs.Storing.{lent_size}
+use Rattle.swarm_machine.proofs.pool.PoolMachine.bytes.Goals as goal
+
+pub returns-clause-sized : goal.returns-clause-sized
+returns-clause-sized c =
+    let rows = c.self.inside.rows in
+    subst (λ (pool : KeptPool). IfSome c.bytes.result (λ b. IsTrue (has_blob pool.pool c.args.digest.now (length b.now)))) c.self.view_is
+    (lent_size (state_of rows) rows.blobs.store.held c.rows-rows.ensures.stored c.args.digest.now c.bytes.result c.bytes.ensures.sized)

@@ -1,0 +1,62 @@
+-- The tasks, the bots and the blobs are changed.
+use Rattle.std.proofs.Common.{◌≡◌, ℕ, Bor, ap, refl, ◌∙◌, List, Option}
+use Rattle.std.specs.Option.{option_map}
+use Rattle.content_store.specs.BlobRows.{BlobRowsState}
+use Rattle.content_store.specs.StoredRows.{rows_in}
+use Rattle.bot_registry.specs.Plain.{RegistryState}
+use Rattle.swarm_model.specs.declared.attempt.Chunk.{Chunk}
+use Rattle.swarm_model.specs.declared.pool_state.PoolState.{PoolState}
+use Rattle.swarm_model.specs.Effects.{life, blobs_in, with_rows, with_blobs, after}
+use Rattle.pool_changes.specs.declared.effects.BlobEffect.{BlobEffect}
+use Rattle.pool_changes.specs.Blobs.{held_in, blob_effect, effect_of, rows_with, held_with}
+use Rattle.pool_changes.proofs.BlobEffects.{with_blobs_is, held_is, can_change, keeps_short}
+use Rattle.swarm_machine.specs.Inside.{state_of}
+use Rattle.swarm_machine.proofs.Holding.{all_few}
+use Rattle.swarm_machine.proofs.Entering.{next_task, follows_bots}
+use Rattle.swarm_machine.proofs.rows.Rows.apply.Goals as goal
+
+pub change_tasks-requires-clause-next : goal.change_tasks-requires-clause-next
+change_tasks-requires-clause-next c = next_task (state_of c.args.self.now) c.args.entry.now c.requires.follows
+
+pub change_tasks-requires-clause-few : goal.change_tasks-requires-clause-few
+change_tasks-requires-clause-few c = all_few (state_of c.args.self.now) c.requires.sound
+
+pub change_tasks-requires-clause-short : goal.change_tasks-requires-clause-short
+change_tasks-requires-clause-short c = keeps_short (state_of c.args.self.now) c.args.entry.now c.requires.follows
+
+pub apply-requires-clause-follows : goal.apply-requires-clause-follows
+apply-requires-clause-follows c =
+    follows_bots (state_of c.args.self.now) c.args.entry.now c.args.self.now.bots refl c.requires.of_settings.bots c.requires.sound c.requires.follows
+
+pub change_blobs-requires-clause-may : goal.change_blobs-requires-clause-may
+change_blobs-requires-clause-may c =
+    let short = rw c.blob_life-life.ensures.value at c.blob_life-life.ensures.short in
+    rw (c.blob_life-life.ensures.value, c.blob_effect-effect.ensures, c.fresh_in.ensures)
+    (can_change (state_of c.args.self.now) c.args.self.now.blobs.store c.requires.of_settings.blobs c.args.entry.now c.requires.sound c.requires.follows _ short c.requires.bytes)
+
+pub returns : goal.returns
+returns c =
+    let old = c.args.self.now in
+    let s = state_of old in
+    let e = c.args.entry.now in
+    let m = e.moment in
+    let k = e.kind in
+    let bytes = option_map (λ (b : Bor (List ℕ)). b.now) c.args.bytes in
+    let pool = c.requires.of_settings.blobs in
+    let tasks = c.change_tasks.ensures s refl c.run_to_end-run.ensures in
+    let bots = c.apply.ensures.rows s refl in
+    let effect : c.blob_effect-effect.result ≡ blob_effect s k = c.blob_effect-effect.ensures ∙ ap (λ (fresh : Option Chunk). effect_of fresh k) c.fresh_in.ensures in
+    let own : rows_in old.blobs ≡ blobs_in s = λ i. (let x : BlobRowsState = record { rows = old.blobs.rows; placed = old.blobs.placed; units = pool.units i } in x) in
+    let blobs : rows_in c.change_blobs.new.blobs ≡ rows_with (life s) m (blob_effect s k) (blobs_in s) =
+    c.change_blobs.ensures.rows ∙ (λ i. rows_with (c.blob_life-life.ensures.value i) m (effect i) (rows_in old.blobs)) ∙ ap (rows_with (life s) m (blob_effect s k)) own in
+    let by_blob : with_rows (rows_in c.change_blobs.new.blobs) s ≡ with_blobs s m k = ap (λ (b : BlobRowsState). with_rows b s) blobs ∙ with_blobs_is s m k in
+    record {
+      settings = refl;
+      state = (λ i. let x : PoolState = record s { last = m; tasks = tasks i; bots = bots i; blobs = c.change_blobs.new.blobs.rows; placed = c.change_blobs.new.blobs.placed } in x)
+          ∙ ap (λ (p : PoolState). let x : PoolState = record p { last = m; tasks = (after s e).tasks; bots = (after s e).bots } in x) by_blob;
+      held = c.change_blobs.ensures.held ∙ ap (λ (f : BlobEffect). held_with f old.blobs.rows bytes (held_in old.blobs)) effect ∙ held_is s k bytes (held_in old.blobs);
+      of_settings = record {
+        blobs = record { units = c.change_blobs.ensures.units ∙ pool.units; names = c.change_blobs.ensures.names ∙ pool.names };
+        bots = ap (λ (r : RegistryState). r.most) c.apply.ensures.rest ∙ c.requires.of_settings.bots;
+      };
+    }

@@ -1,0 +1,139 @@
+//! The deadlines of rows, each at the number of its row.
+ghost use Rattle.std.specs.Prelude.{◌≡◌, map, None, IfSome, slice_set};
+ghost use Rattle.std.specs.List.{fold};
+ghost use Rattle.std.specs.Option.{option_copied};
+ghost use Rattle.swarm_model.specs.Deadlines.{runner_of, silence_end, bot_end, blob_end, sooner};
+ghost use Rattle.swarm_model.specs.Finding.{task_of, bot_of};
+ghost use Rattle.swarm_model.specs.Soundness.{IsSound};
+ghost use Rattle.row_changes.specs.Rows.{IsEarly, IsHeard};
+ghost use Rattle.index_laws.specs.RowDeadlines.{task_deadline, task_deadline_of, bot_deadline_of, put_deadline};
+ghost use Rattle.swarm_machine.specs.Inside.{state_of};
+
+use crate::rows::Rows;
+use pool_index::{DeadlineTree, sooner_of};
+use row_changes::{blob_end, death_of, silence_limit, slice_end};
+use swarm_model::{BlobRow, BotRow, Deadline, TaskRow, TaskState};
+
+fn bot_of(rows: &Rows, number: u32) -> Option<&BotRow>
+    requires { IsSound (state_of rows.now) }
+    ensures value { option_copied result ≡ bot_of (state_of rows.now) number }
+    ensures heard { IfSome (option_copied result) IsHeard }
+{
+    rows.bots.bot(number)
+}
+
+fn task_of(rows: &Rows, number: u32) -> Option<&TaskRow>
+    requires { IsSound (state_of rows.now) }
+    ensures value { option_copied result ≡ task_of (state_of rows.now) number }
+    ensures early { IfSome (option_copied result) IsEarly }
+{
+    rows.tasks.uncounted_row(number)
+}
+
+/// The bot of a run.
+fn runner_of<'a>(rows: &'a Rows, task: &TaskRow) -> Option<&'a BotRow>
+    requires { IsSound (state_of rows.now) }
+    ensures value { option_copied result ≡ runner_of (state_of rows.now) task.now }
+    ensures heard { IfSome (option_copied result) IsHeard }
+{
+    match &task.attempt {
+        Some(attempt) => bot_of(rows, attempt.bot),
+        None => None,
+    }
+}
+
+fn silence_end(rows: &Rows, task: &TaskRow) -> Option<Deadline>
+    requires { IsSound (state_of rows.now) }
+    ensures { result ≡ silence_end (state_of rows.now) task.now }
+{
+    if !task.has_state(TaskState::Running) {
+        return None;
+    }
+    match runner_of(rows, task) {
+        Some(bot) => Some(silence_limit(task, bot)),
+        None => None,
+    }
+}
+
+fn task_deadline(rows: &Rows, task: &TaskRow) -> Option<Deadline>
+    requires sound { IsSound (state_of rows.now) }
+    requires early { IsEarly task.now }
+    ensures { result ≡ task_deadline (state_of rows.now) task.now }
+{
+    if task.has_state(TaskState::Pending) {
+        slice_end(task)
+    } else {
+        silence_end(rows, task)
+    }
+}
+
+/// The deadline of the task of a number.
+fn task_deadline_of(rows: &Rows, number: u32) -> Option<Deadline>
+    requires { IsSound (state_of rows.now) }
+    ensures { result ≡ task_deadline_of (state_of rows.now) number }
+{
+    match task_of(rows, number) {
+        None => None,
+        Some(task) => task_deadline(rows, task),
+    }
+}
+
+fn bot_end(rows: &Rows, bot: &BotRow) -> Option<Deadline>
+    requires { IsHeard bot.now }
+    ensures { result ≡ bot_end (state_of rows.now) bot.now }
+{
+    death_of(rows.settings.death_timeout_secs, bot)
+}
+
+/// The deadline of the bot of a number.
+fn bot_deadline_of(rows: &Rows, number: u32) -> Option<Deadline>
+    requires { IsSound (state_of rows.now) }
+    ensures { result ≡ bot_deadline_of (state_of rows.now) number }
+{
+    match bot_of(rows, number) {
+        None => None,
+        Some(bot) => bot_end(rows, bot),
+    }
+}
+
+/// The deadline at a place, where there is one.
+fn put(ends: &mut DeadlineTree, at: usize, end: Option<Deadline>)
+    ensures { ends.new ≡ slice_set ends.old at end }
+{
+    if at < ends.count() {
+        ends.put(at, end);
+    }
+}
+
+/// The touched task has the deadline of its row from now on.
+pub(crate) fn put_task_deadline(ends: &mut DeadlineTree, touched: Option<u32>, rows: &Rows)
+    requires { IsSound (state_of rows.now) }
+    ensures { ends.new ≡ put_deadline (task_deadline_of (state_of rows.now)) touched ends.old }
+{
+    if let Some(number) = touched {
+        let end = task_deadline_of(rows, number);
+        put(ends, number as usize, end);
+    }
+}
+
+/// The touched bot has the deadline of its row from now on.
+pub(crate) fn put_bot_deadline(ends: &mut DeadlineTree, touched: Option<u32>, rows: &Rows)
+    requires { IsSound (state_of rows.now) }
+    ensures { ends.new ≡ put_deadline (bot_deadline_of (state_of rows.now)) touched ends.old }
+{
+    if let Some(number) = touched {
+        let end = bot_deadline_of(rows, number);
+        put(ends, number as usize, end);
+    }
+}
+
+/// The earliest deadline of the blobs.
+pub(crate) fn first_blob_deadline(blobs: &[BlobRow]) -> Option<Deadline>
+    ensures { result ≡ fold sooner None (map blob_end blobs.now) }
+{
+    let mut soonest = None;
+    for blob in blobs {
+        soonest = sooner_of(soonest, Some(blob_end(blob)));
+    }
+    soonest
+}

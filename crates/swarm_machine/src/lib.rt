@@ -1,0 +1,38 @@
+//! The pool of the program: its rows, their log, and indexes beside them.
+//!
+//! [`Pool`] is a [`Machine`](swarm_model::Machine): its rows are the replay of its log, which is
+//! legal. It answers the queries of `swarm_rules` by indexes that its invariant alone ties to the
+//! rows (`specs/Indexes.antt`, `specs/Invariant.antt`), so its contract is that of any machine.
+//! `pool.rt` has the log and the queries, `rows.rt` the rows, which an entry changes
+//! (`changing_tasks.rt`), and `indexes.rt` the indexes. These are set anew for the rows that an
+//! entry touched (`touched.rt`): deadlines (`deadlines.rt`), queues (`queueing.rt`), sources of
+//! outcomes (`sources.rt`), uses of digests (`uses.rt`) and counts of states (`counting.rt`).
+//! `pages.rt` reads tasks one after another.
+//!
+//! A task or a bot is found at its place by its number, and by bisection by its name, uuid or
+//! claim, and so is the newest source of a hash, and whether a blob is in use. A poll or a claim
+//! reads at most one task row, and matches each set of dimensions with which tasks wait at most
+//! once. The earliest deadline is at hand, and so are the counts; a new deadline of a task or a
+//! bot costs a comparison for each halving of the rows. The sets of a new task are compared with
+//! at most 1,024 that are known, and the one with which it will wait with those of the queues; one
+//! that is not known costs a pass over the bots, and so does a run that is lost by silence.
+//! `commit` takes no memory: `reserve` took it.
+//!
+//! These read one row after another: a page of tasks in one state, as far as it has to look, so
+//! that a rare state costs all of them; a blob by its digest or number; and the earliest deadline
+//! of the blobs, which is looked for where an entry may have changed them.
+#![tactic(auto)]
+
+mod changing_tasks;
+mod counting;
+mod deadlines;
+mod indexes;
+mod pages;
+mod pool;
+mod queueing;
+mod rows;
+mod sources;
+mod touched;
+mod uses;
+
+pub use pool::Pool;

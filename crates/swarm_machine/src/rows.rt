@@ -1,0 +1,122 @@
+//! The rows of a pool, which follow its log.
+ghost use Rattle.std.specs.Prelude.{◌≡◌, ◌<◌, ◌≤◌, ◌^◌, [], IfOk, OnOk};
+ghost use Rattle.std.specs.Option.{option_map};
+ghost use Rattle.swarm_model.specs.Effects.{opening, run_of_bot};
+ghost use Rattle.swarm_model.specs.History.{MayFollow};
+ghost use Rattle.swarm_model.specs.Settings.{keeps_rules};
+ghost use Rattle.swarm_model.specs.Soundness.{IsSound};
+ghost use Rattle.pool_changes.specs.Blobs.{AreBrought, fresh_in};
+ghost use Rattle.swarm_machine.specs.Changing.{run_to_end};
+ghost use Rattle.swarm_machine.specs.Inside.{state_of, IsReadyFor, IsOfSettings, Becomes};
+
+use crate::changing_tasks::change_tasks;
+use bot_registry::Registry;
+use content_store::Blobs;
+use pool_changes::{blob_effect, change_blobs};
+use std::alloc::{AllocError, Global};
+use swarm_model::{Chunk, Entry, EntryKind, PoolSettings};
+use task_rows::TaskRows;
+
+/// The most blobs of a pool.
+const MOST_BLOBS: u32 = 262144;
+
+/// The rows of a pool.
+#[derive(Drop)]
+pub(crate) struct Rows {
+    pub settings: PoolSettings,
+    pub last: u64,
+    pub tasks: TaskRows,
+    pub bots: Registry,
+    pub blobs: Blobs,
+}
+
+impl Rows {
+    /// No task, no bot and no blob yet.
+    pub fn new(alloc: Global, settings: PoolSettings) -> Result<Rows, AllocError>
+        ensures state { IfOk result (λ rows. state_of rows ≡ opening settings) }
+        ensures of_settings { IfOk result IsOfSettings }
+        ensures held { IfOk result (λ rows. rows.blobs.store.held ≡ []) }
+    {
+        let blobs = Blobs::new(alloc, settings.store_units, MOST_BLOBS)?;
+        let bots = Registry::new(alloc, settings.most_bots, settings.death_timeout_secs);
+        Ok(Rows {
+            settings,
+            last: 0,
+            tasks: TaskRows::new(alloc),
+            bots,
+            blobs,
+        })
+    }
+
+    /// Makes ready all that the entry's change of the rows needs.
+    pub fn reserve(&mut self, entry: &Entry) -> Result<(), AllocError>
+        ensures same { state_of self.new ≡ state_of self.old }
+        ensures settings { self.new.settings ≡ self.old.settings }
+        ensures blobs { self.new.blobs ≡ self.old.blobs }
+        ensures most { self.new.bots.most ≡ self.old.bots.most }
+        ensures ready { OnOk result (IsReadyFor self.new entry.now.kind) }
+    {
+        self.tasks.reserve(entry)?;
+        self.bots.reserve(entry)
+    }
+
+    /// The chunk of the entry, where it goes on from the output that is kept.
+    pub fn fresh_in(&self, kind: &EntryKind) -> Option<Chunk>
+        ensures { result ≡ fresh_in (state_of self.now) kind.now }
+    {
+        match kind {
+            EntryKind::Update { t, chunk, .. } => self.tasks.fresh_chunk(*t, *chunk),
+            _ => None,
+        }
+    }
+
+    /// The task that the bot of a number runs.
+    pub fn run_of_bot(&self, b: u32) -> Option<u32>
+        ensures { result ≡ run_of_bot (state_of self.now) b }
+    {
+        match self.bots.bot(b) {
+            Some(bot) => bot.task,
+            None => None,
+        }
+    }
+
+    /// The run that ends where its bot comes with another session.
+    fn run_to_end(&self, kind: &EntryKind) -> Option<u32>
+        ensures { result ≡ run_to_end (state_of self.now) kind.now }
+    {
+        match kind {
+            EntryKind::Handshake { b, .. } => self.run_of_bot(*b),
+            _ => None,
+        }
+    }
+
+    /// How many seconds a blob is kept.
+    fn blob_life(&self) -> u64
+        ensures value { result ≡ self.now.settings.blob_life_secs }
+        ensures short { result ≤ 2 ^ 32 }
+    {
+        u64::from(self.settings.blob_life_secs)
+    }
+
+    /// What the entry does, which was made ready just before; the bytes of a blob that it places are
+    /// held. It takes no memory.
+    pub fn apply(&mut self, entry: &Entry, bytes: Option<&[u8]>)
+        requires sound { IsSound (state_of self.old) }
+        requires follows { MayFollow (state_of self.old) entry.now }
+        requires ready { IsReadyFor self.old entry.now.kind }
+        requires of_settings { IsOfSettings self.old }
+        requires few { self.old.blobs.placed < self.old.settings.most_entries }
+        requires bytes { AreBrought entry.now.kind (option_map (λ b. b.now) bytes) }
+        ensures { Becomes self.old self.new entry.now.moment entry.now.kind (option_map (λ b. b.now) bytes.entry) }
+    {
+        let effect = blob_effect(&entry.kind, self.fresh_in(&entry.kind));
+        let life = self.blob_life();
+        let run = self.run_to_end(&entry.kind);
+        // For the proof: the limits of the settings.
+        let _most = self.settings.most_entries;
+        change_tasks(&mut self.tasks, run, entry);
+        self.bots.apply(entry);
+        change_blobs(&mut self.blobs, life, entry.moment, effect, bytes);
+        self.last = entry.moment;
+    }
+}

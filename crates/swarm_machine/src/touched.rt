@@ -1,0 +1,65 @@
+//! Which rows an entry may change, told before it changes them.
+ghost use Rattle.std.specs.Prelude.{◌≡◌};
+ghost use Rattle.std.specs.Option.{option_map};
+ghost use Rattle.index_laws.specs.Touched.{attempt_bot_in, touched_task, touched_bot};
+ghost use Rattle.swarm_machine.specs.Inside.{state_of};
+
+use crate::rows::Rows;
+use swarm_model::{Attempt, EntryKind};
+
+fn bot_of_run(attempt: &Option<Attempt>) -> Option<u32>
+    ensures { result ≡ option_map (λ run. run.bot) attempt.now }
+{
+    match attempt {
+        None => None,
+        Some(attempt) => Some(attempt.bot),
+    }
+}
+
+/// The bot of the run of the task of a number.
+fn runner_of(rows: &Rows, number: u32) -> Option<u32>
+    ensures { result ≡ attempt_bot_in rows.now.tasks.rows number }
+{
+    match rows.tasks.uncounted_row(number) {
+        None => None,
+        Some(task) => bot_of_run(&task.attempt),
+    }
+}
+
+/// The task whose row or whose deadline the entry may change.
+pub(crate) fn touched_task(rows: &Rows, kind: &EntryKind) -> Option<u32>
+    ensures { result ≡ touched_task (state_of rows.now) kind.now }
+{
+    match kind {
+        EntryKind::Slice { t, .. }
+        | EntryKind::Silence { t }
+        | EntryKind::New { t, .. }
+        | EntryKind::Cancel { t }
+        | EntryKind::Kill { t }
+        | EntryKind::Claim { t, .. }
+        | EntryKind::Update { t, .. } => Some(*t),
+        EntryKind::Handshake { b, .. }
+        | EntryKind::Poll { b, .. }
+        | EntryKind::Contact { b }
+        | EntryKind::Event { b, .. } => rows.run_of_bot(*b),
+        _ => None,
+    }
+}
+
+/// The bot whose row the entry may change.
+pub(crate) fn touched_bot(rows: &Rows, kind: &EntryKind) -> Option<u32>
+    ensures { result ≡ touched_bot (state_of rows.now) kind.now }
+{
+    match kind {
+        EntryKind::Silence { t } => runner_of(rows, *t),
+        EntryKind::Dead { b }
+        | EntryKind::Handshake { b, .. }
+        | EntryKind::Poll { b, .. }
+        | EntryKind::Claim { b, .. }
+        | EntryKind::Contact { b }
+        | EntryKind::Event { b, .. }
+        | EntryKind::Update { b, .. }
+        | EntryKind::Terminate { b } => Some(*b),
+        _ => None,
+    }
+}

@@ -1,0 +1,177 @@
+//! How often the tasks of a pool use each digest.
+ghost use Rattle.std.specs.Prelude.{◌≡◌, ℕ, ◌+◌, ◌<◌, ◌≤◌, ◌^◌, List, IfSome, OnOk};
+ghost use Rattle.std.specs.List.{All, count_by};
+ghost use Rattle.std.specs.Option.{option_copied, option_map_or};
+ghost use Rattle.swarm_model.specs.Uses.{is_chunk_of, is_file_of};
+ghost use Rattle.pool_index.specs.Uses.{uses_of, IsListed, SameUses, StaysListed};
+ghost use Rattle.index_laws.specs.StateCounts.{touched_row};
+ghost use Rattle.index_laws.specs.TaskUses.{chunks_with, times_named, uses_of_slices};
+ghost use Rattle.swarm_machine.specs.Uses.{AreInputsListed, AreListedFor, IsChunkOf, uses_of_chunk, uses_brought, Gains, Loses, HasRoomFor, HasUsesFor};
+ghost use Rattle.swarm_machine.specs.Inside.{state_of};
+ghost use Rattle.swarm_machine.specs.UsesBehind.{AreUses, UsesAreBehind};
+
+use crate::indexes::Touched;
+use crate::rows::Rows;
+use pool_index::UseCounts;
+use std::alloc::AllocError;
+use swarm_model::{Attempt, Chunk, Entry, EntryKind, TaskRow};
+use task_props::{Digest, File, Slice};
+
+fn list_digest(uses: &mut UseCounts, digest: &Digest) -> Result<(), AllocError>
+    ensures same { SameUses uses.old uses.new }
+    ensures kept { StaysListed uses.old uses.new }
+    ensures ok { OnOk result (IsListed uses.new digest.now) }
+{
+    uses.reserve(&[*digest])
+}
+
+fn list_inputs(uses: &mut UseCounts, inputs: &[File]) -> Result<(), AllocError>
+    ensures same { SameUses uses.old uses.new }
+    ensures kept { StaysListed uses.old uses.new }
+    ensures ok { OnOk result (All (λ file. IsListed uses.new file.digest) inputs.now) }
+{
+    for file in inputs {
+        list_digest(uses, &file.digest)?;
+    }
+    Ok(())
+}
+
+fn list_slices(uses: &mut UseCounts, slices: &[Slice]) -> Result<(), AllocError>
+    ensures same { SameUses uses.old uses.new }
+    ensures kept { StaysListed uses.old uses.new }
+    ensures ok { OnOk result (All (AreInputsListed uses.new) slices.now) }
+{
+    for slice in slices {
+        list_inputs(uses, slice.properties.inputs.as_slice())?;
+    }
+    Ok(())
+}
+
+/// Lists the digests that the entry brings, so that their uses can be counted without memory.
+pub(crate) fn list_uses(uses: &mut UseCounts, kind: &EntryKind) -> Result<(), AllocError>
+    ensures same { SameUses uses.old uses.new }
+    ensures ok { OnOk result (AreListedFor uses.new kind.now) }
+{
+    match kind {
+        EntryKind::New { request, .. } => list_slices(uses, request.task_slices.as_slice()),
+        EntryKind::Update {
+            chunk: Some(chunk),
+            ..
+        } => list_digest(uses, &chunk.digest),
+        _ => Ok(()),
+    }
+}
+
+fn add_inputs(uses: &mut UseCounts, inputs: &[File])
+    requires listed { All (λ file. IsListed uses.old file.digest) inputs.now }
+    requires small { HasRoomFor (λ digest. count_by (is_file_of digest) inputs.now) uses.old }
+    ensures gains { Gains (λ digest. count_by (is_file_of digest) inputs.now) uses.old uses.new }
+    ensures kept { StaysListed uses.old uses.new }
+{
+    for file in inputs {
+        uses.add(&file.digest);
+    }
+}
+
+fn add_slices(uses: &mut UseCounts, slices: &[Slice])
+    requires listed { All (AreInputsListed uses.old) slices.now }
+    requires small { HasRoomFor (λ digest. uses_of_slices digest slices.now) uses.old }
+    ensures gains { Gains (λ digest. uses_of_slices digest slices.now) uses.old uses.new }
+{
+    for slice in slices {
+        add_inputs(uses, slice.properties.inputs.as_slice());
+    }
+}
+
+fn add_chunk(uses: &mut UseCounts, chunk: Option<Chunk>)
+    requires listed { IfSome chunk (λ c. IsListed uses.old c.digest) }
+    requires small { HasRoomFor (uses_of_chunk chunk) uses.old }
+    ensures gains { Gains (uses_of_chunk chunk) uses.old uses.new }
+{
+    if let Some(chunk) = chunk {
+        uses.add(&chunk.digest);
+    }
+}
+
+/// Counts the uses that the entry brings. `fresh` is its chunk, where that goes on from the output.
+fn add_uses(uses: &mut UseCounts, kind: &EntryKind, fresh: Option<Chunk>)
+    requires listed { AreListedFor uses.old kind.now }
+    requires fresh { IsChunkOf kind.now fresh }
+    requires small { (digest : List ℕ) → uses_of uses.old digest + uses_brought fresh kind.now digest < 2 ^ 32 }
+    ensures { (digest : List ℕ) → uses_of uses.new digest ≡ uses_of uses.old digest + uses_brought fresh kind.now digest }
+{
+    match kind {
+        EntryKind::New { request, .. } => add_slices(uses, request.task_slices.as_slice()),
+        EntryKind::Update { .. } => add_chunk(uses, fresh),
+        _ => {}
+    }
+}
+
+fn remove_inputs(uses: &mut UseCounts, inputs: &[File])
+    requires { HasUsesFor (λ digest. count_by (is_file_of digest) inputs.now) uses.old }
+    ensures { Loses (λ digest. count_by (is_file_of digest) inputs.now) uses.old uses.new }
+{
+    for file in inputs {
+        uses.remove(&file.digest);
+    }
+}
+
+fn remove_slices(uses: &mut UseCounts, slices: &[Slice])
+    requires { HasUsesFor (λ digest. uses_of_slices digest slices.now) uses.old }
+    ensures { Loses (λ digest. uses_of_slices digest slices.now) uses.old uses.new }
+{
+    for slice in slices {
+        remove_inputs(uses, slice.properties.inputs.as_slice());
+    }
+}
+
+fn remove_chunks(uses: &mut UseCounts, chunks: &[Chunk])
+    requires { HasUsesFor (λ digest. count_by (is_chunk_of digest) chunks.now) uses.old }
+    ensures { Loses (λ digest. count_by (is_chunk_of digest) chunks.now) uses.old uses.new }
+{
+    for chunk in chunks {
+        uses.remove(&chunk.digest);
+    }
+}
+
+fn remove_output(uses: &mut UseCounts, attempt: &Option<Attempt>)
+    requires { HasUsesFor (λ digest. option_map_or (chunks_with digest) attempt.now 0) uses.old }
+    ensures { Loses (λ digest. option_map_or (chunks_with digest) attempt.now 0) uses.old uses.new }
+{
+    if let Some(attempt) = attempt {
+        remove_chunks(uses, attempt.chunks.as_slice());
+    }
+}
+
+/// Takes off the uses of a task that has ended: its inputs, and the chunks of its output.
+fn remove_uses(uses: &mut UseCounts, task: &TaskRow)
+    requires { (digest : List ℕ) → times_named digest task.now ≤ uses_of uses.old digest }
+    ensures { (digest : List ℕ) → uses_of uses.new digest + times_named digest task.now ≡ uses_of uses.old digest }
+{
+    remove_slices(uses, task.request.task_slices.as_slice());
+    remove_output(uses, &task.attempt);
+}
+
+/// The row of a task, where there is a number and such a task.
+fn row_of(rows: &Rows, number: Option<u32>) -> Option<&TaskRow>
+    ensures { option_copied result ≡ touched_row (state_of rows.now) number }
+{
+    rows.tasks.uncounted_row(number?)
+}
+
+/// Follows an entry, after which the rows are these: it counts the uses that the entry brings, and
+/// takes off those of a task that has ended by it.
+pub(crate) fn follow_uses(uses: &mut UseCounts, entry: &Entry, touched: Touched, rows: &Rows)
+    requires { UsesAreBehind uses.old entry.now touched rows.now }
+    ensures { AreUses uses.new (state_of rows.now) }
+{
+    add_uses(uses, &entry.kind, touched.fresh);
+    match row_of(rows, touched.task) {
+        None => {}
+        Some(task) => {
+            if task.state.is_final() {
+                remove_uses(uses, task);
+            }
+        }
+    }
+}
