@@ -239,7 +239,8 @@ class Bench:
 
 
 def shown(figures):
-    return f"{figures[0]:.0f}", f"{figures[1]:.3f}", f"{figures[2]:.3f}"
+    """The cells of a server's figures; wrk times no requests that go out in one write, and tells 0 for them."""
+    return f"{figures[0]:.0f}", *(f"{it:.3f}" if it else "" for it in figures[1:])
 
 
 def milliseconds(found):
