@@ -1,10 +1,8 @@
 ghost use Rattle.std.specs.Prelude.{◌≡◌, ◌≤◌, IfOk, length};
 ghost use Rattle.runners.specs.Calls.{FitsRoom};
 
-use crate::paths::is_env_key;
-use crate::tools::{await_group, signal_group};
-use crate::work_folder::read_file;
 use dimensions::Text;
+use run_folders::{await_group, is_env_key, read_file, signal_group};
 use runners::Look;
 use std::io::{ErrorKind, Read};
 use std::os::unix::process::ExitStatusExt;

@@ -6,7 +6,8 @@
 //! started in a session of its own, so that a signal reaches all that it starts. Nothing that a task
 //! names, be it an input, an output or a cache, leads out of the work folder, and no symbolic link is
 //! followed on the way. Each call waits for a limited time only: for a process that was ended two
-//! seconds, for its group one more, and for each program of the system 300.
+//! seconds, for its group one more, and for each program of the system 300. The files of these folders are
+//! those of `run_folders`.
 //!
 //! Proved is that each call is safe and ends, and that it fails only where the count of faults rose.
 //! What the system does is not proved. And some of it can't be had: that a signal is delivered, that a
@@ -15,11 +16,7 @@
 //! trusted are `sh`, `setsid`, `timeout`, `du` and `chmod`.
 #![tactic(auto)]
 
-mod caches;
 mod child_run;
-mod paths;
 mod shell_runner;
-mod tools;
-mod work_folder;
 
 pub use shell_runner::ShellRunner;

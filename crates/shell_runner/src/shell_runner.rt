@@ -2,12 +2,13 @@ ghost use Rattle.std.specs.Prelude.{◌≡◌, None, IfOk, length};
 ghost use Rattle.sw_base.specs.Faults.{Rose};
 ghost use Rattle.runners.specs.Calls.{FitsRoom};
 
-use crate::caches::{cache_sizes, keep_caches, move_all_back, move_all_in};
 use crate::child_run::ChildRun;
-use crate::paths::is_name;
-use crate::work_folder::{read_output, remove_folder, write_input};
 use bot_core::Signal;
 use dimensions::{Seq, Text};
+use run_folders::{
+    cache_sizes, is_name, keep_caches, move_all_back, move_all_in, read_output, remove_folder,
+    write_input,
+};
 use runners::{CachePath, CollectFault, Look, PreparedCache, Runner};
 use std::io::ErrorKind;
 use std::process::Processes;

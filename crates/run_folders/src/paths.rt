@@ -1,7 +1,7 @@
 //! Names and paths that lead nowhere else.
 
 /// Whether a text is the name of something in a folder: it isn't empty, `.` or `..`, and has no `/`.
-pub(crate) fn is_name(text: &str) -> bool {
+pub fn is_name(text: &str) -> bool {
     !text.is_empty() && text != "." && text != ".." && !text.contains('/')
 }
 
@@ -22,7 +22,7 @@ pub(crate) fn depth(path: &str) -> usize {
 
 /// Whether a text can be the key of an environment: letters, digits and `_`, of which the first is no
 /// digit.
-pub(crate) fn is_env_key(key: &str) -> bool {
+pub fn is_env_key(key: &str) -> bool {
     let bytes = key.as_bytes();
     if bytes.is_empty() || bytes[0].is_ascii_digit() {
         return false;

@@ -21,7 +21,7 @@ fn run_tool<R: Processes + AllocGlobal>(rt: &R, words: &[&str]) -> io::Result<Ou
 }
 
 /// Sends a signal, by its name without `SIG`, to a process group. Whether there is such a group.
-pub(crate) fn signal_group<R: Processes + AllocGlobal>(
+pub fn signal_group<R: Processes + AllocGlobal>(
     rt: &R,
     signal: &str,
     group: u32,
@@ -33,7 +33,7 @@ pub(crate) fn signal_group<R: Processes + AllocGlobal>(
 
 /// Waits for a second at most until no process of a group is left. Ended ones for which nobody has
 /// waited count as left.
-pub(crate) fn await_group<R: Processes + AllocGlobal>(rt: &R, group: u32) -> io::Result<()> {
+pub fn await_group<R: Processes + AllocGlobal>(rt: &R, group: u32) -> io::Result<()> {
     let group = format!(in rt.alloc(); "{group}")?;
     run_tool(rt, &["sh", "-c", AWAIT, "sh", group.as_str()])?;
     Ok(())

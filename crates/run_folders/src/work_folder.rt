@@ -71,7 +71,7 @@ pub(crate) fn has_folder<R: Files + AllocGlobal>(
 }
 
 /// Writes a file, in place of a file or a link that is there.
-pub(crate) fn write_input<R: Files + AllocGlobal>(
+pub fn write_input<R: Files + AllocGlobal>(
     rt: &R,
     work: &str,
     path: &str,
@@ -96,7 +96,7 @@ pub(crate) fn write_input<R: Files + AllocGlobal>(
 /// # Errors
 ///
 /// What is there is no file.
-pub(crate) fn read_file<R: Files + AllocGlobal>(
+pub fn read_file<R: Files + AllocGlobal>(
     rt: &R,
     name: &str,
     most: u64,
@@ -115,7 +115,7 @@ pub(crate) fn read_file<R: Files + AllocGlobal>(
 }
 
 /// The bytes of the file at a path of a folder, as `read_file` answers them.
-pub(crate) fn read_output<R: Files + AllocGlobal>(
+pub fn read_output<R: Files + AllocGlobal>(
     rt: &R,
     work: &str,
     path: &str,
@@ -129,10 +129,7 @@ pub(crate) fn read_output<R: Files + AllocGlobal>(
 }
 
 /// Removes a folder with all that is in it, where it is there.
-pub(crate) fn remove_folder<R: Files + Processes + AllocGlobal>(
-    rt: &R,
-    folder: &str,
-) -> io::Result<()> {
+pub fn remove_folder<R: Files + Processes + AllocGlobal>(rt: &R, folder: &str) -> io::Result<()> {
     match fs::remove_dir_all(rt, folder) {
         Ok(()) => return Ok(()),
         Err(error) if error.kind() == ErrorKind::NotFound => return Ok(()),

@@ -78,7 +78,7 @@ fn deepest_prepared(caches: &[PreparedCache]) -> usize {
 }
 
 /// Moves the caches of a run to their paths.
-pub(crate) fn move_all_in<R: Files + Processes + AllocGlobal>(
+pub fn move_all_in<R: Files + Processes + AllocGlobal>(
     rt: &R,
     kept: &str,
     work: &str,
@@ -120,7 +120,7 @@ fn deepest_of(caches: &[CachePath]) -> usize {
 }
 
 /// Moves the caches of a run back from its work folder.
-pub(crate) fn move_all_back<R: Files + Processes + AllocGlobal>(
+pub fn move_all_back<R: Files + Processes + AllocGlobal>(
     rt: &R,
     kept: &str,
     work: &str,
@@ -137,7 +137,7 @@ pub(crate) fn move_all_back<R: Files + Processes + AllocGlobal>(
 }
 
 /// The sizes of kept caches, in their order. One that has no folder is made, empty.
-pub(crate) fn cache_sizes<R: Files + Processes + AllocGlobal>(
+pub fn cache_sizes<R: Files + Processes + AllocGlobal>(
     rt: &R,
     kept: &str,
     caches: &[CachePath],
@@ -159,7 +159,7 @@ pub(crate) fn cache_sizes<R: Files + Processes + AllocGlobal>(
 }
 
 /// Removes the kept caches whose names aren't these.
-pub(crate) fn keep_caches<R: Files + Processes + AllocGlobal + Clone + Drop>(
+pub fn keep_caches<R: Files + Processes + AllocGlobal + Clone + Drop>(
     rt: &R,
     kept: &str,
     names: &[Text],
