@@ -29,20 +29,21 @@
 
 mod action_text;
 mod course;
+mod course_rows;
 mod event_text;
 mod fault;
-mod folder;
 mod playing;
 mod reading;
 
-use crate::folder::play_folder;
+use crate::course_rows::CourseRows;
 use std::process::ExitCode;
 use std::{env, io};
+use test_folders::check_folder;
 
 fn main(rt: HostRuntime) -> io::Result<ExitCode> {
     let word = env::args(&rt)?.nth(1);
     let folder = word.as_ref().map_or(".", |it| it.as_str());
-    Ok(if play_folder(&rt, folder)? {
+    Ok(if check_folder(&rt, folder, &CourseRows)? {
         ExitCode::SUCCESS
     } else {
         ExitCode::FAILURE

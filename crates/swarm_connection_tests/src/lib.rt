@@ -8,6 +8,8 @@
 //! - an input that is cut behind each of its bytes, which would take 252 transcripts;
 //! - kept records that were changed between two runs.
 //!
+//! Each makes its door itself by `test_sessions`, over the machine of the program, and is served by
+//! `session`, so that the tests have none of the words, the client and the bot.
 //! The crate has no code that runs.
 #![tactic(auto)]
 

@@ -1,10 +1,11 @@
 //! Two runs over one store, in memory and in a real file: the second run goes on from the records
-//! that the first one left, and memory and file keep the same.
+//! that the first one left, and memory and file keep the same. A run is one of `session` over a door
+//! that is made here of what the store has, under the open settings.
 //!
 //! The first run answers the requests of a drill of three cycles. The second one counts the tasks,
 //! so much later that each bot is dead and each piece of output is removed. The program prints what
-//! is kept after each run and the last answer, and ends with the status of the run, of a store that
-//! fails (4) or of want of memory (5); where memory and file differ it says so.
+//! is kept after each run and the last answer, and ends with status 4 where a run or the store fails,
+//! and 5 for want of memory; where memory and file differ it says so.
 #![tactic(auto)]
 
 mod records;

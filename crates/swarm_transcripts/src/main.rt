@@ -6,12 +6,13 @@
 
 use std::process::ExitCode;
 use std::{env, io};
-use transcript_runs::run_folder;
+use tested_programs::run_folder;
+use transcript_runs::ProgramRuns;
 
 fn main(rt: HostRuntime) -> io::Result<ExitCode> {
     let word = env::args(&rt)?.nth(1);
     let folder = word.as_ref().map_or(".", |it| it.as_str());
-    Ok(if run_folder(&rt, folder)? {
+    Ok(if run_folder(&rt, folder, &ProgramRuns)? {
         ExitCode::SUCCESS
     } else {
         ExitCode::FAILURE

@@ -3,13 +3,13 @@
 ghost use Rattle.std.specs.Prelude.{◌≤◌, length, None};
 
 use crate::tests::NEW_TASK;
-use runners::MemoryRunner;
 use std::alloc::{AllocError, Global};
-use std::collections::VecDeque;
 use std::test::Fail;
-use sw_base::{Failed, Link, MemoryDialer, MemoryFiles, MemoryListener, StepClock};
-use swarm_cli::run;
-use swarm_keeper::MemoryStore;
+use sw_base::{Failed, Link, StepClock};
+use swarm_http::Ended;
+use swarm_machine::Pool;
+use swarm_policy::open_settings;
+use test_sessions::serve_new;
 
 /// It gives its request so many times, each after the reply to the one before was flushed. A read
 /// that comes sooner fails.
@@ -99,24 +99,9 @@ fn a_client_that_waits_for_each_reply(rt: HostRuntime) -> Result<(), Fail> {
         step: 0,
         waited: 0,
     };
-    let mut files = MemoryFiles::new(Vec::new(alloc), Vec::new(alloc));
-    let mut store = MemoryStore::new(alloc, Vec::new(alloc), Vec::new(alloc));
-    let words = vec![in alloc; String::from_str(alloc, "session")?]?;
-    let mut listener = MemoryListener::new(alloc, Vec::new(alloc));
-    let mut dialer = MemoryDialer::new(alloc, Vec::new(alloc));
-    let mut runner = MemoryRunner::new(alloc, VecDeque::new(alloc));
-    let status = run(
-        alloc,
-        &words,
-        &mut link,
-        &mut clock,
-        &mut files,
-        &mut store,
-        &mut listener,
-        &mut dialer,
-        &mut runner,
-    );
-    assert_eq!(rt; status, 0);
+    let settings = open_settings(alloc)?;
+    let ended = serve_new::<Pool, TurnLink, StepClock>(alloc, &settings, &mut link, &mut clock)?;
+    assert_eq!(rt; ended, Ended::Closed);
     assert_eq!(rt; link.answered(), 3);
     Ok(())
 }

@@ -1,5 +1,5 @@
 use Rattle.std.proofs.Common.{◌≡◌, length}
-use Rattle.plain_runs.proofs.plain_program.no_keepers.Given as goal
+use Rattle.test_sessions.proofs.serving.no_keepers.Given as goal
 
 abbrev pub invariant-loop-pool : goal.invariant-loop-pool
 invariant-loop-pool l = length l.keepers.items ≡ l._pool-index

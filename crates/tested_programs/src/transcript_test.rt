@@ -1,0 +1,20 @@
+use std::alloc::Global;
+use transcript::{Transcript, TranscriptError};
+
+/// How the transcripts of a folder are run: over the machine of the program, and over the one that scans
+/// lists.
+pub trait TranscriptTest {
+    /// Runs a transcript and those that go on with its store, and answers whether it did.
+    ///
+    /// # Errors
+    ///
+    /// The first thing that differs, and want of memory.
+    fn check(&self, alloc: Global, runs: &[Transcript]) -> Result<bool, TranscriptError>;
+
+    /// Does the same over machines that scan lists.
+    ///
+    /// # Errors
+    ///
+    /// As `check`.
+    fn check_over_lists(&self, alloc: Global, runs: &[Transcript]) -> Result<bool, TranscriptError>;
+}
