@@ -17,6 +17,9 @@ that was sent to the last that came, by the number of calls. "Many" is 100000, o
   tasks. What GetResult takes by itself is subtracted.
 - blobs: PutBlob of a new small blob, and the removal of a blob whose life is over, among few and many
   blobs. A life is a minute at least, so this part takes 75 seconds; with --quick nothing is removed.
+- holes: PutBlob of a new blob of one unit, and its removal at the end of its life, where every second unit
+  of the region is a hole, among few and many of them. The part takes two and a half minutes; with --quick
+  it is left out.
 - uuids: 10000 NewTasks with uuids that collide under simple hashes, and with random ones, and the same
   requests sent again.
 - memory: what the server's resident memory grows by for a waiting task, that of examples/lab.sh with the
@@ -91,7 +94,7 @@ LONGEST = 0.5
 SLICE_SECS = 4
 PAUSE = 2
 # What is wanted of the figures: so many times as long at most, bytes at most, and times as many at least.
-MOST_CALL, MOST_CONNECTION, MOST_DEADLINE, MOST_UUID, MOST_MEMORY, LEAST_CLAIMS = 2, 1.5, 1.5, 2, 4096, 20
+MOST_CALL, MOST_CONNECTION, MOST_DEADLINE, MOST_BLOB, MOST_HOLE, MOST_UUID, MOST_MEMORY, LEAST_CLAIMS = 2, 1.5, 1.5, 2, 5, 2, 4096, 20
 # The task of examples/lab.sh, whose input is a file with this text.
 GREETING = b"Hello from the lab.\n"
 GREET = (
@@ -148,14 +151,14 @@ def limited(link):
     return link
 
 
-def task_of(number, sets, secs):
+def task_of(number, sets, secs, priorities):
     """A NewTask of the set `number % sets`: the pool, and of ten keys those whose bits are in that number."""
     pairs = b"".join(b',{"key":"k%d","value":"v"}' % key for key in range(KEYS) if number % sets >> key & 1)
     body = (
         b'{"priority":%d,"task_slices":[{"expiration_secs":%d,"properties":'
         b'{"command":["true"],"dimensions":[{"key":"pool","value":"default"}%s]}}]}'
     )
-    return request(b"NewTask", body % (number % PRIORITIES, secs, pairs))
+    return request(b"NewTask", body % (number % priorities, secs, pairs))
 
 
 def put(content, caller=b"ana"):
@@ -170,8 +173,9 @@ def parts_of(items, size):
 class Pool:
     """A server that was started anew, and a connection to it."""
 
-    def __init__(self, bench, settings=None, sets=1, bots=0):
-        self.bench, self.sets, self.link, self.asked, self.heard = bench, sets, None, 0, 0
+    def __init__(self, bench, settings=None, sets=1, bots=0, priorities=PRIORITIES):
+        self.bench, self.sets, self.priorities = bench, sets, priorities
+        self.link, self.asked, self.heard = None, 0, 0
         path = settings or bench.settings(WEEK, UNITS)
         port = free_port()
         self.server = Server([bench.program, "serve", "--settings", path, "--address", f"{HOST}:{port}"], port, bench.of_server)
@@ -209,8 +213,8 @@ class Pool:
         self.tasks += count
         if len(self.bots) == 1:
             for number in numbers:
-                heapq.heappush(self.waiting, (number % PRIORITIES, number))
-        return [task_of(number, self.sets, secs) for number in numbers]
+                heapq.heappush(self.waiting, (number % self.priorities, number))
+        return [task_of(number, self.sets, secs, self.priorities) for number in numbers]
 
     def fill(self, count):
         for some in parts_of(range(count), FILLING):
@@ -425,8 +429,10 @@ class Bench:
         ]
 
     def measure_deadlines(self):
-        kinds = list(itertools.product((1, 10), (FEW, self.many)))
-        pools = {kind: Pool(self, None, kind[0], 1) for kind in kinds}
+        # (sets and priorities: of one priority alone, the tasks that come last also stand last in their queue)
+        mixes = ((1, PRIORITIES), (10, PRIORITIES), (1, 1))
+        kinds = list(itertools.product(mixes, (FEW, self.many)))
+        pools = {(mix, size): Pool(self, None, mix[0], 1, mix[1]) for mix, size in kinds}
         for (_, size), pool in pools.items():
             pool.fill(size)
         look = request(b"GetResult", b'{"task_id":"10"}')
@@ -447,12 +453,13 @@ class Bench:
         for pool in pools.values():
             pool.end()
         rows, cases = ["| What | microseconds | times as long |", "|---|---|---|"], []
-        for sets in (1, 10):
-            few, many = (("deadline", sets, size) for size in (FEW, self.many))
+        for mix in mixes:
+            few, many = (("deadline", mix, size) for size in (FEW, self.many))
             ratio = self.times(many, few)
-            cases.append((ratio, f"among {self.many} tasks as among {FEW}, in {counted(sets, 'set')}"))
-            rows.append(f"| A deadline settled among {FEW} waiting tasks, in {counted(sets, 'set')} | {self.best[few]:.1f} | |")
-            rows.append(f"| A deadline settled among {self.many} waiting tasks, in {counted(sets, 'set')} | {self.best[many]:.1f} | {ratio:.2f} |")
+            where = f"in {counted(mix[0], 'set')} with {mix[1]} priorities" if mix[1] > 1 else f"in {counted(mix[0], 'set')} with one priority"
+            cases.append((ratio, f"among {self.many} tasks as among {FEW}, {where}"))
+            rows.append(f"| A deadline settled among {FEW} waiting tasks, {where} | {self.best[few]:.1f} | |")
+            rows.append(f"| A deadline settled among {self.many} waiting tasks, {where} | {self.best[many]:.1f} | {ratio:.2f} |")
         self.want("A deadline settled", cases, MOST_DEADLINE)
         return rows
 
@@ -503,6 +510,59 @@ class Bench:
                 few, many = self.best[kind, FEW], self.best[kind, self.many]
                 rows.append(f"| {name} among {FEW} blobs | {few:.1f} | |")
                 rows.append(f"| {name} among {self.many} blobs | {many:.1f} | {many / few:.2f} |")
+                self.want(name.rstrip(","), [(many / few, f"among {self.many} blobs as among {FEW}")], MOST_BLOB)
+        return rows
+
+    def measure_holes(self):
+        rows = ["| What | microseconds | times as long |", "|---|---|---|"]
+        if self.quick:
+            return rows
+        pools = {size: Pool(self, self.settings(LIFE, MOST_UNITS)) for size in (FEW, self.many)}
+        look = bot_request(b"/blobs/default", b'{"blobs":[]}')
+        fresh = itertools.count(2 * self.many)
+
+        def keep_every(step):
+            for size, pool in pools.items():
+                for some in parts_of(range(0, 2 * size, step), FILLING):
+                    pool.ask([put(b"%d" % number) for number in some])
+
+        began = time.time()
+        keep_every(1)
+        filled = time.time()
+        # The blobs of the odd numbers end before the others, and leave holes of one unit.
+        time.sleep(max(began + LIFE - 15 - time.time(), 0))
+        keep_every(2)
+        if time.time() > began + LIFE:
+            tell("no holes, since filling the pools took longer than the life of a blob")
+            return rows
+        time.sleep(filled + LIFE + 1.1 - time.time())
+        fronts = {size: pool.settle(look)[1] for size, pool in pools.items()}
+        placed = []
+        for _ in range(self.rounds):
+            for size, pool in pools.items():
+                self.keep(("place", size), 1000000 * pool.ask([put(b"%d" % next(fresh)) for _ in range(BATCH)])[0] / BATCH)
+            placed.append(time.time())
+            time.sleep(PAUSE)
+        tell("PutBlob into holes")
+        keep_every(2)
+        fronts = {size: pool.settle(look)[1] for size, pool in pools.items()}
+        for place, at in enumerate(placed):
+            time.sleep(max(at + LIFE + 1.1 - time.time(), 0))
+            for size, pool in pools.items():
+                seconds, front = pool.settle(look)
+                if front - fronts[size] != BATCH:
+                    sys.exit("%d blobs were removed, and not %d" % (front - fronts[size], BATCH))
+                fronts[size] = front
+                alone = min(pool.settle(look)[0] for _ in range(10))
+                self.keep(("free", size), 1000000 * (seconds - alone) / BATCH)
+            tell(f"the removal of blobs among holes, round {place + 1}")
+        for pool in pools.values():
+            pool.end()
+        for kind, name in (("place", "PutBlob into a hole,"), ("free", "A blob removed between two others,")):
+            few, many = self.best[kind, FEW], self.best[kind, self.many]
+            rows.append(f"| {name} among {FEW} holes | {few:.1f} | |")
+            rows.append(f"| {name} among {self.many} holes | {many:.1f} | {many / few:.2f} |")
+            self.want(name.rstrip(","), [(many / few, f"among {self.many} holes as among {FEW}")], MOST_HOLE)
         return rows
 
     def measure_uuids(self):
@@ -732,6 +792,7 @@ PARTS = {
     "connection": ("A long connection", Bench.measure_connection),
     "deadlines": ("Deadlines", Bench.measure_deadlines),
     "blobs": ("Blobs", Bench.measure_blobs),
+    "holes": ("Holes", Bench.measure_holes),
     "uuids": ("Uuids that collide", Bench.measure_uuids),
     "memory": ("Memory", Bench.measure_memory),
     "claims": ("Claims beside PostgreSQL", Bench.measure_claims),

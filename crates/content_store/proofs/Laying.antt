@@ -2,23 +2,23 @@
 use Rattle.std.proofs.Common.{◌≡◌, ℕ, suc, ◌+◌, ◌≤◌, ◌<◌, Bool, true, false, not, cond, List, [], ◌∷◌, ◌++◌, length, get_or, take, drop, map, Option, Some, None, refl, sym, ap, ◌∙◌, subst, arith}
 use Rattle.std.specs.Bool.{OnTrue}
 use Rattle.std.specs.Option.{option_map}
-use Rattle.std.specs.List.{count_by, insert, remove, All, Contains}
+use Rattle.std.specs.List.{insert, remove, All, Contains}
 use Rattle.std.specs.List.Sorted.{IsStrictlySortedBy}
 use Rattle.std.proofs.lemmas.List.{map-append, map-id, take-map, drop-map, length-map, get_or-map}
+use Rattle.std.proofs.lemmas.List.Edits.{length-insert, length-remove}
 use Rattle.std.proofs.lemmas.List.Kept.{IsStrictlySortedBy-filter}
 use Rattle.std.proofs.lemmas.List.Quantifiers.{all_pairs_remove}
 use Rattle.std.proofs.lemmas.List.Elements.{All-append, All-cons, All-take, All-drop}
 use Rattle.region.specs.declared.extent.Extent.{Extent}
 use Rattle.region.specs.Places.{least_place, is_free, overlaps}
-use Rattle.region.specs.Extents.{LieInOrder, extent_at, with_extent, without_extent, AreApart}
-use Rattle.region.specs.SameItems.{SameItems}
+use Rattle.region.specs.Extents.{extent_at, without_extent, AreApart}
 use Rattle.region.specs.Plain.{RegionState}
+use Rattle.region.specs.FreeUnits.{AreHolesBeside, AreInUse}
 use Rattle.region.proofs.Overlaps.{insert-apart}
 use Rattle.content_store.specs.Contents.{Content, digest_cmp, units_of, extent_of, content_of, with_content, unfilled_content, without_content, same_digest}
 use Rattle.content_store.specs.Slots.{digest_of, extent_of_slot, content_in, part_of, IsAt, BelongsAt, AreLaidOut, IsThere, AreThere}
-use Rattle.region.proofs.SameItems.{insert-same, cons-same, same-trans, same-sym, remove-same, cancel-same}
-use Rattle.region.proofs.Gaps.{least_place-free, least_place-same}
-use Rattle.region.proofs.Apart.{with_extent-same, without_extent-same, there-same}
+use Rattle.region.proofs.LeastPlaces.{least_place-free}
+use Rattle.region.proofs.InUse.{remove-is}
 use Rattle.content_store.specs.declared.slot.Slot.{Slot}
 use Rattle.content_store.proofs.ByDigest.{name_of, find_at, belongs_find, insert-sorted, remove_named, with_content-is}
 
@@ -60,39 +60,35 @@ module _ {X : Type 0} (P : X → Type 0) where
   All-removed xs i all = All-append P (take i xs) (drop (suc i) xs) (All-take P i xs all) (All-drop P (suc i) xs all)
 
 module _ (layout : RegionState) (slots : List Slot) (i : ℕ) (slot : Slot) (laid : AreLaidOut layout slots) (belongs : BelongsAt (map digest_of slots) slot.digest i)
-    (least : least_place layout.live layout.units (units_of slot.size) ≡ Some slot.at) where
+    (least : least_place (map extent_of_slot slots) layout.units (units_of slot.size) ≡ Some slot.at) where
   within : i ≤ length slots
   within = omega (arith, belongs.within, length-map slots digest_of)
 
   free : (slot.at + units_of slot.size ≤ layout.units) × (is_free (map extent_of_slot slots) (units_of slot.size) slot.at ≡ true)
-  free = least_place-free (map extent_of_slot slots) layout.units (units_of slot.size) slot.at (least_place-same (map extent_of_slot slots) layout.live layout.units (units_of slot.size) laid.extents ∙ least)
+  free = least_place-free (map extent_of_slot slots) layout.units (units_of slot.size) slot.at least
 
-  pub added-laid : LieInOrder 0 layout.units (with_extent (extent_of_slot slot) layout.live) →
-      AreLaidOut (record layout { live = with_extent (extent_of_slot slot) layout.live }) (insert slots i slot)
-  added-laid lie =
+  pub added-laid : (next : RegionState) → next.units ≡ layout.units → next.most ≡ layout.most → length slots < layout.most →
+      AreHolesBeside next (insert (map extent_of_slot slots) i (extent_of_slot slot)) → AreLaidOut next (insert slots i slot)
+  added-laid next units most few holes =
       let extents : List Extent = map extent_of_slot slots in
-      let e : Extent = extent_of_slot slot in
       let low : i ≤ length extents = omega (arith, within, length-map slots extent_of_slot) in
       record {
         sorted = subst (λ (l : List (List ℕ)). IsStrictlySortedBy digest_cmp l) (sym (map-insert digest_of slots i slot)) (insert-sorted slot.digest (map digest_of slots) i laid.sorted belongs);
-        extents = subst (λ (l : List Extent). SameItems l (with_extent e layout.live)) (sym (map-insert extent_of_slot slots i slot))
-            (same-trans (insert extents i e) (e ∷ extents) (with_extent e layout.live) (insert-same extents i e)
-            (same-trans (e ∷ extents) (e ∷ layout.live) (with_extent e layout.live) (cons-same e extents layout.live laid.extents)
-            (same-sym (with_extent e layout.live) (e ∷ layout.live) (with_extent-same e layout.live))));
-        apart = subst (λ (l : List Extent). AreApart l) (sym (map-insert extent_of_slot slots i slot)) (insert-apart extents i e low laid.apart free.1);
-        inside = All-inserted (λ s. s.at + units_of s.size ≤ layout.units) slots i slot free.0 laid.inside;
-        in_order = lie;
+        few = omega (arith, few, most, length-insert slots i slot within);
+        apart = subst (λ (l : List Extent). AreApart l) (sym (map-insert extent_of_slot slots i slot)) (insert-apart extents i (extent_of_slot slot) low laid.apart free.1);
+        inside = subst (λ (n : ℕ). All (λ s. s.at + units_of s.size ≤ n) (insert slots i slot)) (sym units) (All-inserted (λ s. s.at + units_of s.size ≤ layout.units) slots i slot free.0 laid.inside);
+        holes = subst (λ (l : List Extent). AreHolesBeside next l) (sym (map-insert extent_of_slot slots i slot)) holes;
       }
 
   pub added-holds : slot.is_filled ≡ false → (bytes : List ℕ) →
-      map (content_in bytes) (insert slots i slot) ≡ with_content (unfilled_content slot.digest slot.size (extent_of_slot slot)) (map (content_in bytes) slots)
+      map (content_in bytes) (insert slots i slot) ≡ with_content (unfilled_content slot.digest slot.size slot.number (extent_of_slot slot)) (map (content_in bytes) slots)
   added-holds empty bytes =
       let held = map (content_in bytes) slots in
-      let content : content_in bytes slot ≡ unfilled_content slot.digest slot.size (extent_of_slot slot) =
-      ap (λ (t : Bool). let c : Content = record { digest = slot.digest; size = slot.size; extent = extent_of_slot slot; bytes = cond t (Some (part_of bytes slot)) None } in c) empty in
+      let content : content_in bytes slot ≡ unfilled_content slot.digest slot.size slot.number (extent_of_slot slot) =
+      ap (λ (t : Bool). let c : Content = record { digest = slot.digest; size = slot.size; number = slot.number; extent = extent_of_slot slot; bytes = cond t (Some (part_of bytes slot)) None } in c) empty in
       map-insert (content_in bytes) slots i slot
       ∙ ap (λ (c : Content). insert held i c) content
-      ∙ with_content-is held i (unfilled_content slot.digest slot.size (extent_of_slot slot)) (subst (λ (l : List (List ℕ)). BelongsAt l slot.digest i) (sym (names_in bytes slots)) belongs)
+      ∙ with_content-is held i (unfilled_content slot.digest slot.size slot.number (extent_of_slot slot)) (subst (λ (l : List (List ℕ)). BelongsAt l slot.digest i) (sym (names_in bytes slots)) belongs)
 
   pub added-there : slot.is_filled ≡ false → (bytes : List ℕ) → AreThere bytes slots → AreThere bytes (insert slots i slot)
   added-there empty bytes there =
@@ -115,11 +111,22 @@ held_at bytes slots name i d sorted at =
     (ap (λ (l : List (List ℕ)). get_or l i []) names ∙ at.is)
     ∙ ap (λ (c : Content). Some c) (get_or-map (content_in bytes) slots i d (content_in bytes d) low)
 
--- where a content finds its place asks the region's list alone
-pub place_same : (bytes : List ℕ) (layout : RegionState) (slots : List Slot) (n : ℕ) → AreLaidOut layout slots →
-    least_place (map extent_of (map (content_in bytes) slots)) layout.units n ≡ least_place layout.live layout.units n
-place_same bytes layout slots n laid =
-    ap (λ (l : List Extent). least_place l layout.units n) (extents_in bytes slots) ∙ least_place-same (map extent_of_slot slots) layout.live layout.units n laid.extents
+-- where nothing was placed
+pub kept-laid : (layout next : RegionState) (slots : List Slot) → AreLaidOut layout slots → next.units ≡ layout.units → next.most ≡ layout.most →
+    AreHolesBeside next (map extent_of_slot slots) → AreLaidOut next slots
+kept-laid layout next slots laid units most holes =
+    record {
+      sorted = laid.sorted;
+      few = omega (arith, laid.few, most);
+      apart = laid.apart;
+      inside = subst (λ (n : ℕ). All (λ s. s.at + units_of s.size ≤ n) slots) (sym units) laid.inside;
+      holes = holes;
+    }
+
+-- where a content finds its place asks for the extents of the slots alone
+pub place_same : (bytes : List ℕ) (units : ℕ) (slots : List Slot) (n : ℕ) →
+    least_place (map extent_of (map (content_in bytes) slots)) units n ≡ least_place (map extent_of_slot slots) units n
+place_same bytes units slots n = ap (λ (l : List Extent). least_place l units n) (extents_in bytes slots)
 
 -- ---- a slot less
 
@@ -138,28 +145,34 @@ module _ (layout : RegionState) (slots : List Slot) (i : ℕ) (d : Slot) (laid :
   at_gone : get_or (map extent_of_slot slots) i gone ≡ gone
   at_gone = get_or-map extent_of_slot slots i d gone low
 
-  there : Contains (map extent_of_slot slots) gone
-  there = (i, omega (arith, low, length-map slots extent_of_slot), at_gone)
+  pub gone_there : Contains (map extent_of_slot slots) gone
+  gone_there = (i, omega (arith, low, length-map slots extent_of_slot), at_gone)
 
-  pub removed-live : Contains layout.live gone
-  removed-live = there-same (map extent_of_slot slots) layout.live gone laid.extents there
+  pub slots_in_use : AreInUse layout (map extent_of_slot slots)
+  slots_in_use =
+      record {
+        few = omega (arith, laid.few, length-map slots extent_of_slot);
+        inside = λ k e under.
+            let d : Slot = get_or slots i d in
+            let within : k < length slots = omega (arith, under, length-map slots extent_of_slot) in
+            subst (λ (x : Extent). x.at + x.units ≤ layout.units) (sym (get_or-map extent_of_slot slots k d e within)) (laid.inside k d within);
+        apart = laid.apart;
+        holes = laid.holes;
+      }
 
-  pub removed-laid : LieInOrder 0 layout.units (without_extent gone layout.live) →
-      AreLaidOut (record layout { live = without_extent gone layout.live }) (remove slots i)
-  removed-laid lie =
+  pub removed-laid : (next : RegionState) → next.units ≡ layout.units → next.most ≡ layout.most →
+      AreHolesBeside next (without_extent gone (map extent_of_slot slots)) → AreLaidOut next (remove slots i)
+  removed-laid next units most holes =
       let extents : List Extent = map extent_of_slot slots in
       let far : i < length extents = omega (arith, low, length-map slots extent_of_slot) in
-      let left : SameItems extents (gone ∷ remove extents i) = subst (λ (e : Extent). SameItems extents (e ∷ remove extents i)) at_gone (remove-same extents i gone far) in
-      let right : SameItems layout.live (gone ∷ without_extent gone layout.live) = without_extent-same layout.live layout.units gone laid.in_order removed-live in
+      let left : map extent_of_slot (remove slots i) ≡ without_extent gone extents =
+      map-remove extent_of_slot slots i ∙ remove-is extents i gone laid.apart laid.holes.some far at_gone in
       record {
         sorted = subst (λ (l : List (List ℕ)). IsStrictlySortedBy digest_cmp l) (sym (map-remove digest_of slots i)) (remove-sorted (map digest_of slots) i (omega (arith, low, length-map slots digest_of)) laid.sorted);
-        extents = subst (λ (l : List Extent). SameItems l (without_extent gone layout.live)) (sym (map-remove extent_of_slot slots i))
-            (cancel-same gone (remove extents i) (without_extent gone layout.live)
-            (same-trans (gone ∷ remove extents i) extents (gone ∷ without_extent gone layout.live) (same-sym extents (gone ∷ remove extents i) left)
-            (same-trans extents layout.live (gone ∷ without_extent gone layout.live) laid.extents right)));
+        few = omega (arith, laid.few, most, length-remove slots i low);
         apart = subst (λ (l : List Extent). AreApart l) (sym (map-remove extent_of_slot slots i)) (all_pairs_remove (λ a b. overlaps a.at a.units b ≡ false) extents i far laid.apart);
-        inside = All-removed (λ s. s.at + units_of s.size ≤ layout.units) slots i laid.inside;
-        in_order = lie;
+        inside = subst (λ (n : ℕ). All (λ s. s.at + units_of s.size ≤ n) (remove slots i)) (sym units) (All-removed (λ s. s.at + units_of s.size ≤ layout.units) slots i laid.inside);
+        holes = subst (λ (l : List Extent). AreHolesBeside next l) (sym left) holes;
       }
 
 pub removed-holds : (bytes : List ℕ) (slots : List Slot) (name : List ℕ) (i : ℕ) → IsStrictlySortedBy digest_cmp (map digest_of slots) → IsAt (map digest_of slots) name i →
@@ -185,16 +198,15 @@ kept-holds bytes slots name i belongs = sym (none_out name (map (content_in byte
         by_test false none rest = ap (λ (l : List Content). c ∷ l) (rest none)
 
 -- where nothing is held yet
-pub empty-laid : (layout : RegionState) (slots : List Slot) → LieInOrder 0 layout.units layout.live → layout.live ≡ [] → slots ≡ [] → AreLaidOut layout slots
+pub empty-laid : (layout : RegionState) (slots : List Slot) → AreHolesBeside layout [] → slots ≡ [] → AreLaidOut layout slots
 unfolding IsStrictlySortedBy
-empty-laid layout slots lie none empty =
-    let nothing : SameItems (map extent_of_slot []) layout.live = λ test. ap (λ (l : List Extent). count_by test l) (sym none) in
+empty-laid layout slots holes empty =
     subst (λ (l : List Slot). AreLaidOut layout l) (sym empty) (record {
       sorted = tt;
-      extents = nothing;
+      few = omega arith;
       apart = λ i j d less low. absurd (omega arith);
       inside = λ k d low. absurd (omega arith);
-      in_order = lie;
+      holes = holes;
     })
 
 pub empty-there : (bytes : List ℕ) (slots : List Slot) → slots ≡ [] → AreThere bytes slots

@@ -7,4 +7,5 @@ pub mod Telling
 pub mod Texts
 pub mod Counts
 pub mod Tied
+pub mod Numbered
 pub mod Puts

@@ -10,8 +10,8 @@ use Rattle.sha2.specs.Sha256.{sha256}
 use Rattle.region.specs.declared.extent.Extent.{Extent}
 use Rattle.region.specs.Places.{overlaps}
 use Rattle.region.specs.Extents.{AreApart}
-use Rattle.region.specs.SameItems.{SameItems}
 use Rattle.region.specs.Plain.{RegionState}
+use Rattle.region.specs.FreeUnits.{AreHolesBeside}
 use Rattle.region.proofs.Overlaps.{clear_of, one_first}
 use Rattle.content_store.specs.Contents.{Content, digest_cmp, units_of, filled_with}
 use Rattle.content_store.specs.Slots.{digest_of, extent_of_slot, content_in, part, part_of, IsAt, AreLaidOut, IsThere, AreThere, AreBeside, IsWritten, filled_slot}
@@ -70,14 +70,14 @@ module _ (layout : RegionState) (slots : List Slot) (i : ℕ) (d : Slot) (old ne
     other_content k under other = by_test (get_or slots k d).is_filled (other_part k under other)
       where
         by_test : (t : Bool) → (t ≡ true → part_of new (get_or slots k d) ≡ part_of old (get_or slots k d)) →
-            ◌≡◌ {A = Content} (record { digest = (get_or slots k d).digest; size = (get_or slots k d).size; extent = extent_of_slot (get_or slots k d); bytes = cond t (Some (part_of new (get_or slots k d))) None })
-            (record { digest = (get_or slots k d).digest; size = (get_or slots k d).size; extent = extent_of_slot (get_or slots k d); bytes = cond t (Some (part_of old (get_or slots k d))) None })
-        by_test true same = ap (λ (b : List ℕ). let c : Content = record { digest = (get_or slots k d).digest; size = (get_or slots k d).size; extent = extent_of_slot (get_or slots k d); bytes = Some b } in c) (same refl)
+            ◌≡◌ {A = Content} (record { digest = (get_or slots k d).digest; size = (get_or slots k d).size; number = (get_or slots k d).number; extent = extent_of_slot (get_or slots k d); bytes = cond t (Some (part_of new (get_or slots k d))) None })
+            (record { digest = (get_or slots k d).digest; size = (get_or slots k d).size; number = (get_or slots k d).number; extent = extent_of_slot (get_or slots k d); bytes = cond t (Some (part_of old (get_or slots k d))) None })
+        by_test true same = ap (λ (b : List ℕ). let c : Content = record { digest = (get_or slots k d).digest; size = (get_or slots k d).size; number = (get_or slots k d).number; extent = extent_of_slot (get_or slots k d); bytes = Some b } in c) (same refl)
         by_test false same = refl
 
     own_content : content_in new (filled_slot slot) ≡ record (content_in old slot) { bytes = Some content }
     own_content =
-        ap (λ (b : List ℕ). let c : Content = record { digest = slot.digest; size = slot.size; extent = extent_of_slot slot; bytes = Some b } in c)
+        ap (λ (b : List ℕ). let c : Content = record { digest = slot.digest; size = slot.size; number = slot.number; extent = extent_of_slot slot; bytes = Some b } in c)
         (ap (λ (n : ℕ). part (slot.at * 64) n new) sized ∙ written.there)
 
     pub filled-holds : IsStrictlySortedBy digest_cmp (map digest_of slots) → (name : List ℕ) → IsAt (map digest_of slots) name i →
@@ -127,8 +127,8 @@ marked-laid layout slots i d low laid =
     let extents : map extent_of_slot (set slots i (filled_slot slot)) ≡ map extent_of_slot slots = map-set_same extent_of_slot slots i (filled_slot slot) d refl in
     record {
       sorted = subst (λ (l : List (List ℕ)). IsStrictlySortedBy digest_cmp l) (sym names) laid.sorted;
-      extents = subst (λ (l : List Extent). SameItems l layout.live) (sym extents) laid.extents;
+      few = omega (arith, laid.few, length-set slots i (filled_slot slot));
       apart = subst (λ (l : List Extent). AreApart l) (sym extents) laid.apart;
       inside = All-set (λ s. s.at + units_of s.size ≤ layout.units) slots i (filled_slot slot) (laid.inside i d low) laid.inside;
-      in_order = laid.in_order;
+      holes = subst (λ (l : List Extent). AreHolesBeside layout l) (sym extents) laid.holes;
     }

@@ -39,15 +39,15 @@ rows_after-other Present other rows placed store deadline digest size = refl
 rows_after-other NoNames other rows placed store deadline digest size = refl
 rows_after-other NoRoom other rows placed store deadline digest size = refl
 
-pub held_after_hold-other : (h : Held) → ((e : Extent) → h ≡ Placed e → ⊥) → (digest : List ℕ) (size : ℕ) (held : List Content) → held_after_hold h digest size held ≡ held
-held_after_hold-other (Placed extent) other digest size held = absurd (other extent refl)
-held_after_hold-other Present other digest size held = refl
-held_after_hold-other NoNames other digest size held = refl
-held_after_hold-other NoRoom other digest size held = refl
+pub held_after_hold-other : (h : Held) → ((e : Extent) → h ≡ Placed e → ⊥) → (digest : List ℕ) (size number : ℕ) (held : List Content) → held_after_hold h digest size number held ≡ held
+held_after_hold-other (Placed extent) other digest size number held = absurd (other extent refl)
+held_after_hold-other Present other digest size number held = refl
+held_after_hold-other NoNames other digest size number held = refl
+held_after_hold-other NoRoom other digest size number held = refl
 
 -- the store after an answer
-abbrev pub store_after : ContentStoreState → List ℕ → ℕ → Held → ContentStoreState
-store_after store digest size h = record store { held = held_after_hold h digest size store.held }
+abbrev pub store_after : ContentStoreState → List ℕ → ℕ → ℕ → Held → ContentStoreState
+store_after store digest size number h = record store { held = held_after_hold h digest size number store.held }
 
 some_from : (o : Option BlobRow) → is_some o ≡ true → (row : BlobRow) × (o ≡ Some row)
 some_from None is = absurd (cc)
@@ -79,9 +79,9 @@ module _ (rows : List BlobRow) (placed : ℕ) (store : ContentStoreState) (store
         (option_map_or (λ place. record before { rows = rows ++ new_blob before deadline digest size place ∷ []; placed = placed + 1 }) (place_for before size) before))
         (some_from (blob_of rows digest) there).1
 
-    pub store-present : store ≡ store_after store digest size (hold_result store digest size)
+    pub store-present : store ≡ store_after store digest size (placed + 1) (hold_result store digest size)
     store-present =
-        sym (ap (store_after store digest size) (ap (λ (t : Bool). cond t Present
+        sym (ap (store_after store digest size (placed + 1)) (ap (λ (t : Bool). cond t Present
         (cond (leb store.names (length store.held)) NoNames (by_room (least_place (map extent_of store.held) store.units (units_of size)))))
         (held_is rows placed store.held stored digest ∙ there)))
 

@@ -6,10 +6,11 @@ use Rattle.std.proofs.lemmas.List.{length-map}
 use Rattle.region.specs.declared.extent.Extent.{Extent}
 use Rattle.region.specs.Places.{least_place}
 use Rattle.region.specs.Extents.{extent_at}
-use Rattle.region.specs.Plain.{RegionState, free_extent}
+use Rattle.region.specs.Plain.{RegionState}
+use Rattle.region.specs.FreeUnits.{least_extent}
 use Rattle.content_store.specs.Contents.{Content, same_digest, is_held_with_size, units_of, content_of}
 use Rattle.content_store.specs.Plain.{fill_result, hold_result, place_for}
-use Rattle.content_store.specs.Slots.{digest_of, content_in, state_in, IsAt, BelongsAt, AreLaidOut}
+use Rattle.content_store.specs.Slots.{digest_of, extent_of_slot, content_in, state_in, IsAt, BelongsAt, AreLaidOut}
 use Rattle.content_store.specs.declared.slot.Slot.{Slot}
 use Rattle.content_store.specs.declared.held.Held.{Held}
 use Rattle.content_store.specs.declared.held.Held.TheVariants.{Placed, Present, NoNames, NoRoom}
@@ -49,12 +50,12 @@ module _ (layout : RegionState) (names : ℕ) (bytes : List ℕ) (slots : List S
       sym (ap by_content (not_held bytes slots digest i belongs) ∙ ap by_names (le-leb names (length held) (omega (arith, many))))
 
   pub told_room : (i : ℕ) → BelongsAt (map digest_of slots) digest i → length slots < names →
-      answered (free_extent layout (units_of size)) ≡ hold_result (state_in layout.units names bytes slots) digest size
+      answered (least_extent (map extent_of_slot slots) layout.units (units_of size)) ≡ hold_result (state_in layout.units names bytes slots) digest size
   told_room i belongs few =
       sym (ap by_content (not_held bytes slots digest i belongs)
       ∙ ap by_names (lt-leb names (length held) (omega (arith, many)))
-      ∙ ap (λ (o : Option ℕ). option_map_or (λ at. Placed (extent_at (units_of size) at)) o NoRoom) (place_same bytes layout slots (units_of size) laid)
-      ∙ sym (by_place (units_of size) (least_place layout.live layout.units (units_of size))))
+      ∙ ap (λ (o : Option ℕ). option_map_or (λ at. Placed (extent_at (units_of size) at)) o NoRoom) (place_same bytes layout.units slots (units_of size))
+      ∙ sym (by_place (units_of size) (least_place (map extent_of_slot slots) layout.units (units_of size))))
 
 -- ---- bytes that are brought
 

@@ -10,7 +10,7 @@ use Rattle.region.specs.declared.extent.Extent.{Extent}
 use Rattle.region.specs.Places.{least_place}
 use Rattle.region.specs.SameItems.{SameItems}
 use Rattle.region.proofs.SameItems.{pass, list_any-same, filter-same, length-same}
-use Rattle.region.proofs.Gaps.{least_place-same}
+use Rattle.region.proofs.LeastPlaces.{least_place-same}
 use Rattle.content_store.specs.declared.filled.Filled.{Filled}
 use Rattle.content_store.specs.declared.filled.Filled.TheVariants.{Done, Differs, Unknown}
 use Rattle.content_store.specs.Contents.{Content, same_digest, is_named, is_held, extent_of, with_content, without_content, filled_with}

@@ -1,16 +1,18 @@
 -- Contents by their digests, sorted by them.
 use Rattle.std.specs.Prelude.{ℕ, Bool, false, ◌+◌, ◌/◌, max, not, nat_eq, List, [], ◌∷◌, Option, None, Some, is_some, if◌then◌else◌}
 use Rattle.std.specs.List.{find, filter}
-use Rattle.std.specs.Option.{option_map_or, option_and_then}
+use Rattle.std.specs.Option.{option_map, option_map_or, option_and_then}
 use Rattle.std.specs.Ordering.{nat_cmp, is_lt}
 use Rattle.std.specs.Cmp.Lexicographic.{slice_cmp, pointwise}
 use Rattle.std.specs.declared.cmp.Ordering.{Ordering}
 use Rattle.region.specs.declared.extent.Extent.{Extent}
 
--- a name that is held, its digest: how many bytes it stands for, the extent where they lie, and the bytes once they came
+-- a name that is held, its digest: how many bytes it stands for, the number that it was given, the extent where the bytes lie,
+-- and the bytes once they came
 pub record Content : Type 0 where
   pub digest : List ℕ
   pub size : ℕ
+  pub number : ℕ
   pub extent : Extent
   pub bytes : Option (List ℕ)
 
@@ -42,6 +44,10 @@ is_held held digest = is_some (content_of held digest)
 abbrev pub is_held_with_size : List Content → List ℕ → ℕ → Bool
 is_held_with_size held digest size = option_map_or (λ content. nat_eq content.size size) (content_of held digest) false
 
+-- the number of a name that is held
+abbrev pub number_of : List Content → List ℕ → Option ℕ
+number_of held digest = option_map (λ content. content.number) (content_of held digest)
+
 -- the bytes that are held under a name
 abbrev pub bytes_of : List Content → List ℕ → Option (List ℕ)
 bytes_of held digest = option_and_then (λ content. content.bytes) (content_of held digest)
@@ -49,8 +55,8 @@ bytes_of held digest = option_and_then (λ content. content.bytes) (content_of h
 -- ---- a content more, one less, and one whose bytes came
 
 -- a content whose bytes have not come
-abbrev pub unfilled_content : List ℕ → ℕ → Extent → Content
-unfilled_content digest size extent = record { digest = digest; size = size; extent = extent; bytes = None }
+abbrev pub unfilled_content : List ℕ → ℕ → ℕ → Extent → Content
+unfilled_content digest size number extent = record { digest = digest; size = size; number = number; extent = extent; bytes = None }
 
 -- a content among those sorted by digest, in its place
 abbrev pub with_content : Content → List Content → List Content

@@ -12,5 +12,5 @@ pub record IsKept (store : Inside) : Type 0 where
   pub laid_out : AreLaidOut store.region store.slots.items
   pub there : AreThere store.bytes.items store.slots.items
   pub names : store.names ≤ store.region.most
-  pub slots_room : store.names ≤ vec_capacity store.slots
+  pub slots_room : store.names ≤ store.slots.room
   pub bytes_room : store.region.units * 64 ≤ vec_capacity store.bytes

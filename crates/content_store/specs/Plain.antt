@@ -27,12 +27,12 @@ hold_result store digest size =
     else if nat_le store.names (length store.held) then NoNames
     else option_map_or (λ at. Placed (extent_at (units_of size) at)) (place_for store size) NoRoom
 
--- what is held after that answer
-abbrev pub held_after_hold : Held → List ℕ → ℕ → List Content → List Content
-held_after_hold (Placed extent) digest size held = with_content (unfilled_content digest size extent) held
-held_after_hold Present digest size held = held
-held_after_hold NoNames digest size held = held
-held_after_hold NoRoom digest size held = held
+-- what is held after that answer, where the name was given this number
+abbrev pub held_after_hold : Held → List ℕ → ℕ → ℕ → List Content → List Content
+held_after_hold (Placed extent) digest size number held = with_content (unfilled_content digest size number extent) held
+held_after_hold Present digest size number held = held
+held_after_hold NoNames digest size number held = held
+held_after_hold NoRoom digest size number held = held
 
 -- what becomes of bytes that are brought under a name
 abbrev pub fill_result : List Content → List ℕ → List ℕ → Filled

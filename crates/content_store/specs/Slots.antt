@@ -6,9 +6,9 @@ use Rattle.std.specs.List.Sorted.{IsStrictlySortedBy}
 use Rattle.std.specs.declared.cmp.Ordering.TheVariants.{Less, Greater}
 use Rattle.sha2.specs.Sha256.{sha256}
 use Rattle.region.specs.declared.extent.Extent.{Extent}
-use Rattle.region.specs.Extents.{extent_at, LieInOrder, AreApart}
-use Rattle.region.specs.SameItems.{SameItems}
+use Rattle.region.specs.Extents.{extent_at, AreApart}
 use Rattle.region.specs.Plain.{RegionState}
+use Rattle.region.specs.FreeUnits.{AreHolesBeside}
 use Rattle.content_store.specs.declared.slot.Slot.{Slot}
 use Rattle.content_store.specs.Contents.{Content, digest_cmp, units_of}
 use Rattle.content_store.specs.Plain.{ContentStoreState}
@@ -51,6 +51,7 @@ content_in bytes slot =
     record {
       digest = slot.digest;
       size = slot.size;
+      number = slot.number;
       extent = extent_of_slot slot;
       bytes = if slot.is_filled then Some (part_of bytes slot) else None;
     }
@@ -73,13 +74,13 @@ pub record BelongsAt (names : List (List ℕ)) (name : List ℕ) (index : ℕ) :
   pub below : (k : ℕ) → k < index → digest_cmp (slice_index_or names k []) name ≡ Less
   pub above : (k : ℕ) → index ≤ k → k < length names → digest_cmp (slice_index_or names k []) name ≡ Greater
 
--- the slots are sorted by digest, and their extents are those in use in the region: apart, and inside
+-- the slots are sorted by digest, and their extents are those in use in the region: apart, inside, and beside its holes
 pub record AreLaidOut (region : RegionState) (slots : List Slot) : Type 0 where
   pub sorted : IsStrictlySortedBy digest_cmp (map digest_of slots)
-  pub extents : SameItems (map extent_of_slot slots) region.live
+  pub few : length slots ≤ region.most
   pub apart : AreApart (map extent_of_slot slots)
   pub inside : All (λ slot. slot.at + units_of slot.size ≤ region.units) slots
-  pub in_order : LieInOrder 0 region.units region.live
+  pub holes : AreHolesBeside region (map extent_of_slot slots)
 
 -- the bytes of a slot are there, and have its digest
 pub record IsThere (bytes : List ℕ) (slot : Slot) : Type 0 where

@@ -28,19 +28,20 @@ held_without (Some row) held = without_content row.digest held
 
 -- ---- what ties the rows to the store
 
--- a digest with the size and the extent of its content
+-- a digest with the size, the number and the extent of its content
 pub record Stored : Type 0 where
   pub digest : List ℕ
   pub size : ℕ
+  pub number : ℕ
   pub extent : Extent
 
 abbrev pub stored_row : BlobRow → Stored
-stored_row row = record { digest = row.digest; size = row.size; extent = row.extent }
+stored_row row = record { digest = row.digest; size = row.size; number = row.no; extent = row.extent }
 
 abbrev pub stored_content : Content → Stored
-stored_content content = record { digest = content.digest; size = content.size; extent = content.extent }
+stored_content content = record { digest = content.digest; size = content.size; number = content.number; extent = content.extent }
 
--- the store holds exactly the digests of the rows, each with its size and at its extent; no digest
+-- the store holds exactly the digests of the rows, each with its size, its number and at its extent; no digest
 -- and no number stands twice, and no number is above that of the last blob that was placed
 pub record AreStored (rows : List BlobRow) (placed : ℕ) (held : List Content) : Type 0 where
   pub same : SameItems (map stored_row rows) (map stored_content held)

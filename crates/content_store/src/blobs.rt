@@ -1,4 +1,4 @@
-ghost use Rattle.std.specs.Prelude.{◌≡◌, ◌+◌, ◌<◌, ◌≤◌, ◌^◌, [], map, length, None, IfOk, IfSome, IsTrue};
+ghost use Rattle.std.specs.Prelude.{◌≡◌, ◌+◌, ◌<◌, ◌≤◌, ◌^◌, [], map, length, slice_get, None, IfOk, IfSome, IsTrue};
 ghost use Rattle.std.specs.List.{filter, All};
 ghost use Rattle.std.specs.Option.{option_map, option_copied};
 ghost use Rattle.sha2.specs.Sha256.{sha256};
@@ -7,16 +7,20 @@ ghost use Rattle.content_store.specs.Plain.{hold_result, held_after_hold, fill_r
 ghost use Rattle.content_store.specs.BlobRows.{blob_of, blob_numbered, is_other, longer_kept, put, put_result};
 ghost use Rattle.content_store.specs.StoredRows.{AreStored, held_without, rows_in};
 
-use crate::{BlobRow, ContentStore, Digest, Filled, Held, row_changing, row_scans};
+use crate::{BlobRow, ContentStore, Digest, Filled, Held, row_changing, row_places};
 use std::alloc::{AllocError, Global};
+use std::collections::VecDeque;
 use std::marker::Model;
 
 /// The rows of the blobs, and the store of their contents.
+///
+/// No call reads all rows. A number is found by bisection of the rows, and a digest by a search of
+/// the store, which has its number, and a bisection.
 #[derive(Drop)]
 pub struct Blobs {
     placed: u32,
-    /// In the order in which they were placed.
-    rows: Vec<BlobRow>,
+    /// In the order of their numbers.
+    rows: VecDeque<BlobRow>,
     store: ContentStore,
 }
 
@@ -43,35 +47,43 @@ impl Blobs {
     {
         Ok(Blobs {
             placed: 0,
-            rows: Vec::with_capacity(alloc, names as usize)?,
+            rows: VecDeque::with_capacity(alloc, names as usize)?,
             store: ContentStore::new(alloc, units, names)?,
         })
     }
 
-    /// The rows, in the order in which they were placed.
-    pub fn rows(&self) -> &[BlobRow]
-        ensures rows { result.now ≡ self.now.rows }
+    /// How many rows there are. It is kept, and not counted.
+    pub fn count(&self) -> usize
+        ensures count { result ≡ length self.now.rows }
         ensures stored { AreStored self.now.rows self.now.placed self.now.store.held }
     {
-        self.rows.as_slice()
+        self.rows.len()
     }
 
-    /// The row of a digest.
+    /// The row at a place of the list of rows, in which they stand in the order in which they were
+    /// placed. It is read without a search.
+    pub fn row_at(&self, at: usize) -> Option<&BlobRow>
+        ensures { option_copied result ≡ slice_get self.now.rows at }
+    {
+        row_places::row_at(&self.rows, at)
+    }
+
+    /// The row of a digest: a search of the store, and a bisection of the rows.
     pub fn blob_of(&self, digest: &Digest) -> Option<&BlobRow>
         ensures { option_copied result ≡ blob_of self.now.rows digest.now }
     {
-        row_scans::blob_of(self.rows.as_slice(), digest)
+        row_places::blob_of(&self.rows, &self.store, digest)
     }
 
-    /// The row of a number.
+    /// The row of a number: a bisection of the rows.
     pub fn blob_numbered(&self, number: u32) -> Option<&BlobRow>
         ensures { option_copied result ≡ blob_numbered self.now.rows number }
     {
-        row_scans::blob_numbered(self.rows.as_slice(), number)
+        row_places::blob_numbered(&self.rows, number)
     }
 
     /// What `put` would do: renew a row (`Present`), or add one (`Placed`); otherwise as many are
-    /// there as may be, or the region has no place.
+    /// there as may be, or the region has no place. The store alone is asked.
     pub fn probe(&self, digest: &Digest, size: u32) -> Held
         ensures { result ≡ put_result self.now.store.names (rows_in self.now) digest.now size }
     {
@@ -79,13 +91,14 @@ impl Blobs {
     }
 
     /// Puts a blob of so many bytes: one that is present is kept until the deadline, and any other
-    /// gets a row and a place, where there is one. Its bytes are to be brought by `fill`.
+    /// gets a row and a place, where there is one. Its bytes are to be brought by `fill`. A digest is
+    /// searched in the store; its row is found by bisection, and a new row is added at the end.
     pub fn put(&mut self, deadline: u64, digest: &Digest, size: u32)
         requires few { blob_of self.old.rows digest.now ≡ None → length self.old.rows < self.old.store.names }
         requires number { self.old.placed + 1 < 2 ^ 32 }
         ensures rows { rows_in self.new ≡ put (rows_in self.old) deadline digest.now size }
         ensures store { self.new.store ≡ record self.old.store {
-          held = held_after_hold (hold_result self.old.store digest.now size) digest.now size self.old.store.held;
+          held = held_after_hold (hold_result self.old.store digest.now size) digest.now size (self.old.placed + 1) self.old.store.held;
         } }
         ensures stored { AreStored self.new.rows self.new.placed self.new.store.held }
 
@@ -104,7 +117,7 @@ impl Blobs {
         );
     }
 
-    /// Keeps the row of a number for so many seconds more.
+    /// Keeps the row of a number for so many seconds more: a bisection of the rows.
     pub fn keep_longer(&mut self, secs: u64, number: u32)
         requires { All (λ row. row.deadline + secs < 2 ^ 64) self.old.rows }
         ensures { self.new ≡ record self.old { rows = map (longer_kept secs number) self.old.rows } }
@@ -112,7 +125,8 @@ impl Blobs {
         row_changing::keep_longer(&mut self.rows, secs, number);
     }
 
-    /// Takes out the row of a number, and its content with it.
+    /// Takes out the row of a number, and its content with it: a bisection of the rows, of which
+    /// those before it or those behind it move, whichever are fewer, and a removal from the store.
     pub fn remove(&mut self, number: u32)
         ensures rows { self.new.rows ≡ filter (is_other number) self.old.rows }
         ensures placed { self.new.placed ≡ self.old.placed }
@@ -123,7 +137,7 @@ impl Blobs {
         row_changing::remove(&mut self.rows, &mut self.store, number);
     }
 
-    /// Brings the bytes of a row.
+    /// Brings the bytes of a row: a search of the store, and the hash and the copy of the bytes.
     pub fn fill(&mut self, digest: &Digest, bytes: &[u8]) -> Filled
         ensures told { result ≡ fill_result self.old.store.held digest.now bytes.now }
         ensures holds { self.new ≡ record self.old {
@@ -144,7 +158,7 @@ impl Blobs {
         self.store.fill_known(digest, bytes)
     }
 
-    /// The bytes of a row, once they came.
+    /// The bytes of a row, once they came: a search of the store. They are lent, not copied.
     pub fn bytes(&self, digest: &Digest) -> Option<&[u8]>
         ensures lends { option_map (λ b. b.now) result ≡ bytes_of self.now.store.held digest.now }
         ensures named { IfSome result (λ b. sha256 b.now ≡ digest.now) }

@@ -3,22 +3,23 @@ ghost use Rattle.std.specs.List.Sorted.{IsStrictlySortedBy};
 ghost use Rattle.std.specs.Option.{option_map};
 ghost use Rattle.sha2.specs.Sha256.{sha256};
 ghost use Rattle.region.specs.Extents.{AreApart};
-ghost use Rattle.content_store.specs.Contents.{extent_of, digest_cmp, is_held, is_held_with_size, bytes_of, without_content};
+ghost use Rattle.content_store.specs.Contents.{extent_of, digest_cmp, number_of, is_held, is_held_with_size, bytes_of, without_content};
 ghost use Rattle.content_store.specs.Plain.{hold_result, held_after_hold, fill_result, held_after_fill};
 
 use crate::slot::Slot;
 use crate::{Digest, Filled, Held, filling, holding};
+use placed_list::PlacedList;
 use region::Region;
 use std::alloc::{AllocError, Global};
 use std::marker::Model;
 
-/// Contents by their digests, each at its extent of a region. A name takes 52 bytes, and a unit 64.
+/// Contents by their digests, each at its extent of a region. A name takes 64 bytes, and a unit 64.
 #[derive(Drop)]
 pub struct ContentStore {
     region: Region,
     names: u32,
     /// Sorted by digest.
-    slots: Vec<Slot>,
+    slots: PlacedList<Slot>,
     /// The units of the region, up to the furthest content that came.
     bytes: Vec<u8>,
 }
@@ -48,7 +49,7 @@ impl ContentStore {
         Ok(ContentStore {
             region: Region::new(alloc, units, names.max(1))?,
             names,
-            slots: Vec::with_capacity(alloc, names as usize)?,
+            slots: PlacedList::with_capacity(alloc, names)?,
             bytes: Vec::with_capacity(alloc, units as usize * 64)?,
         })
     }
@@ -57,24 +58,32 @@ impl ContentStore {
     pub fn probe(&self, digest: &Digest, size: u32) -> Held
         ensures { result ≡ hold_result self.now digest.now size }
     {
-        holding::probe(
-            &self.region,
-            self.slots.as_slice(),
-            self.names,
-            digest,
-            size,
-        )
+        holding::probe(&self.region, &self.slots, self.names, digest, size)
     }
 
-    /// Holds a name for a content of so many bytes, which are to be brought by `fill`. A name that
-    /// is held stays as it is, whatever its size.
-    pub fn hold(&mut self, digest: &Digest, size: u32) -> Held
+    /// The number of a held name.
+    pub fn number_of(&self, digest: &Digest) -> Option<u32>
+        ensures { result ≡ number_of self.now.held digest.now }
+    {
+        holding::number_of(&self.slots, digest)
+    }
+
+    /// Holds a name for a content of so many bytes, which are to be brought by `fill`, and gives it
+    /// the number. A name that is held stays as it is, whatever its size and its number.
+    pub fn hold(&mut self, digest: &Digest, size: u32, number: u32) -> Held
         ensures told { result ≡ hold_result self.old digest.now size }
-        ensures holds { self.new ≡ record self.old { held = held_after_hold result digest.now size self.old.held } }
+        ensures holds { self.new ≡ record self.old { held = held_after_hold result digest.now size number self.old.held } }
         ensures apart { AreApart (map extent_of self.new.held) }
         ensures sorted { IsStrictlySortedBy digest_cmp (map (λ c. c.digest) self.new.held) }
     {
-        holding::hold(&mut self.region, &mut self.slots, self.names, digest, size)
+        holding::hold(
+            &mut self.region,
+            &mut self.slots,
+            self.names,
+            digest,
+            size,
+            number,
+        )
     }
 
     /// Brings the bytes of a held name, which are hashed and then copied to their place. Nothing
@@ -113,7 +122,7 @@ impl ContentStore {
         ensures named { IfSome result (λ b. sha256 b.now ≡ digest.now) }
         ensures sized { IfSome result (λ b. IsTrue (is_held_with_size self.now.held digest.now (length b.now))) }
     {
-        filling::get(self.slots.as_slice(), self.bytes.as_slice(), digest)
+        filling::get(&self.slots, self.bytes.as_slice(), digest)
     }
 
     /// Lets go of a name, of its bytes and of its extent, and tells whether it was held.

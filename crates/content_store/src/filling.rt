@@ -13,6 +13,7 @@ use crate::searching::place_of;
 use crate::slot::Slot;
 use crate::writing::{part, write};
 use crate::{Digest, Filled};
+use placed_list::PlacedList;
 use region::Region;
 use sha2::{Digest as Hash, Sha256};
 
@@ -23,20 +24,14 @@ fn hash(content: &[u8]) -> Digest
 }
 
 /// Marks that the bytes of the slot at a place came.
-fn mark(slots: &mut [Slot], index: usize)
-    requires { index < length slots.old }
-    ensures { (d : Slot) → slots.new ≡ slice_set slots.old index (filled_slot (slice_index_or slots.old index d)) }
-{
-    let slot = &mut slots[index];
-    slot.is_filled = true;
-}
-
-fn mark_in(slots: &mut Vec<Slot>, index: usize)
+fn mark(slots: &mut PlacedList<Slot>, index: usize)
     requires { index < length slots.old.items }
     ensures items { (d : Slot) → slots.new.items ≡ slice_set slots.old.items index (filled_slot (slice_index_or slots.old.items index d)) }
-    ensures room { vec_capacity slots.new ≡ vec_capacity slots.old }
+    ensures room { slots.new.room ≡ slots.old.room }
 {
-    mark(slots.as_mut_slice(), index);
+    let mut slot = slots[index];
+    slot.is_filled = true;
+    slots.set(index, slot);
 }
 
 /// Copies a content to the place of its slot.
@@ -51,7 +46,7 @@ fn write_at(slot: Slot, bytes: &mut Vec<u8>, content: &[u8])
 /// Brings the bytes for the slot at a place, whose size they have.
 fn fill_at(
     region: &Region,
-    slots: &mut Vec<Slot>,
+    slots: &mut PlacedList<Slot>,
     bytes: &mut Vec<u8>,
     index: usize,
     digest: &Digest,
@@ -68,17 +63,17 @@ fn fill_at(
     ensures laid_out { AreLaidOut region.now slots.new.items }
     ensures there { AreThere bytes.new.items slots.new.items }
     ensures bytes_room { vec_capacity bytes.old ≤ vec_capacity bytes.new }
-    ensures slots_room { vec_capacity slots.new ≡ vec_capacity slots.old }
+    ensures slots_room { slots.new.room ≡ slots.old.room }
 {
     let slot = slots[index];
     write_at(slot, bytes, content);
-    mark_in(slots, index);
+    mark(slots, index);
 }
 
 /// Brings the bytes of a name that is known to be their digest, where they are of its size.
 pub(crate) fn fill_known(
     region: &Region,
-    slots: &mut Vec<Slot>,
+    slots: &mut PlacedList<Slot>,
     bytes: &mut Vec<u8>,
     digest: &Digest,
     content: &[u8],
@@ -93,9 +88,9 @@ pub(crate) fn fill_known(
     ensures laid_out { AreLaidOut region.now slots.new.items }
     ensures there { AreThere bytes.new.items slots.new.items }
     ensures bytes_room { vec_capacity bytes.old ≤ vec_capacity bytes.new }
-    ensures slots_room { vec_capacity slots.new ≡ vec_capacity slots.old }
+    ensures slots_room { slots.new.room ≡ slots.old.room }
 {
-    match place_of(slots.as_slice(), digest) {
+    match place_of(slots, digest) {
         Err(_) => Filled::Unknown,
         Ok(index) => {
             if slots[index].size as usize != content.len() {
@@ -110,7 +105,7 @@ pub(crate) fn fill_known(
 /// Brings the bytes of a name, where they are those of the name and of its size.
 pub(crate) fn fill(
     region: &Region,
-    slots: &mut Vec<Slot>,
+    slots: &mut PlacedList<Slot>,
     bytes: &mut Vec<u8>,
     digest: &Digest,
     content: &[u8],
@@ -124,7 +119,7 @@ pub(crate) fn fill(
     ensures laid_out { AreLaidOut region.now slots.new.items }
     ensures there { AreThere bytes.new.items slots.new.items }
     ensures bytes_room { vec_capacity bytes.old ≤ vec_capacity bytes.new }
-    ensures slots_room { vec_capacity slots.new ≡ vec_capacity slots.old }
+    ensures slots_room { slots.new.room ≡ slots.old.room }
 {
     let actual = hash(content);
     if actual != *digest {
@@ -148,12 +143,16 @@ fn lend(slot: Slot, bytes: &[u8]) -> Option<&[u8]>
 }
 
 /// The bytes that are held under a name.
-pub(crate) fn get<'a>(slots: &[Slot], bytes: &'a [u8], digest: &Digest) -> Option<&'a [u8]>
-    requires sorted { IsStrictlySortedBy digest_cmp (map digest_of slots.now) }
-    requires there { AreThere bytes.now slots.now }
-    ensures lends { option_map (λ b. b.now) result ≡ bytes_of (map (content_in bytes.now) slots.now) digest.now }
+pub(crate) fn get<'a>(
+    slots: &PlacedList<Slot>,
+    bytes: &'a [u8],
+    digest: &Digest,
+) -> Option<&'a [u8]>
+    requires sorted { IsStrictlySortedBy digest_cmp (map digest_of slots.now.items) }
+    requires there { AreThere bytes.now slots.now.items }
+    ensures lends { option_map (λ b. b.now) result ≡ bytes_of (map (content_in bytes.now) slots.now.items) digest.now }
     ensures named { IfSome result (λ b. sha256 b.now ≡ digest.now) }
-    ensures sized { IfSome result (λ b. IsTrue (is_held_with_size (map (content_in bytes.now) slots.now) digest.now (length b.now))) }
+    ensures sized { IfSome result (λ b. IsTrue (is_held_with_size (map (content_in bytes.now) slots.now.items) digest.now (length b.now))) }
 {
     match place_of(slots, digest) {
         Err(_) => None,

@@ -1,39 +1,45 @@
 //! Names come and go, over the parts of a store.
-ghost use Rattle.std.specs.Prelude.{◌≡◌, ℕ, ◌≤◌, ◌<◌, List, map, length, vec_len, vec_capacity};
-ghost use Rattle.std.specs.List.{insert, remove, Contains};
-ghost use Rattle.region.specs.Extents.{LieInOrder, without_extent};
-ghost use Rattle.region.specs.Plain.{free_extent, live_after};
-ghost use Rattle.content_store.specs.Contents.{units_of, is_held, without_content};
+ghost use Rattle.std.specs.Prelude.{◌≡◌, ℕ, ◌≤◌, ◌<◌, List, map, length};
+ghost use Rattle.std.specs.List.{remove, Contains};
+ghost use Rattle.std.specs.List.Sorted.{IsStrictlySortedBy};
+ghost use Rattle.region.specs.declared.extent.Extent.{Extent};
+ghost use Rattle.region.specs.Extents.{without_extent};
+ghost use Rattle.region.specs.FreeUnits.{AreHolesBeside, AreInUse, least_extent, with_placed};
+ghost use Rattle.content_store.specs.Contents.{digest_cmp, units_of, number_of, is_held, without_content};
 ghost use Rattle.content_store.specs.Plain.{hold_result, held_after_hold};
 ghost use Rattle.content_store.specs.Slots.{digest_of, extent_of_slot, content_in, state_in, BelongsAt, AreLaidOut, AreThere};
 
 use crate::searching::place_of;
 use crate::slot::{Slot, units_of};
 use crate::{Digest, Held};
+use placed_list::PlacedList;
 use region::{Extent, Region};
 
 /// The extent of a content of this size, at its least place.
 fn find_for(region: &Region, size: u32) -> Option<Extent>
-    ensures { result ≡ free_extent region.now (units_of size) }
+    ensures { (extents : List Extent) → AreHolesBeside region.now extents → result ≡ least_extent extents region.now.units (units_of size) }
 {
     region.find(units_of(size))
 }
 
 /// Takes that extent into use.
 fn place_for(region: &mut Region, size: u32) -> Option<Extent>
-    requires { length region.old.live < region.old.most }
-    ensures least { result ≡ free_extent region.old (units_of size) }
-    ensures adds { region.new ≡ record region.old { live = live_after result region.old.live } }
-    ensures in_order { LieInOrder 0 region.new.units region.new.live }
+    ensures least { (extents : List Extent) → AreHolesBeside region.old extents → result ≡ least_extent extents region.old.units (units_of size) }
+    ensures adds { (extents : List Extent) (index : ℕ) → AreHolesBeside region.old extents →
+        AreHolesBeside region.new (with_placed result index extents) }
+    ensures units { region.new.units ≡ region.old.units }
+    ensures most { region.new.most ≡ region.old.most }
 {
     region.place(units_of(size))
 }
 
 /// Makes the extent of a slot free again.
 fn give_back(region: &mut Region, slot: Slot)
-    requires { Contains region.old.live (extent_of_slot slot) }
-    ensures removes { region.new ≡ record region.old { live = without_extent (extent_of_slot slot) region.old.live } }
-    ensures in_order { LieInOrder 0 region.new.units region.new.live }
+    requires { (extents : List Extent) × Contains extents (extent_of_slot slot) × AreInUse region.old extents }
+    ensures frees { (extents : List Extent) → Contains extents (extent_of_slot slot) → AreInUse region.old extents →
+        AreHolesBeside region.new (without_extent (extent_of_slot slot) extents) }
+    ensures units { region.new.units ≡ region.old.units }
+    ensures most { region.new.most ≡ region.old.most }
 {
     region.give_back(Extent {
         at: slot.at,
@@ -42,9 +48,15 @@ fn give_back(region: &mut Region, slot: Slot)
 }
 
 /// What `hold` would answer.
-pub(crate) fn probe(region: &Region, slots: &[Slot], names: u32, digest: &Digest, size: u32) -> Held
-    requires { AreLaidOut region.now slots.now }
-    ensures { (bytes : List ℕ) → result ≡ hold_result (state_in region.now.units names bytes slots.now) digest.now size }
+pub(crate) fn probe(
+    region: &Region,
+    slots: &PlacedList<Slot>,
+    names: u32,
+    digest: &Digest,
+    size: u32,
+) -> Held
+    requires { AreLaidOut region.now slots.now.items }
+    ensures { (bytes : List ℕ) → result ≡ hold_result (state_in region.now.units names bytes slots.now.items) digest.now size }
 {
     match place_of(slots, digest) {
         Ok(_) => Held::Present,
@@ -60,34 +72,39 @@ pub(crate) fn probe(region: &Region, slots: &[Slot], names: u32, digest: &Digest
     }
 }
 
-/// Adds a slot at a place of the list, for which there is room.
-fn insert(slots: &mut Vec<Slot>, index: usize, slot: Slot)
-    requires index { index ≤ vec_len slots.old }
-    requires room { vec_len slots.old < vec_capacity slots.old }
-    ensures items { slots.new.items ≡ insert slots.old.items index slot }
-    ensures room { vec_capacity slots.old ≤ vec_capacity slots.new }
+/// The number of a name that is held.
+pub(crate) fn number_of(slots: &PlacedList<Slot>, digest: &Digest) -> Option<u32>
+    requires { IsStrictlySortedBy digest_cmp (map digest_of slots.now.items) }
+    ensures { (bytes : List ℕ) → result ≡ number_of (map (content_in bytes) slots.now.items) digest.now }
 {
-    match slots.insert(index, slot) {
-        Ok(()) => {}
-        Err(_) => unreachable!(),
+    match place_of(slots, digest) {
+        Err(_) => None,
+        Ok(index) => Some(slots[index].number),
     }
 }
 
 /// Holds a new name, which belongs at a place of the list, where its content finds a place.
-fn add(region: &mut Region, slots: &mut Vec<Slot>, index: usize, digest: &Digest, size: u32) -> Held
+fn add(
+    region: &mut Region,
+    slots: &mut PlacedList<Slot>,
+    index: usize,
+    digest: &Digest,
+    size: u32,
+    number: u32,
+) -> Held
     requires laid_out { AreLaidOut region.old slots.old.items }
     requires belongs { BelongsAt (map digest_of slots.old.items) digest.now index }
     requires few { length slots.old.items < region.old.most }
-    requires room { vec_len slots.old < vec_capacity slots.old }
+    requires room { length slots.old.items < slots.old.room }
     ensures told { (names : ℕ) (bytes : List ℕ) → length slots.old.items < names →
         result ≡ hold_result (state_in region.old.units names bytes slots.old.items) digest.now size }
     ensures holds { (bytes : List ℕ) →
-        map (content_in bytes) slots.new.items ≡ held_after_hold result digest.now size (map (content_in bytes) slots.old.items) }
+        map (content_in bytes) slots.new.items ≡ held_after_hold result digest.now size number (map (content_in bytes) slots.old.items) }
     ensures laid_out { AreLaidOut region.new slots.new.items }
     ensures there { (bytes : List ℕ) → AreThere bytes slots.old.items → AreThere bytes slots.new.items }
     ensures units { region.new.units ≡ region.old.units }
     ensures most { region.new.most ≡ region.old.most }
-    ensures room { vec_capacity slots.old ≤ vec_capacity slots.new }
+    ensures room { slots.new.room ≡ slots.old.room }
 {
     match place_for(region, size) {
         None => Held::NoRoom,
@@ -95,10 +112,11 @@ fn add(region: &mut Region, slots: &mut Vec<Slot>, index: usize, digest: &Digest
             let slot = Slot {
                 digest: *digest,
                 size,
+                number,
                 at: extent.at,
                 is_filled: false,
             };
-            insert(slots, index, slot);
+            slots.insert_reserved(index, slot);
             Held::Placed(extent)
         }
     }
@@ -107,50 +125,51 @@ fn add(region: &mut Region, slots: &mut Vec<Slot>, index: usize, digest: &Digest
 /// Holds a name, where it is new and may be held.
 pub(crate) fn hold(
     region: &mut Region,
-    slots: &mut Vec<Slot>,
+    slots: &mut PlacedList<Slot>,
     names: u32,
     digest: &Digest,
     size: u32,
+    number: u32,
 ) -> Held
     requires laid_out { AreLaidOut region.old slots.old.items }
     requires names { names ≤ region.old.most }
-    requires room { names ≤ vec_capacity slots.old }
+    requires room { names ≤ slots.old.room }
     ensures told { (bytes : List ℕ) → result ≡ hold_result (state_in region.old.units names bytes slots.old.items) digest.now size }
     ensures holds { (bytes : List ℕ) →
-        map (content_in bytes) slots.new.items ≡ held_after_hold result digest.now size (map (content_in bytes) slots.old.items) }
+        map (content_in bytes) slots.new.items ≡ held_after_hold result digest.now size number (map (content_in bytes) slots.old.items) }
     ensures laid_out { AreLaidOut region.new slots.new.items }
     ensures there { (bytes : List ℕ) → AreThere bytes slots.old.items → AreThere bytes slots.new.items }
     ensures units { region.new.units ≡ region.old.units }
     ensures most { region.new.most ≡ region.old.most }
-    ensures room { vec_capacity slots.old ≤ vec_capacity slots.new }
+    ensures room { slots.new.room ≡ slots.old.room }
 {
-    match place_of(slots.as_slice(), digest) {
+    match place_of(slots, digest) {
         Ok(_) => Held::Present,
         Err(index) => {
             if slots.len() >= names as usize {
                 return Held::NoNames;
             }
-            add(region, slots, index, digest, size)
+            add(region, slots, index, digest, size, number)
         }
     }
 }
 
 /// Lets go of the name at a place of the list, and of its extent.
-fn remove_at(region: &mut Region, slots: &mut Vec<Slot>, index: usize)
+fn remove_at(region: &mut Region, slots: &mut PlacedList<Slot>, index: usize)
     requires laid_out { AreLaidOut region.old slots.old.items }
     requires index { index < length slots.old.items }
     ensures items { slots.new.items ≡ remove slots.old.items index }
     ensures laid_out { AreLaidOut region.new slots.new.items }
     ensures units { region.new.units ≡ region.old.units }
     ensures most { region.new.most ≡ region.old.most }
-    ensures room { vec_capacity slots.new ≡ vec_capacity slots.old }
+    ensures room { slots.new.room ≡ slots.old.room }
 {
     let slot = slots.remove(index);
     give_back(region, slot);
 }
 
 /// Lets go of a name, where it is held.
-pub(crate) fn remove(region: &mut Region, slots: &mut Vec<Slot>, digest: &Digest) -> bool
+pub(crate) fn remove(region: &mut Region, slots: &mut PlacedList<Slot>, digest: &Digest) -> bool
     requires { AreLaidOut region.old slots.old.items }
     ensures told { (bytes : List ℕ) → result ≡ is_held (map (content_in bytes) slots.old.items) digest.now }
     ensures holds { (bytes : List ℕ) →
@@ -159,9 +178,9 @@ pub(crate) fn remove(region: &mut Region, slots: &mut Vec<Slot>, digest: &Digest
     ensures there { (bytes : List ℕ) → AreThere bytes slots.old.items → AreThere bytes slots.new.items }
     ensures units { region.new.units ≡ region.old.units }
     ensures most { region.new.most ≡ region.old.most }
-    ensures room { vec_capacity slots.new ≡ vec_capacity slots.old }
+    ensures room { slots.new.room ≡ slots.old.room }
 {
-    match place_of(slots.as_slice(), digest) {
+    match place_of(slots, digest) {
         Err(_) => false,
         Ok(index) => {
             remove_at(region, slots, index);

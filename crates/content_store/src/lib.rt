@@ -10,11 +10,12 @@
 //! [`Blobs`] keeps a row for each blob, in the order in which they were placed, and a store that
 //! holds exactly the digests of the rows, each with the size and at the extent of its row
 //! (`AreStored` of `specs/StoredRows.antt`). What a call does to the rows is said of the rows alone
-//! (`specs/BlobRows.antt`): a machine over them needs to know nothing of the store, and finds a row
-//! by a scan or by an index of its own.
+//! (`specs/BlobRows.antt`): a machine over them needs to know nothing of the store. A row is found by
+//! its number with a bisection of the rows, and by its digest over the number that the store keeps.
 //!
 //! `new` takes all the memory; no other call takes any, and the memory of the units is written to
-//! no further than some content has reached. The crate stands on `region` and the kit's `sha2`.
+//! no further than some content has reached. The crate stands on `placed_list`, `region` and the
+//! kit's `sha2`.
 #![tactic(auto)]
 
 mod blob_row;
@@ -25,7 +26,7 @@ mod filling;
 mod held;
 mod holding;
 mod row_changing;
-mod row_scans;
+mod row_places;
 mod searching;
 mod slot;
 mod writing;

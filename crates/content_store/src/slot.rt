@@ -3,12 +3,13 @@ ghost use Rattle.content_store.specs.Contents.{units_of};
 
 use crate::Digest;
 
-/// A name that is held: how many bytes it stands for, the unit of the region at which they begin,
-/// and whether they came.
+/// A name that is held: how many bytes it stands for, the number that it was given, the unit of the
+/// region at which the bytes begin, and whether they came.
 #[derive(Clone, Copy)]
 pub(crate) struct Slot {
     pub digest: Digest,
     pub size: u32,
+    pub number: u32,
     pub at: u32,
     pub is_filled: bool,
 }

@@ -1,6 +1,6 @@
 -- The earliest of the first deadlines of tasks, of bots and of blobs is the earliest of all.
-use Rattle.std.proofs.Common.{◌≡◌, ℕ, ◌==◌, true, false, List, [], ◌∷◌, ◌++◌, ◌⊎◌, inl, inr, map, find, refl, sym, ap, ◌∙◌, arith, Option, Some, None, MatchOption, eqb-true}
-use Rattle.std.specs.List.{fold, filter_map, cons_option}
+use Rattle.std.proofs.Common.{◌≡◌, ℕ, ◌==◌, true, false, List, [], ◌∷◌, ◌++◌, ◌⊎◌, inl, inr, map, find, refl, sym, ap, ◌∙◌, subst, arith, Option, Some, None, MatchOption, eqb-true}
+use Rattle.std.specs.List.{Contains, fold, filter_map, cons_option}
 use Rattle.std.specs.Option.{option_and_then}
 use Rattle.std.proofs.lemmas.Bool.{cases_Bool, cond-true, cond-false, cond_both, false_from_ne_true}
 use Rattle.std.proofs.lemmas.List.{append_assoc}
@@ -16,9 +16,12 @@ use Rattle.swarm_model.specs.Soundness.{IsSound}
 use Rattle.swarm_laws.proofs.Lists.{Among, here, later, Found, find_is, has_number}
 use Rattle.swarm_laws.proofs.Rows.{find_task, find_bot}
 use Rattle.pool_index.specs.Deadlines.{earlier_of, deadline_at, IsFirstOf}
-use Rattle.pool_index.proofs.DeadlineOrder.{chain, one_way}
+use Rattle.pool_index.specs.QueuedDeadlines.{IsEarliestOf}
+use Rattle.pool_index.proofs.DeadlineOrder.{chain, one_way, earlier_chain}
 use Rattle.pool_index.proofs.Earliest.{IsIn, NoneBefore, fold_least}
+use Rattle.index_laws.specs.BlobDeadlines.{AreBlobDeadlines}
 use Rattle.index_laws.specs.RowDeadlines.{task_deadline, AreTaskDeadlines, AreBotDeadlines, DeadlineIsNext}
+use Rattle.index_laws.proofs.Keys.{among_of, contains_of}
 
 -- ---- the earliest of some deadlines
 
@@ -61,19 +64,12 @@ fold_is P ds out back (Some d) is = fold_least d ds (back d is.0) (none_before d
 
 -- ---- a search that goes on
 
--- of two that go before each other in turn, the first goes before the third
-before_chain : (x y z : Deadline) → is_earlier z y ≡ true → is_earlier y x ≡ true → is_earlier z x ≡ true
-before_chain x y z p q = elim (cases_Bool (is_earlier z x)) [
-  | inl t ↦ t
-  | inr f ↦ absurd (let none : is_earlier z y ≡ false = chain y x z (one_way y x q) f in cc (none, p))
-]
-
 -- the earliest of three, whichever two are compared first
 three : (x y z : Deadline) → earlier (Some x) (earlier (Some y) z) ≡ earlier (Some (earlier (Some x) y)) z
 three x y z =
     elim (cases_Bool (is_earlier z y)) [
       | inl zy ↦ elim (cases_Bool (is_earlier y x)) [
-        | inl yx ↦ rw (zy, yx, before_chain x y z zy yx, zy) refl
+        | inl yx ↦ rw (zy, yx, earlier_chain z y x zy yx, zy) refl
         | inr yx ↦ rw (zy, yx) refl
       ]
       | inr zy ↦ elim (cases_Bool (is_earlier y x)) [
@@ -110,6 +106,16 @@ in_parts : (d : Deadline) (xs ys : List Deadline) → IsIn d (xs ++ ys) → IsIn
 in_parts d [] ys i = inr i
 in_parts d (x ∷ xs) ys (inl e) = inl (inl e)
 in_parts d (x ∷ xs) ys (inr i) = elim (in_parts d xs ys i) [ inl h ↦ inl (inr h) | inr h ↦ inr h ]
+
+among_in : (d : Deadline) (xs : List Deadline) → IsIn d xs → Among d xs
+among_in d [] i = absurd i
+among_in d (x ∷ xs) (inl e) = subst (λ (y : Deadline). Among y (x ∷ xs)) e here
+among_in d (x ∷ xs) (inr i) = later (among_in d xs i)
+
+in_among : (d : Deadline) (xs : List Deadline) → Among d xs → IsIn d xs
+in_among d [] a = elim a [ ]
+in_among d (x ∷ xs) here = inl refl
+in_among d (x ∷ xs) (later a) = inr (in_among d xs a)
 
 -- a row that gives the deadline
 record FromRow {R : Type 0} (f : R → Option Deadline) (rows : List R) (d : Deadline) : Type 0 where
@@ -220,9 +226,21 @@ module _ (s : PoolState) where
         fold_is HasOne row_deadlines listed in_list (earlier_of a b)
         (merge (Has ends) (Has bot_ends) HasOne (λ d e. e) (λ d e. inl e) (λ d e. inr e) a b (least_of ends a g) (least_of bot_ends b h))
 
+-- the earliest of the blobs' deadlines, which stand in any order
+blobs_next : (s : PoolState) (ends : List Deadline) → AreBlobDeadlines ends s → (blob : Option Deadline) → IsEarliestOf ends blob → fold sooner None (map blob_end s.blobs) ≡ blob
+blobs_next s ends are blob g =
+    fold_is (Contains ends) (map blob_end s.blobs)
+    (λ d i. (are.each d).1 (contains_of (map blob_end s.blobs) d (among_in d (map blob_end s.blobs) i)))
+    (λ d c. in_among d (map blob_end s.blobs) (among_of (map blob_end s.blobs) d ((are.each d).0 c)))
+    blob (least_in blob g)
+  where
+    least_in : (first : Option Deadline) → IsEarliestOf ends first → IsLeastOf (Contains ends) first
+    least_in None none = none
+    least_in (Some d) is = (is.among, is.least)
+
 pub deadline_is_next : DeadlineIsNext
-deadline_is_next s o ends bot_ends tasks_are bots_are task bot blob g h is =
-    ap (earlier_of (earlier_of task bot)) is
+deadline_is_next s o ends bot_ends tasks_are bots_are blob_ends blobs_are task bot blob g h b =
+    ap (earlier_of (earlier_of task bot)) (sym (blobs_next s blob_ends blobs_are blob b))
     ∙ sym (fold_from (earlier_of task bot) (map blob_end s.blobs))
     ∙ ap (λ (best : Option Deadline). fold sooner best (map blob_end s.blobs)) (sym (rows_next s o ends bot_ends tasks_are bots_are task bot g h))
     ∙ sym (fold-append sooner None (row_deadlines s) (map blob_end s.blobs))

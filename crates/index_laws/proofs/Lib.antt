@@ -7,6 +7,7 @@ pub mod QueuesFollow
 pub mod FirstIsNext
 pub mod KeyLinks
 pub mod ToCome
+pub mod BlobDeadlinesFollow
 pub mod DeadlineIsNext
 pub mod ClaimLinks
 pub mod UuidLinks

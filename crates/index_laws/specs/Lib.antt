@@ -1,4 +1,5 @@
 pub mod Touched
+pub mod BlobDeadlines
 pub mod RowDeadlines
 pub mod Keys
 pub mod TaskQueues

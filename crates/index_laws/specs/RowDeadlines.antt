@@ -1,6 +1,5 @@
--- The deadlines of a pool's tasks and bots, each at the place that is the number of its row.
-use Rattle.std.specs.Prelude.{◌≡◌, ◌<◌, ℕ, List, Option, Some, None, map, length, slice_set, if◌then◌else◌}
-use Rattle.std.specs.List.{fold}
+-- The deadlines of a pool's rows: those of tasks and bots at the places of their numbers, those of blobs in any order.
+use Rattle.std.specs.Prelude.{◌≡◌, ◌<◌, ℕ, List, Option, Some, None, length, slice_set, if◌then◌else◌}
 use Rattle.std.specs.Option.{option_and_then}
 use Rattle.swarm_model.specs.declared.task_state.TaskState.TheVariants.{Pending}
 use Rattle.swarm_model.specs.declared.task_row.TaskRow.{TaskRow}
@@ -8,12 +7,14 @@ use Rattle.swarm_model.specs.declared.deadline.Deadline.{Deadline}
 use Rattle.swarm_model.specs.declared.pool_state.PoolState.{PoolState}
 use Rattle.swarm_model.specs.declared.entry.Entry.{Entry}
 use Rattle.swarm_model.specs.Finding.{has_state, task_of, bot_of}
-use Rattle.swarm_model.specs.Deadlines.{slice_end, silence_end, bot_end, blob_end, sooner, next_deadline}
+use Rattle.swarm_model.specs.Deadlines.{slice_end, silence_end, bot_end, next_deadline}
 use Rattle.swarm_model.specs.Effects.{after}
 use Rattle.swarm_model.specs.History.{MayFollow}
 use Rattle.swarm_model.specs.Soundness.{IsSound}
 use Rattle.pool_index.specs.Deadlines.{deadline_at, earlier_of, IsFirstOf}
+use Rattle.pool_index.specs.QueuedDeadlines.{IsEarliestOf}
 use Rattle.index_laws.specs.Touched.{touched_task, touched_bot}
+use Rattle.index_laws.specs.BlobDeadlines.{AreBlobDeadlines}
 
 -- the deadline of a task: that of its slice while it waits, that of its bot's silence while it runs
 abbrev pub task_deadline : PoolState → TaskRow → Option Deadline
@@ -52,12 +53,8 @@ BotDeadlinesFollow =
     (s : PoolState) (e : Entry) → IsSound s → MayFollow s e → (ends : List (Option Deadline)) → AreBotDeadlines ends s → length (after s e).bots < length ends →
     AreBotDeadlines (put_deadline (bot_deadline_of (after s e)) (touched_bot s e.kind) ends) (after s e)
 
--- the earliest of all blobs' deadlines
-abbrev pub first_blob_deadline : PoolState → Option Deadline
-first_blob_deadline s = fold sooner None (map blob_end s.blobs)
-
 -- the earliest of the first deadlines of tasks, of bots and of blobs is the earliest of the pool
 abbrev pub DeadlineIsNext : Type 0
 DeadlineIsNext =
-    (s : PoolState) → IsSound s → (tasks bots : List (Option Deadline)) → AreTaskDeadlines tasks s → AreBotDeadlines bots s → (task bot blob : Option Deadline) →
-    IsFirstOf tasks task → IsFirstOf bots bot → blob ≡ first_blob_deadline s → earlier_of (earlier_of task bot) blob ≡ next_deadline s
+    (s : PoolState) → IsSound s → (tasks bots : List (Option Deadline)) → AreTaskDeadlines tasks s → AreBotDeadlines bots s → (blobs : List Deadline) → AreBlobDeadlines blobs s →
+    (task bot blob : Option Deadline) → IsFirstOf tasks task → IsFirstOf bots bot → IsEarliestOf blobs blob → earlier_of (earlier_of task bot) blob ≡ next_deadline s

@@ -1,3 +1,4 @@
+ghost use Rattle.index_laws.specs.BlobDeadlines.{BlobDeadlinesFollow};
 ghost use Rattle.index_laws.specs.RowDeadlines.{TaskDeadlinesFollow, BotDeadlinesFollow, DeadlineIsNext};
 
 /// After an entry the deadlines of tasks are those of before, with the one of the touched task set
@@ -10,6 +11,12 @@ pub fn task_deadlines_follow()
 /// anew.
 pub fn bot_deadlines_follow()
     ensures { BotDeadlinesFollow }
+{}
+
+/// After an entry the deadlines of blobs are those of before, without the one of the touched blob
+/// before the entry and with the one after it.
+pub fn blob_deadlines_follow()
+    ensures { BlobDeadlinesFollow }
 {}
 
 /// The earliest of the tasks' first deadline, the bots' and the blobs' is the next of the pool.

@@ -2,10 +2,11 @@
 //!
 //! Each law is the contract of an empty function; its statement stands in `specs/`, and its proof in
 //! `proofs/`. An entry that may follow touches at most one task and at most one bot (`Touched`),
-//! whose numbers follow from the old rows. So a machine that keeps indexes beside its rows brings
-//! them up to date for every kind of entry alike: it asks for the two numbers, changes the rows, and
-//! sets what the indexes hold of the touched rows anew, from the new rows. The laws say that the
-//! indexes then hold what all new rows give: the deadlines of tasks and bots (`RowDeadlines`), the
+//! whose numbers follow from the old rows, and at most one blob (`BlobDeadlines`). So a machine that
+//! keeps indexes beside its rows brings them up to date for every kind of entry alike: it asks for
+//! the two numbers and for the deadline of the blob, changes the rows, and sets what the indexes hold
+//! of the touched rows anew, from the new rows. The laws say that the indexes then hold what all new
+//! rows give: the deadlines of tasks and bots (`RowDeadlines`) and of blobs (`BlobDeadlines`), the
 //! queues of pending tasks (`TaskQueues`), the claims (`TaskClaims`), the uuids (`TaskUuids`), the
 //! tasks whose outcome others may take (`TaskSources`), how often a digest is used (`TaskUses`), the
 //! counts of states (`StateCounts`) and any other sum over the tasks (`RowSums`). `DimsToCome` has
@@ -23,7 +24,9 @@ mod rows;
 mod sources;
 mod uses;
 
-pub use deadlines::{bot_deadlines_follow, deadline_is_next, task_deadlines_follow};
+pub use deadlines::{
+    blob_deadlines_follow, bot_deadlines_follow, deadline_is_next, task_deadlines_follow,
+};
 pub use links::{
     claim_is_found, claims_are_fresh, claims_follow, uuid_is_found, uuids_are_fresh, uuids_follow,
 };

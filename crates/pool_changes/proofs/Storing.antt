@@ -1,5 +1,5 @@
 -- What the rows of the blobs tell of the store, and of the bytes that are held in it.
-use Rattle.std.proofs.Common.{◌≡◌, ℕ, ◌≤◌, ◌<◌, Bool, true, false, cond, List, map, length, Option, Some, None, Bor, IfSome, IsTrue, is_some, is_none, refl, sym, ap, ◌∙◌, subst, arith}
+use Rattle.std.proofs.Common.{◌≡◌, ℕ, ◌+◌, ◌≤◌, ◌<◌, Bool, true, false, cond, List, map, length, Option, Some, None, Bor, IfSome, IsTrue, is_some, is_none, refl, sym, ap, ◌∙◌, subst, arith}
 use Rattle.std.specs.Prelude.{◌&&◌, ◌==◌, nat_le}
 use Rattle.std.specs.List.{count_by}
 use Rattle.std.specs.Option.{option_map, option_map_or}
@@ -106,13 +106,13 @@ module _ (rows : List BlobRow) (placed : ℕ) (store : ContentStoreState) (diges
       told = hold_result store digest size
 
       abbrev held_after : List Content
-      held_after = held_after_hold told digest size store.held
+      held_after = held_after_hold told digest size (placed + 1) store.held
 
       abbrev extent : Extent
       extent = room.1.0
 
       abbrev fresh : Content
-      fresh = unfilled_content digest size extent
+      fresh = unfilled_content digest size (placed + 1) extent
 
       is_placed : told ≡ Placed extent
       is_placed = hold_result-is rows placed store stored digest size ∙ told_is ∙ room.1.1
@@ -125,7 +125,7 @@ module _ (rows : List BlobRow) (placed : ℕ) (store : ContentStoreState) (diges
       not_held = no_content (content_of store.held digest) (held_is rows placed store.held stored digest ∙ ap (λ (o : Option BlobRow). is_some o) absent)
 
       after_is : held_after ≡ with_content fresh store.held
-      after_is = ap (λ (h : Held). held_after_hold h digest size store.held) is_placed
+      after_is = ap (λ (h : Held). held_after_hold h digest size (placed + 1) store.held) is_placed
 
       same_after : (other : List ℕ) → bytes_of held_after other ≡ bytes_of store.held other
       same_after other = ap (λ (held : List Content). bytes_of held other) after_is ∙ bytes_new fresh store.held refl not_held other
@@ -145,19 +145,19 @@ module _ (rows : List BlobRow) (placed : ℕ) (store : ContentStoreState) (diges
           ∙ ap (λ (o : Option (List ℕ)). cond (same_digest other digest) (Some bytes) o) (ap (λ (held : List Content). bytes_of held other) is ∙ same_after other)
 
   -- a blob that is present keeps its bytes
-  pub holds_same : AreStored rows placed store.held → is_some (blob_of rows digest) ≡ true → held_after_hold (hold_result store digest size) digest size store.held ≡ store.held
+  pub holds_same : AreStored rows placed store.held → is_some (blob_of rows digest) ≡ true → held_after_hold (hold_result store digest size) digest size (placed + 1) store.held ≡ store.held
   holds_same stored there =
-      ap (λ (h : Held). held_after_hold h digest size store.held)
+      ap (λ (h : Held). held_after_hold h digest size (placed + 1) store.held)
       (hold_result-is rows placed store stored digest size ∙ ap (λ (t : Bool). cond t Present (by_room (nat_le store.names (length rows)) (place_for before size))) there)
 
 -- ---- the bytes that are held after a change of the blobs
 
-abbrev put_store : ContentStoreState → List ℕ → ℕ → ContentStoreState
-put_store store digest size = record store { held = held_after_hold (hold_result store digest size) digest size store.held }
+abbrev put_store : ContentStoreState → List ℕ → ℕ → ℕ → ContentStoreState
+put_store store digest size number = record store { held = held_after_hold (hold_result store digest size) digest size number store.held }
 
 -- a blob that was not present is put, and its bytes come
 pub held_put_new : (old new filled : BlobsState) (digest : List ℕ) (size : ℕ) (bytes : Option (List ℕ)) → AreStored old.rows old.placed old.store.held →
-    is_taken (put_result old.store.names (rows_in old) digest size) ≡ true → AreBytesOf digest size bytes → new.store ≡ put_store old.store digest size → filled ≡ with_filled digest bytes new →
+    is_taken (put_result old.store.names (rows_in old) digest size) ≡ true → AreBytesOf digest size bytes → new.store ≡ put_store old.store digest size (old.placed + 1) → filled ≡ with_filled digest bytes new →
     blob_of old.rows digest ≡ None → held_in filled ≡ with_new (when (is_none (blob_of old.rows digest)) digest) bytes (held_in old)
 held_put_new old new filled digest size bytes stored taken own is comes absent =
     held_by (held_in filled) (with_new (Some digest) bytes (held_in old)) (λ other.
@@ -167,7 +167,7 @@ held_put_new old new filled digest size bytes stored taken own is comes absent =
 
 -- one that was present is put
 pub held_put_same : (old new : BlobsState) (digest : List ℕ) (size : ℕ) (bytes : Option (List ℕ)) → AreStored old.rows old.placed old.store.held →
-    new.store ≡ put_store old.store digest size → is_some (blob_of old.rows digest) ≡ true → held_in new ≡ with_new (when (is_none (blob_of old.rows digest)) digest) bytes (held_in old)
+    new.store ≡ put_store old.store digest size (old.placed + 1) → is_some (blob_of old.rows digest) ≡ true → held_in new ≡ with_new (when (is_none (blob_of old.rows digest)) digest) bytes (held_in old)
 held_put_same old new digest size bytes stored is there =
     ap bytes_of (ap (λ (store : ContentStoreState). store.held) is ∙ holds_same old.rows old.placed old.store digest size stored there)
     ∙ by_row (blob_of old.rows digest) there

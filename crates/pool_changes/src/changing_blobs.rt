@@ -33,7 +33,7 @@ fn put(blobs: &mut Blobs, deadline: u64, digest: &Digest, size: u32, bytes: Opti
     ensures names { blobs.new.store.names ≡ blobs.old.store.names }
 {
     // For the proof: the rows are tied to the store.
-    let _rows = blobs.rows();
+    let _count = blobs.count();
     let is_new = blobs.blob_of(digest).is_none();
     blobs.put(deadline, digest, size);
     if is_new {

@@ -1,7 +1,7 @@
 -- The order of deadlines is total, and only a deadline and itself tie.
-use Rattle.std.proofs.Common.{◌≡◌, ℕ, ◌==◌, ◌&&◌, ◌||◌, Bool, true, false, Option, Some, None, refl, ap, ◌∙◌, arith}
+use Rattle.std.proofs.Common.{◌≡◌, ℕ, ◌==◌, ◌&&◌, ◌||◌, Bool, true, false, Option, Some, None, inl, inr, refl, ap, ◌∙◌, arith}
 use Rattle.std.specs.Prelude.{nat_lt}
-use Rattle.std.proofs.lemmas.Bool.{cond_both}
+use Rattle.std.proofs.lemmas.Bool.{cases_Bool, cond_both}
 use Rattle.std.proofs.lemmas.Bool.Decides.{nat_tests}
 use Rattle.swarm_model.specs.declared.deadline.Cause.{Cause}
 use Rattle.swarm_model.specs.declared.deadline.Cause.TheVariants as cause
@@ -32,6 +32,13 @@ one_way a b h = below_one_way a.moment (rank a.cause) a.number b.moment (rank b.
 
 pub chain : (a b c : Deadline) → is_earlier b a ≡ false → is_earlier c b ≡ false → is_earlier c a ≡ false
 chain a b c g h = below_chain a.moment (rank a.cause) a.number b.moment (rank b.cause) b.number c.moment (rank c.cause) c.number g h
+
+-- of two that go before each other in turn, the first goes before the third
+pub earlier_chain : (a b c : Deadline) → is_earlier a b ≡ true → is_earlier b c ≡ true → is_earlier a c ≡ true
+earlier_chain a b c g h = elim (cases_Bool (is_earlier a c)) [
+  | inl t ↦ t
+  | inr f ↦ absurd (let none : is_earlier a b ≡ false = chain b c a (one_way b c h) f in cc (none, g))
+]
 
 one_cause : (a b : Cause) → rank a ≡ rank b → a ≡ b
 one_cause cause.Slice cause.Slice h = refl

@@ -1,4 +1,6 @@
 pub mod DeadlineOrder
+pub mod OrderedList
+pub mod QueuePlaces
 pub mod TreeRoot
 pub mod Earliest
 pub mod PlaceSearch

@@ -1,4 +1,6 @@
 pub mod Deadlines
+pub mod QueuedDeadlines
+pub mod QueueInside
 pub mod TreeNodes
 pub mod TreeInside
 pub mod SortedLinks

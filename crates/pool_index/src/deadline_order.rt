@@ -17,7 +17,7 @@ fn rank(cause: Cause) -> u8
     }
 }
 
-fn is_earlier(one: Deadline, other: Deadline) -> bool
+pub(crate) fn is_earlier(one: Deadline, other: Deadline) -> bool
     ensures { result ≡ is_earlier one other }
 {
     one.moment < other.moment

@@ -5,6 +5,8 @@
 //! plain lists, by the definitions of `specs/`:
 //!
 //! - [`DeadlineTree`]: the deadline at each place; the earliest of all is at hand (`Deadlines`).
+//! - [`DeadlineQueue`]: deadlines in their order, of which the earliest is at hand
+//!   (`QueuedDeadlines`).
 //! - [`ClaimIndex`]: the task of each bot's claim, by bot and id (`Claims`).
 //! - [`UuidIndex`]: the task of each creator's uuid (`Uuids`).
 //! - [`SourceIndex`]: for each hash the greatest number of a task that was noted (`Sources`).
@@ -20,9 +22,11 @@
 mod claim_index;
 mod claim_link;
 mod deadline_order;
+mod deadline_queue;
 mod deadline_tree;
 mod digest_key;
 mod link_index;
+mod sorted_deadlines;
 mod sorted_links;
 mod source_index;
 mod source_link;
@@ -35,6 +39,7 @@ mod uuid_link;
 pub use claim_index::ClaimIndex;
 pub use claim_link::ClaimLink;
 pub use deadline_order::sooner_of;
+pub use deadline_queue::DeadlineQueue;
 pub use deadline_tree::DeadlineTree;
 pub use source_index::SourceIndex;
 pub use source_link::SourceLink;

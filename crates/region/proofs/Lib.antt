@@ -1,6 +1,10 @@
 pub mod SameItems
-pub mod Gaps
-pub mod Apart
+pub mod LeastPlaces
 pub mod Overlaps
-pub mod Places
-pub mod Steps
+pub mod Runs
+pub mod InOrder
+pub mod Edits
+pub mod Joins
+pub mod FirstFit
+pub mod Counted
+pub mod InUse

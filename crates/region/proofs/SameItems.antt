@@ -1,8 +1,8 @@
 -- Lists with the same items, each as often: what an edit of both, or of one, leaves.
-use Rattle.std.proofs.Common.{◌≡◌, ℕ, ◌+◌, ◌<◌, Bool, true, false, cond, ◌&&◌, ◌||◌, List, [], ◌∷◌, length, get_or, refl, sym, ap, ◌∙◌, arith, ltb}
-use Rattle.std.specs.List.{list_any, filter, count_by, insert, remove}
+use Rattle.std.proofs.Common.{◌≡◌, ℕ, ◌+◌, ◌<◌, Bool, true, false, cond, ◌&&◌, ◌||◌, List, [], ◌∷◌, length, refl, sym, ap, ◌∙◌, arith, ltb}
+use Rattle.std.specs.List.{list_any, filter, count_by, insert}
 use Rattle.std.proofs.lemmas.Bool.{lt-ltb}
-use Rattle.std.proofs.lemmas.List.Sums.{sum_by-cons, sum_by-insert, sum_by-remove}
+use Rattle.std.proofs.lemmas.List.Sums.{sum_by-cons, sum_by-insert}
 use Rattle.region.specs.SameItems.{SameItems}
 
 module _ {X : Type 0} where
@@ -42,20 +42,3 @@ module _ {X : Type 0} where
 
   pub insert-same : (xs : List X) (i : ℕ) (x : X) → SameItems (insert xs i x) (x ∷ xs)
   insert-same xs i x test = omega (arith, sum_by-insert (pass test) xs i x, sum_by-cons (pass test) x xs)
-
-  pub remove-same : (xs : List X) (i : ℕ) (d : X) → i < length xs → SameItems xs (get_or xs i d ∷ remove xs i)
-  remove-same xs i d low test =
-      omega (arith, sum_by-remove (pass test) xs i d low, sum_by-cons (pass test) (get_or xs i d) (remove xs i))
-
-  pub cons-same : (x : X) (xs ys : List X) → SameItems xs ys → SameItems (x ∷ xs) (x ∷ ys)
-  cons-same x xs ys same test = omega (arith, same test, sum_by-cons (pass test) x xs, sum_by-cons (pass test) x ys)
-
-  -- what two lists have beside one item each
-  pub cancel-same : (x : X) (xs ys : List X) → SameItems (x ∷ xs) (x ∷ ys) → SameItems xs ys
-  cancel-same x xs ys same test = omega (arith, same test, sum_by-cons (pass test) x xs, sum_by-cons (pass test) x ys)
-
-  pub same-trans : (xs ys zs : List X) → SameItems xs ys → SameItems ys zs → SameItems xs zs
-  same-trans xs ys zs a b test = a test ∙ b test
-
-  pub same-sym : (xs ys : List X) → SameItems xs ys → SameItems ys xs
-  same-sym xs ys a test = sym (a test)

@@ -1,23 +1,21 @@
-ghost use Rattle.std.specs.Prelude.{◌≡◌, ℕ, ◌+◌, ◌≤◌, ◌<◌, [], length, vec_len, vec_capacity, IfOk, IfSome};
-ghost use Rattle.std.specs.List.{insert, remove, Contains};
-ghost use Rattle.std.specs.Option.{option_map};
-ghost use Rattle.region.specs.Places.{least_place};
-ghost use Rattle.region.specs.Extents.{extent_at, without_extent, LieInOrder, IsPlaceFor};
-ghost use Rattle.region.specs.Plain.{free_extent, live_after};
+ghost use Rattle.std.specs.Prelude.{◌≡◌, ℕ, ◌≤◌, List, [], IfOk};
+ghost use Rattle.std.specs.List.{Contains};
+ghost use Rattle.region.specs.declared.extent.Extent.{Extent};
+ghost use Rattle.region.specs.Extents.{without_extent};
+ghost use Rattle.region.specs.FreeUnits.{AreHolesBeside, AreInUse, least_extent, with_placed};
 
-use crate::Extent;
+use crate::{Extent, holes};
 use std::alloc::{AllocError, Global};
 use std::marker::Model;
 
-/// Units in a row, and the extents of them that are in use. It keeps the extents alone and nothing
-/// for each unit, so its size does not depend on the number of units, and a call takes time in
-/// proportion to the number of extents in use.
+/// Units in a row, of which some are free. It keeps the free runs alone and nothing for each unit,
+/// so its size does not depend on the number of units.
 #[derive(Drop)]
 pub struct Region {
     units: u32,
     most: u32,
-    /// The extents in use, sorted by place.
-    live: Vec<Extent>,
+    /// The free runs of units, sorted by place. A unit in use lies between two of them.
+    holes: Vec<Extent>,
 }
 
 impl Model for Region {
@@ -32,164 +30,67 @@ impl Model for Region {
     ghost invariant = { IsKept };
 }
 
-/// Free units from `at` on, between the first `index` extents and the others.
-#[derive(Clone, Copy)]
-struct Gap {
-    index: usize,
-    at: u32,
-}
-
-/// The first gap with room for so many units.
-fn first_gap(live: &[Extent], units: u32, wanted: u32) -> Option<Gap>
-    requires in_order { LieInOrder 0 units live.now }
-    requires some { 1 ≤ wanted }
-    ensures at { option_map (λ gap. gap.at) result ≡ least_place live.now units wanted }
-    ensures index { IfSome result (λ gap. IsPlaceFor live.now gap.index (extent_at wanted gap.at)) }
-{
-    let mut end = 0;
-    for (index, extent) in live.iter().enumerate() {
-        if extent.at - end >= wanted {
-            return Some(Gap { index, at: end });
-        }
-        end = extent.at + extent.units;
-    }
-    if units - end >= wanted {
-        Some(Gap {
-            index: live.len(),
-            at: end,
-        })
-    } else {
-        None
-    }
-}
-
-/// The extent of so many units at their least place.
-fn find(live: &[Extent], units: u32, wanted: u32) -> Option<Extent>
-    requires in_order { LieInOrder 0 units live.now }
-    requires some { 1 ≤ wanted }
-    ensures { result ≡ option_map (extent_at wanted) (least_place live.now units wanted) }
-{
-    match first_gap(live, units, wanted) {
-        None => None,
-        Some(gap) => Some(Extent {
-            at: gap.at,
-            units: wanted,
-        }),
-    }
-}
-
-/// Adds an extent at a place of the list, for which there is room.
-fn insert(live: &mut Vec<Extent>, index: usize, extent: Extent)
-    requires index { index ≤ vec_len live.old }
-    requires room { vec_len live.old < vec_capacity live.old }
-    ensures items { live.new.items ≡ insert live.old.items index extent }
-    ensures there { Contains live.new.items extent }
-    ensures count { length live.new.items ≡ length live.old.items + 1 }
-    ensures room { vec_capacity live.old ≤ vec_capacity live.new }
-{
-    match live.insert(index, extent) {
-        Ok(()) => {}
-        Err(_) => unreachable!(),
-    }
-}
-
-/// Adds the extent of so many units at their least place.
-fn place(live: &mut Vec<Extent>, units: u32, wanted: u32) -> Option<Extent>
-    requires in_order { LieInOrder 0 units live.old.items }
-    requires some { 1 ≤ wanted }
-    requires room { vec_len live.old < vec_capacity live.old }
-    ensures least { result ≡ option_map (extent_at wanted) (least_place live.old.items units wanted) }
-    ensures adds { live.new.items ≡ live_after result live.old.items }
-    ensures there { IfSome result (Contains live.new.items) }
-    ensures count { length live.new.items ≤ length live.old.items + 1 }
-    ensures in_order { LieInOrder 0 units live.new.items }
-    ensures room { vec_capacity live.old ≤ vec_capacity live.new }
-{
-    match first_gap(live.as_slice(), units, wanted) {
-        None => None,
-        Some(gap) => {
-            let extent = Extent {
-                at: gap.at,
-                units: wanted,
-            };
-            insert(live, gap.index, extent);
-            Some(extent)
-        }
-    }
-}
-
-/// The place of an extent in the list.
-fn index_of(live: &[Extent], extent: Extent) -> usize
-    requires in_order { (units : ℕ) × LieInOrder 0 units live.now }
-    requires live { Contains live.now extent }
-    ensures within { result < length live.now }
-    ensures removes { remove live.now result ≡ without_extent extent live.now }
-{
-    live.partition_point(|other| other.at < extent.at)
-}
-
-fn take_out(live: &mut Vec<Extent>, extent: Extent)
-    requires in_order { (units : ℕ) × LieInOrder 0 units live.old.items }
-    requires live { Contains live.old.items extent }
-    ensures removes { live.new.items ≡ without_extent extent live.old.items }
-    ensures count { length live.new.items + 1 ≡ length live.old.items }
-    ensures in_order { (units : ℕ) → LieInOrder 0 units live.old.items → LieInOrder 0 units live.new.items }
-    ensures room { vec_capacity live.new ≡ vec_capacity live.old }
-{
-    let index = index_of(live.as_slice(), extent);
-    let _freed = live.remove(index);
-}
-
 impl Region {
-    /// A region of so many units, all free, in which at most so many extents are in use at once.
+    /// A region of so many units, all free, of which at most so many extents are in use when one
+    /// of them is given back.
     ///
     /// # Errors
     ///
-    /// There is no memory for the list of extents.
+    /// There is no memory for the list of holes.
     pub fn new(alloc: Global, units: u32, most: u32) -> Result<Region, AllocError>
         requires { 1 ≤ most }
-        ensures { IfOk result (λ r. r ≡ record { units = units; most = most; live = [] }) }
+        ensures units { IfOk result (λ r. r.units ≡ units) }
+        ensures most { IfOk result (λ r. r.most ≡ most) }
+        ensures free { IfOk result (λ r. AreHolesBeside r []) }
     {
-        Ok(Region {
-            units,
-            most,
-            live: Vec::with_capacity(alloc, most as usize)?,
-        })
+        let mut holes = Vec::with_capacity(alloc, most as usize + 1)?;
+        if units > 0 {
+            holes.push(Extent { at: 0, units })?;
+        }
+        Ok(Region { units, most, holes })
     }
 
-    /// The extent that `place` would answer, also where as many are in use as may be.
+    /// The extent that `place` would answer. It looks at the holes by their places, up to the first
+    /// one with so many units.
     pub fn find(&self, units: u32) -> Option<Extent>
         requires { 1 ≤ units }
-        ensures { result ≡ free_extent self.now units }
+        ensures least { (extents : List Extent) → AreHolesBeside self.now extents → result ≡ least_extent extents self.now.units units }
     {
-        find(self.live.as_slice(), self.units, units)
+        match holes::first_with_room(self.holes.as_slice(), units) {
+            None => None,
+            Some(index) => Some(Extent {
+                at: self.holes[index].at,
+                units,
+            }),
+        }
     }
 
     /// Takes so many units in a row into use, at the least place at which they are free. Nothing
-    /// changes where there is no such place.
+    /// changes where there is no such place. It takes the time of `find`, and the holes behind move
+    /// up where the one that it takes has no unit more.
     pub fn place(&mut self, units: u32) -> Option<Extent>
-        requires some { 1 ≤ units }
-        requires few { length self.old.live < self.old.most }
-        ensures least { result ≡ free_extent self.old units }
-        ensures adds { self.new ≡ record self.old { live = live_after result self.old.live } }
-        ensures in_order { LieInOrder 0 self.new.units self.new.live }
-
-        // What the next calls ask, where it is told from this one.
-        ensures there { IfSome result (Contains self.new.live) }
-        ensures count { length self.new.live ≤ length self.old.live + 1 }
+        requires { 1 ≤ units }
+        ensures least { (extents : List Extent) → AreHolesBeside self.old extents → result ≡ least_extent extents self.old.units units }
+        ensures adds { (extents : List Extent) (index : ℕ) → AreHolesBeside self.old extents →
+            AreHolesBeside self.new (with_placed result index extents) }
+        ensures units { self.new.units ≡ self.old.units }
         ensures most { self.new.most ≡ self.old.most }
     {
-        place(&mut self.live, self.units, units)
+        match holes::first_with_room(self.holes.as_slice(), units) {
+            None => None,
+            Some(index) => Some(holes::take_front(&mut self.holes, index, units)),
+        }
     }
 
-    /// Makes the units of an extent free again.
+    /// Makes the units of an extent free again. Its place among the holes is found by binary
+    /// search, and the holes behind it move, unless it touches the hole before it alone.
     pub fn give_back(&mut self, extent: Extent)
-        requires { Contains self.old.live extent }
-        ensures removes { self.new ≡ record self.old { live = without_extent extent self.old.live } }
-        ensures in_order { LieInOrder 0 self.new.units self.new.live }
-        ensures count { length self.new.live + 1 ≡ length self.old.live }
+        requires { (extents : List Extent) × Contains extents extent × AreInUse self.old extents }
+        ensures frees { (extents : List Extent) → Contains extents extent → AreInUse self.old extents →
+            AreHolesBeside self.new (without_extent extent extents) }
+        ensures units { self.new.units ≡ self.old.units }
         ensures most { self.new.most ≡ self.old.most }
     {
-        take_out(&mut self.live, extent);
+        holes::give_back(&mut self.holes, extent);
     }
 }

@@ -12,7 +12,7 @@ use Rattle.dimensions.proofs.Counting.{count-none}
 use Rattle.region.specs.declared.extent.Extent.{Extent}
 use Rattle.region.specs.Places.{overlaps, is_free}
 use Rattle.region.specs.Extents.{AreApart}
-use Rattle.region.proofs.Gaps.{IsLeastFrom, least_place-least}
+use Rattle.region.proofs.LeastPlaces.{IsLeastFrom, least_place-least}
 use Rattle.content_store.specs.Contents.{Content, unfilled_content, units_of, is_held}
 use Rattle.content_store.specs.declared.blob_row.BlobRow.{BlobRow}
 use Rattle.content_store.specs.BlobRows.{BlobRowsState, has_digest, is_blob, blob_of, extent_of_row, place_for}
@@ -31,7 +31,7 @@ pub record AreDistinct (rows : List BlobRow) (placed : ℕ) : Type 0 where
 
 -- a row as a content whose bytes have not come
 abbrev own_content : BlobRow → Content
-own_content row = unfilled_content row.digest row.size row.extent
+own_content row = unfilled_content row.digest row.size row.no row.extent
 
 contents_stored : (rows : List BlobRow) → map stored_row rows ≡ map stored_content (map own_content rows)
 contents_stored [] = refl

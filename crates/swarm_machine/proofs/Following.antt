@@ -1,6 +1,8 @@
 -- What each index is after an entry.
-use Rattle.std.proofs.Common.{◌≡◌, ℕ, ◌+◌, ◌<◌, Bool, true, false, cond, List, length, map, Option, Some, None, refl, sym, ap, ◌∙◌, subst, arith}
-use Rattle.swarm_model.specs.declared.attempt.Attempt.{Attempt}
+use Rattle.std.specs.Option.{option_map}
+use Rattle.std.proofs.Common.{◌≡◌, ℕ, ◌+◌, ◌<◌, List, length, map, Option, Some, None, refl, sym, ap, ◌∙◌, subst, arith}
+use Rattle.content_store.specs.declared.blob_row.BlobRow.{BlobRow}
+use Rattle.swarm_model.specs.declared.attempt.Chunk.{Chunk}
 use Rattle.swarm_model.specs.declared.task_state.TaskState.{TaskState}
 use Rattle.swarm_model.specs.declared.task_row.TaskRow.{TaskRow}
 use Rattle.swarm_model.specs.declared.deadline.Deadline.{Deadline}
@@ -8,37 +10,46 @@ use Rattle.swarm_model.specs.declared.pool_state.PoolState.{PoolState}
 use Rattle.swarm_model.specs.declared.entry.Entry.{Entry}
 use Rattle.swarm_model.specs.declared.entry.EntryKind.{EntryKind}
 use Rattle.swarm_model.specs.declared.entry.EntryKind.TheVariants as kind
-use Rattle.swarm_model.specs.Effects.{after, with_blobs, put_chunk, fresh_chunk, attempt_of}
+use Rattle.swarm_model.specs.Deadlines.{blob_end}
+use Rattle.swarm_model.specs.Effects.{after}
 use Rattle.swarm_model.specs.History.{MayFollow, count_in, states, tally}
 use Rattle.swarm_model.specs.Soundness.{IsSound}
-use Rattle.index_laws.specs.RowDeadlines.{AreTaskDeadlines, AreBotDeadlines, put_deadline, task_deadline_of, bot_deadline_of, first_blob_deadline}
+use Rattle.index_laws.specs.BlobDeadlines.{AreBlobDeadlines, AreMoved, touched_blob, blob_end_before, blob_end_after}
+use Rattle.index_laws.specs.RowDeadlines.{AreTaskDeadlines, AreBotDeadlines, put_deadline, task_deadline_of, bot_deadline_of}
 use Rattle.index_laws.specs.StateCounts.{touched_row, count_of_row}
 use Rattle.index_laws.specs.Touched.{touched_task, touched_bot}
+use Rattle.index_laws.proofs.BlobDeadlinesFollow.{blob_deadlines_follow}
 use Rattle.index_laws.proofs.AddedRows.{rows_grow_by_one}
 use Rattle.index_laws.proofs.CountsFollow.{counts_follow}
 use Rattle.index_laws.proofs.DeadlinesFollow.{task_deadlines_follow, bot_deadlines_follow}
+use Rattle.pool_changes.specs.Blobs.{fresh_in}
 use Rattle.swarm_machine.specs.Counting.{is_in, one_if, shifted, AreShifted}
-use Rattle.swarm_machine.specs.Indexes.{may_change_blobs, state_of_row}
+use Rattle.swarm_machine.specs.Indexes.{state_of_row}
+use Rattle.swarm_machine.specs.TouchedBlobs.{touched_with, blob_end_with}
 
 -- ---- the blobs
 
-same_chunk : (s : PoolState) (m : ℕ) (run : Option Attempt) → (put_chunk s m (fresh_chunk run None)).blobs ≡ s.blobs
-same_chunk s m None = refl
-same_chunk s m (Some attempt) = refl
+-- the blob that an entry may change, whose chunk is told from the rows before it
+touched_is : (s : PoolState) (k : EntryKind) (rows : List BlobRow) → touched_with (fresh_in s k) k rows ≡ touched_blob s k rows
+touched_is s (kind.Update b t try_no chunk last) rows = refl
+touched_is s k rows = refl
 
-same_blobs : (s : PoolState) (m : ℕ) (k : EntryKind) → may_change_blobs k ≡ false → (with_blobs s m k).blobs ≡ s.blobs
-same_blobs s m (kind.Blob n kept) no_change = absurd (cc (no_change))
-same_blobs s m (kind.Put digest size) no_change = absurd (cc (no_change))
-same_blobs s m (kind.Update b t try_no (Some chunk) last) no_change = absurd (cc (no_change))
-same_blobs s m (kind.Update b t try_no None last) no_change = same_chunk s m (attempt_of s t)
-same_blobs s m k no_change = refl
+-- its deadline before the entry
+pub end_before : (s : PoolState) (e : Entry) → blob_end_with (fresh_in s e.kind) e.kind s.blobs ≡ blob_end_before s e
+end_before s e = ap (option_map blob_end) (touched_is s e.kind s.blobs)
 
--- the earliest deadline of the blobs, which is looked for again where they may have changed
-pub blob_end_follows : (s : PoolState) (e : Entry) (changes : Bool) → changes ≡ may_change_blobs e.kind → (old new : Option Deadline) → old ≡ first_blob_deadline s →
-    new ≡ cond changes (first_blob_deadline (after s e)) old → new ≡ first_blob_deadline (after s e)
-blob_end_follows s e true is old new before found = found
-blob_end_follows s e false is old new before found =
-    found ∙ before ∙ (λ i. first_blob_deadline (let x : PoolState = record (after s e) { blobs = sym (same_blobs s e.moment e.kind (sym is)) i } in x))
+-- the deadlines of the blobs, of which one is moved
+pub blob_ends_after : (s : PoolState) (e : Entry) → IsSound s → MayFollow s e → (old new : List Deadline) (gone come : Option Deadline) (fresh : Option Chunk) (rows : List BlobRow) →
+    AreBlobDeadlines old s → gone ≡ blob_end_before s e → fresh ≡ fresh_in s e.kind → rows ≡ (after s e).blobs → come ≡ blob_end_with fresh e.kind rows → AreMoved gone come old new →
+    AreBlobDeadlines new (after s e)
+blob_ends_after s e sound follows old new gone come fresh rows are before own now is moved =
+    let later : come ≡ blob_end_after s e =
+    is
+    ∙ ap (λ (o : Option Chunk). blob_end_with o e.kind rows) own
+    ∙ ap (blob_end_with (fresh_in s e.kind) e.kind) now
+    ∙ ap (option_map blob_end) (touched_is s e.kind (after s e).blobs) in
+    blob_deadlines_follow s e sound follows old new are
+    (subst (λ (o : Option Deadline). AreMoved o (blob_end_after s e) old new) before (subst (λ (o : Option Deadline). AreMoved gone o old new) later moved))
 
 -- ---- the counts
 

@@ -5,6 +5,7 @@ mod TasksBelow
 mod Finding
 mod NumberedTasks
 mod Following
+mod Moving
 mod Counts
 mod Keeping
 mod Committing

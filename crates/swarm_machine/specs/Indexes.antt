@@ -1,17 +1,17 @@
 -- What the indexes of a pool say of its rows.
-use Rattle.std.specs.Prelude.{◌≡◌, ℕ, Bool, true, false, ◌+◌, ◌<◌, ◌^◌, length, Option, is_some}
+use Rattle.std.specs.Prelude.{◌≡◌, ℕ, ◌+◌, ◌<◌, ◌^◌, length, Option}
 use Rattle.std.specs.Option.{option_map}
 use Rattle.swarm_model.specs.declared.task_state.TaskState.{TaskState}
 use Rattle.swarm_model.specs.declared.task_row.TaskRow.{TaskRow}
 use Rattle.swarm_model.specs.declared.pool_state.PoolState.{PoolState}
 use Rattle.swarm_model.specs.declared.entry.Entry.{Entry}
 use Rattle.swarm_model.specs.declared.entry.EntryKind.{EntryKind}
-use Rattle.swarm_model.specs.declared.entry.EntryKind.TheVariants as kind
 use Rattle.swarm_model.specs.Effects.{after}
 use Rattle.swarm_model.specs.History.{MayFollow, tally}
 use Rattle.swarm_model.specs.Soundness.{IsSound}
 use Rattle.index_laws.specs.Touched.{touched_task, touched_bot}
-use Rattle.index_laws.specs.RowDeadlines.{AreTaskDeadlines, AreBotDeadlines, first_blob_deadline}
+use Rattle.index_laws.specs.BlobDeadlines.{AreBlobDeadlines, blob_end_before}
+use Rattle.index_laws.specs.RowDeadlines.{AreTaskDeadlines, AreBotDeadlines}
 use Rattle.index_laws.specs.StateCounts.{touched_row}
 use Rattle.index_laws.specs.TaskQueues.{AreQueued}
 use Rattle.index_laws.specs.TaskClaims.{AreClaims, claim_link_to_come}
@@ -31,7 +31,7 @@ pub record AreIndexes (indexes : Indexes) (s : PoolState) : Type 0 where
   pub queues : AreQueued indexes.queues.queues s.tasks
   pub task_ends : AreTaskDeadlines indexes.task_ends s
   pub bot_ends : AreBotDeadlines indexes.bot_ends s
-  pub blob_end : indexes.blob_end ≡ first_blob_deadline s
+  pub blob_ends : AreBlobDeadlines indexes.blob_ends.deadlines s
   pub claims : AreClaims indexes.claims.links s.tasks
   pub uuids : AreUuids indexes.uuids.links s.tasks
   pub sources : AreSources indexes.sources.links s.tasks
@@ -42,6 +42,7 @@ pub record AreIndexes (indexes : Indexes) (s : PoolState) : Type 0 where
 pub record AreReadyFor (indexes : Indexes) (s : PoolState) (k : EntryKind) : Type 0 where
   pub task_ends : length s.tasks + 1 < length indexes.task_ends
   pub bot_ends : length s.bots + 1 < length indexes.bot_ends
+  pub blob_ends : 0 < indexes.blob_ends.room
   pub queue : IsReadyFor indexes.queues.ready (dims_to_come s.tasks k)
   pub claim : indexes.claims.ready ≡ claim_link_to_come k
   pub uuid : indexes.uuids.ready ≡ uuid_link_to_come k
@@ -54,21 +55,14 @@ pub record IsMadeReady (rows : Rows) (indexes : Indexes) (log_size log_room : �
   pub indexes_of : AreReadyFor indexes (state_of rows) entry.kind
   pub log : log_size < log_room
 
--- whether an entry of this kind may change the blobs
-abbrev pub may_change_blobs : EntryKind → Bool
-may_change_blobs (kind.Blob n kept) = true
-may_change_blobs (kind.Put digest size) = true
-may_change_blobs (kind.Update b t try_no chunk last) = is_some chunk
-may_change_blobs entry = false
-
 abbrev pub state_of_row : Option TaskRow → Option TaskState
 state_of_row row = option_map (λ task. task.state) row
 
--- the rows that an entry may change, and the state of the task before it
+-- the rows that an entry may change, with the deadline of the blob and the state of the task before it
 pub record IsTouchedBy (s : PoolState) (e : Entry) (touched : Touched) : Type 0 where
   pub task : touched.task ≡ touched_task s e.kind
   pub bot : touched.bot ≡ touched_bot s e.kind
-  pub blobs : touched.blobs ≡ may_change_blobs e.kind
+  pub blob_end : touched.blob_end ≡ blob_end_before s e
   pub fresh : touched.fresh ≡ fresh_in s e.kind
   pub state : touched.state ≡ state_of_row (touched_row s (touched_task s e.kind))
 

@@ -2,6 +2,7 @@ pub mod Plain
 pub mod Changing
 pub mod Inside
 pub mod Counting
+pub mod TouchedBlobs
 pub mod Uses
 pub mod UsesBehind
 pub mod Indexes

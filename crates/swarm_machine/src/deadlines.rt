@@ -1,18 +1,21 @@
-//! The deadlines of rows, each at the number of its row.
-ghost use Rattle.std.specs.Prelude.{◌≡◌, map, None, IfSome, slice_set};
-ghost use Rattle.std.specs.List.{fold};
+//! The deadlines of rows: those of tasks and bots at the numbers of their rows, those of blobs in
+//! their order.
+ghost use Rattle.std.specs.Prelude.{◌≡◌, ◌<◌, ◌≤◌, None, IfSome, slice_set};
 ghost use Rattle.std.specs.Option.{option_copied};
-ghost use Rattle.swarm_model.specs.Deadlines.{runner_of, silence_end, bot_end, blob_end, sooner};
+ghost use Rattle.swarm_model.specs.Deadlines.{runner_of, silence_end, bot_end};
 ghost use Rattle.swarm_model.specs.Finding.{task_of, bot_of};
 ghost use Rattle.swarm_model.specs.Soundness.{IsSound};
 ghost use Rattle.row_changes.specs.Rows.{IsEarly, IsHeard};
+ghost use Rattle.index_laws.specs.BlobDeadlines.{AreMoved};
 ghost use Rattle.index_laws.specs.RowDeadlines.{task_deadline, task_deadline_of, bot_deadline_of, put_deadline};
 ghost use Rattle.swarm_machine.specs.Inside.{state_of};
+ghost use Rattle.swarm_machine.specs.TouchedBlobs.{blob_end_with};
 
 use crate::rows::Rows;
-use pool_index::{DeadlineTree, sooner_of};
+use crate::touched::touched_blob;
+use pool_index::{DeadlineQueue, DeadlineTree};
 use row_changes::{blob_end, death_of, silence_limit, slice_end};
-use swarm_model::{BlobRow, BotRow, Deadline, TaskRow, TaskState};
+use swarm_model::{BotRow, Chunk, Deadline, EntryKind, TaskRow, TaskState};
 
 fn bot_of(rows: &Rows, number: u32) -> Option<&BotRow>
     requires { IsSound (state_of rows.now) }
@@ -127,13 +130,48 @@ pub(crate) fn put_bot_deadline(ends: &mut DeadlineTree, touched: Option<u32>, ro
     }
 }
 
-/// The earliest deadline of the blobs.
-pub(crate) fn first_blob_deadline(blobs: &[BlobRow]) -> Option<Deadline>
-    ensures { result ≡ fold sooner None (map blob_end blobs.now) }
+/// The deadline of the blob that an entry of this kind may change. `fresh` is its chunk, where that
+/// went on from the output before the entry.
+pub(crate) fn blob_end_with(rows: &Rows, kind: &EntryKind, fresh: Option<Chunk>) -> Option<Deadline>
+    ensures { result ≡ blob_end_with fresh kind.now rows.now.blobs.rows }
 {
-    let mut soonest = None;
-    for blob in blobs {
-        soonest = sooner_of(soonest, Some(blob_end(blob)));
+    match touched_blob(rows, kind, fresh) {
+        None => None,
+        Some(blob) => Some(blob_end(blob)),
     }
-    soonest
+}
+
+/// Takes out a deadline, where there is one.
+fn take_out(ends: &mut DeadlineQueue, gone: Option<Deadline>)
+    ensures moved { AreMoved gone None ends.old.deadlines ends.new.deadlines }
+    ensures room { ends.old.room ≤ ends.new.room }
+{
+    match gone {
+        None => {}
+        Some(deadline) => ends.remove(deadline),
+    }
+}
+
+/// Puts in a deadline, where there is one.
+fn put_in(ends: &mut DeadlineQueue, come: Option<Deadline>)
+    requires { 0 < ends.old.room }
+    ensures { AreMoved None come ends.old.deadlines ends.new.deadlines }
+{
+    match come {
+        None => {}
+        Some(deadline) => ends.add(deadline),
+    }
+}
+
+/// One deadline goes, and another one comes in its place. It takes no memory.
+pub(crate) fn move_deadline(
+    ends: &mut DeadlineQueue,
+    gone: Option<Deadline>,
+    come: Option<Deadline>,
+)
+    requires { 0 < ends.old.room }
+    ensures { AreMoved gone come ends.old.deadlines ends.new.deadlines }
+{
+    take_out(ends, gone);
+    put_in(ends, come);
 }

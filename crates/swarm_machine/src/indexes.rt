@@ -1,25 +1,26 @@
 //! What a pool keeps beside its rows, so that a request finds the rows that it needs at once.
-ghost use Rattle.std.specs.Prelude.{◌≡◌, ◌<◌, ◌^◌, length, OnOk, if◌then◌else◌};
+ghost use Rattle.std.specs.Prelude.{◌≡◌, ◌<◌, ◌^◌, length, OnOk};
 ghost use Rattle.swarm_model.specs.declared.pool_settings.PoolSettings.{PoolSettings};
 ghost use Rattle.swarm_model.specs.declared.pool_state.PoolState.{PoolState};
 ghost use Rattle.swarm_model.specs.Deadlines.{next_deadline};
 ghost use Rattle.swarm_model.specs.Effects.{opening};
 ghost use Rattle.swarm_model.specs.Soundness.{IsSound};
-ghost use Rattle.index_laws.specs.RowDeadlines.{first_blob_deadline};
 ghost use Rattle.index_laws.specs.TaskClaims.{claim_link_to_come};
 ghost use Rattle.index_laws.specs.TaskUuids.{uuid_link_to_come};
 ghost use Rattle.swarm_machine.specs.Inside.{state_of};
-ghost use Rattle.swarm_machine.specs.Indexes.{may_change_blobs, AreIndexes, AreReadyFor, IsTouchedBy, AreBehind};
+ghost use Rattle.swarm_machine.specs.Indexes.{AreIndexes, AreReadyFor, IsTouchedBy, AreBehind};
 
 use crate::counting::{shift_counts, state_in};
-use crate::deadlines::{first_blob_deadline, put_bot_deadline, put_task_deadline};
+use crate::deadlines::{blob_end_with, move_deadline, put_bot_deadline, put_task_deadline};
 use crate::queueing::{prepare_queue, requeue};
 use crate::rows::Rows;
 use crate::sources::prepare_source;
 use crate::touched::{touched_bot, touched_task};
 use crate::uses::{follow_uses, list_uses};
 use dim_queue::Queues;
-use pool_index::{ClaimIndex, DeadlineTree, SourceIndex, UseCounts, UuidIndex, sooner_of};
+use pool_index::{
+    ClaimIndex, DeadlineQueue, DeadlineTree, SourceIndex, UseCounts, UuidIndex, sooner_of,
+};
 use std::alloc::{AllocError, Global};
 use swarm_model::{Chunk, Deadline, Entry, EntryKind, TaskState};
 
@@ -32,8 +33,8 @@ pub(crate) struct Indexes {
     pub task_ends: DeadlineTree,
     /// At the number of each bot.
     pub bot_ends: DeadlineTree,
-    /// The earliest of the blobs'.
-    pub blob_end: Option<Deadline>,
+    /// Of the blobs, in their order.
+    pub blob_ends: DeadlineQueue,
     pub claims: ClaimIndex,
     pub uuids: UuidIndex,
     pub sources: SourceIndex,
@@ -46,8 +47,8 @@ pub(crate) struct Indexes {
 pub(crate) struct Touched {
     pub task: Option<u32>,
     pub bot: Option<u32>,
-    /// Whether it may change the blobs.
-    pub blobs: bool,
+    /// The deadline of the blob that it may change.
+    pub blob_end: Option<Deadline>,
     /// The chunk of the entry, where it goes on from the output that is kept.
     pub fresh: Option<Chunk>,
     /// The state of the task, where it is there.
@@ -87,39 +88,18 @@ fn prepare_uuid(uuids: &mut UuidIndex, kind: &EntryKind) -> Result<(), AllocErro
     }
 }
 
-/// Whether an entry of this kind may change the blobs.
-fn may_change_blobs(kind: &EntryKind) -> bool
-    ensures { result ≡ may_change_blobs kind.now }
-{
-    match kind {
-        EntryKind::Blob { .. } | EntryKind::Put { .. } => true,
-        EntryKind::Update { chunk, .. } => chunk.is_some(),
-        _ => false,
-    }
-}
-
 /// Tells the rows that the entry may change.
 pub(crate) fn touched_by(rows: &Rows, entry: &Entry) -> Touched
     ensures { IsTouchedBy (state_of rows.now) entry.now result }
 {
     let task = touched_task(rows, &entry.kind);
+    let fresh = rows.fresh_in(&entry.kind);
     Touched {
         task,
         bot: touched_bot(rows, &entry.kind),
-        blobs: may_change_blobs(&entry.kind),
-        fresh: rows.fresh_in(&entry.kind),
+        blob_end: blob_end_with(rows, &entry.kind, fresh),
+        fresh,
         state: state_in(rows, task),
-    }
-}
-
-/// The earliest deadline of the blobs, which is looked for again where they may have changed.
-fn blob_end_after(before: Option<Deadline>, changed: bool, rows: &Rows) -> Option<Deadline>
-    ensures { result ≡ (if changed then first_blob_deadline (state_of rows.now) else before) }
-{
-    if changed {
-        first_blob_deadline(rows.blobs.rows())
-    } else {
-        before
     }
 }
 
@@ -132,7 +112,7 @@ impl Indexes {
             queues: Queues::new(alloc),
             task_ends: DeadlineTree::new(alloc),
             bot_ends: DeadlineTree::new(alloc),
-            blob_end: None,
+            blob_ends: DeadlineQueue::new(alloc),
             claims: ClaimIndex::new(alloc),
             uuids: UuidIndex::new(alloc),
             sources: SourceIndex::new(alloc),
@@ -146,7 +126,7 @@ impl Indexes {
         ensures { (s : PoolState) → IsSound s → AreIndexes self.now s → result ≡ next_deadline s }
     {
         let soonest = sooner_of(self.task_ends.first(), self.bot_ends.first());
-        sooner_of(soonest, self.blob_end)
+        sooner_of(soonest, self.blob_ends.first())
     }
 
     /// Makes ready all that an entry adds.
@@ -158,6 +138,7 @@ impl Indexes {
     {
         self.task_ends.cover(rows.tasks.count().saturating_add(2))?;
         self.bot_ends.cover(rows.bots.count().saturating_add(2))?;
+        self.blob_ends.reserve()?;
         prepare_queue(&mut self.queues, &entry.kind, rows)?;
         prepare_claim(&mut self.claims, &entry.kind)?;
         prepare_uuid(&mut self.uuids, &entry.kind)?;
@@ -173,7 +154,8 @@ impl Indexes {
     {
         put_task_deadline(&mut self.task_ends, touched.task, rows);
         put_bot_deadline(&mut self.bot_ends, touched.bot, rows);
-        self.blob_end = blob_end_after(self.blob_end, touched.blobs, rows);
+        let blob_end = blob_end_with(rows, &entry.kind, touched.fresh);
+        move_deadline(&mut self.blob_ends, touched.blob_end, blob_end);
         requeue(&mut self.queues, touched.task, rows);
         self.claims.add();
         self.uuids.add();

@@ -12,15 +12,16 @@
 //! A task or a bot is found at its place by its number, and by bisection by its name, uuid or
 //! claim, and so is the newest source of a hash, and whether a blob is in use. A poll or a claim
 //! reads at most one task row, and matches each set of dimensions with which tasks wait at most
-//! once. The earliest deadline is at hand, and so are the counts; a new deadline of a task or a
-//! bot costs a comparison for each halving of the rows. The sets of a new task are compared with
+//! once. The earliest deadline is at hand, and so are the counts; a new deadline of a task, a bot or
+//! a blob costs a comparison for each halving of the rows. A new deadline of a blob stands last, and
+//! the deadline of a blob whose life ends stands first, so neither moves others; that of a blob which
+//! is put again moves at most half of them, 16 bytes each. The sets of a new task are compared with
 //! at most 1,024 that are known, and the one with which it will wait with those of the queues; one
 //! that is not known costs a pass over the bots, and so does a run that is lost by silence.
 //! `commit` takes no memory: `reserve` took it.
 //!
 //! These read one row after another: a page of tasks in one state, as far as it has to look, so
-//! that a rare state costs all of them; a blob by its digest or number; and the earliest deadline
-//! of the blobs, which is looked for where an entry may have changed them.
+//! that a rare state costs all of them; and a blob by its digest or number.
 #![tactic(auto)]
 
 mod changing_tasks;

@@ -209,7 +209,7 @@ impl PoolQueries for Pool {
     }
 
     fn blob_count(&self) -> usize {
-        self.rows.blobs.rows().len()
+        self.rows.blobs.count()
     }
 
     fn blob_of<'a>(&'a self, digest: &Digest) -> Option<&'a BlobRow> {
@@ -334,13 +334,13 @@ impl Machine for Pool {
     fn fill(&mut self, digest: &Digest, bytes: &[u8]) -> Filled {
         drop(self.ready.take());
         // For the proof: the rows of the blobs are tied to the store.
-        let _rows = self.rows.blobs.rows();
+        let _count = self.rows.blobs.count();
         self.rows.blobs.fill(digest, bytes)
     }
 
     fn bytes(&self, digest: &Digest) -> Option<&[u8]> {
         // For the proof: the rows of the blobs are tied to the store.
-        let _rows = self.rows.blobs.rows();
+        let _count = self.rows.blobs.count();
         self.rows.blobs.bytes(digest)
     }
 
@@ -365,7 +365,7 @@ impl Machine for Pool {
     }
 
     fn blob_at(&self, at: u32) -> Option<&BlobRow> {
-        self.rows.blobs.rows().get(at as usize)
+        self.rows.blobs.row_at(at as usize)
     }
 
     fn task<L: Ledger>(&self, no: u32, steps: &mut Steps<L>) -> Option<&TaskRow> {

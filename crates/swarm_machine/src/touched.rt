@@ -1,11 +1,12 @@
 //! Which rows an entry may change, told before it changes them.
 ghost use Rattle.std.specs.Prelude.{◌≡◌};
-ghost use Rattle.std.specs.Option.{option_map};
+ghost use Rattle.std.specs.Option.{option_map, option_copied};
 ghost use Rattle.index_laws.specs.Touched.{attempt_bot_in, touched_task, touched_bot};
 ghost use Rattle.swarm_machine.specs.Inside.{state_of};
+ghost use Rattle.swarm_machine.specs.TouchedBlobs.{touched_with};
 
 use crate::rows::Rows;
-use swarm_model::{Attempt, EntryKind};
+use swarm_model::{Attempt, BlobRow, Chunk, EntryKind};
 
 fn bot_of_run(attempt: &Option<Attempt>) -> Option<u32>
     ensures { result ≡ option_map (λ run. run.bot) attempt.now }
@@ -60,6 +61,26 @@ pub(crate) fn touched_bot(rows: &Rows, kind: &EntryKind) -> Option<u32>
         | EntryKind::Event { b, .. }
         | EntryKind::Update { b, .. }
         | EntryKind::Terminate { b } => Some(*b),
+        _ => None,
+    }
+}
+
+/// The blob that an entry of this kind may change. `fresh` is its chunk, where that went on from the
+/// output before the entry.
+pub(crate) fn touched_blob<'a>(
+    rows: &'a Rows,
+    kind: &EntryKind,
+    fresh: Option<Chunk>,
+) -> Option<&'a BlobRow>
+    ensures { option_copied result ≡ touched_with fresh kind.now rows.now.blobs.rows }
+{
+    match kind {
+        EntryKind::Blob { n, .. } => rows.blobs.blob_numbered(*n),
+        EntryKind::Put { digest, .. } => rows.blobs.blob_of(digest),
+        EntryKind::Update { .. } => match fresh {
+            None => None,
+            Some(chunk) => rows.blobs.blob_of(&chunk.digest),
+        },
         _ => None,
     }
 }

@@ -1,7 +1,7 @@
 //! The earliest deadline, by a scan of the rows.
-ghost use Rattle.std.specs.Prelude.{◌≡◌, map, None, IfSome};
+ghost use Rattle.std.specs.Prelude.{◌≡◌, map, slice_get, None, IfSome};
 ghost use Rattle.std.specs.List.{fold, filter_map, All};
-ghost use Rattle.std.specs.Option.{option_copied};
+ghost use Rattle.std.specs.Option.{option_copied, option_map};
 ghost use Rattle.swarm_model.specs.Finding.{bot_of};
 ghost use Rattle.swarm_model.specs.Soundness.{IsSound};
 ghost use Rattle.swarm_model.specs.Deadlines.{slice_end, runner_of, silence_end, bot_end, blob_end, sooner, next_deadline};
@@ -9,9 +9,10 @@ ghost use Rattle.row_changes.specs.Rows.{IsEarly, IsHeard};
 ghost use Rattle.swarm_plain.specs.Inside.{state_of};
 
 use crate::rows::Rows;
+use content_store::Blobs;
 use pool_index::sooner_of;
 use row_changes::{blob_end, death_of, row_of, silence_limit, slice_end};
-use swarm_model::{BlobRow, BotRow, Deadline, TaskRow, TaskState};
+use swarm_model::{BotRow, Deadline, TaskRow, TaskState};
 
 fn bot_of(rows: &Rows, number: u32) -> Option<&BotRow>
     requires { IsSound (state_of rows.now) }
@@ -86,12 +87,22 @@ fn bots_ends(rows: &Rows, best: Option<Deadline>) -> Option<Deadline>
     soonest
 }
 
-fn blobs_ends(blobs: &[BlobRow], best: Option<Deadline>) -> Option<Deadline>
-    ensures { result ≡ fold sooner best (map blob_end blobs.now) }
+/// The end of the blob at a place of the rows.
+fn blob_end_at(blobs: &Blobs, at: usize) -> Option<Deadline>
+    ensures { result ≡ option_map blob_end (slice_get blobs.now.rows at) }
+{
+    match blobs.row_at(at) {
+        Some(blob) => Some(blob_end(blob)),
+        None => None,
+    }
+}
+
+fn blobs_ends(blobs: &Blobs, best: Option<Deadline>) -> Option<Deadline>
+    ensures { result ≡ fold sooner best (map blob_end blobs.now.rows) }
 {
     let mut soonest = best;
-    for blob in blobs {
-        soonest = sooner_of(soonest, Some(blob_end(blob)));
+    for at in 0..blobs.count() {
+        soonest = sooner_of(soonest, blob_end_at(blobs, at));
     }
     soonest
 }
@@ -104,5 +115,5 @@ pub(crate) fn next_deadline(rows: &Rows) -> Option<Deadline>
     let slices = slices_ends(rows);
     let silences = silences_ends(rows, slices);
     let bots = bots_ends(rows, silences);
-    blobs_ends(rows.blobs.rows(), bots)
+    blobs_ends(&rows.blobs, bots)
 }

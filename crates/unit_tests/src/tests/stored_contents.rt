@@ -48,11 +48,13 @@ fn the_least_place_is_taken(rt: HostRuntime) -> Result<(), Fail> {
 #[test]
 fn a_content_is_held_under_its_digest(rt: HostRuntime) -> Result<(), Fail> {
     let mut store = ContentStore::new(rt.alloc(), 1, 1)?;
-    assert_eq!(rt; store.hold(&LONG_DIGEST, 65), Held::NoRoom);
+    assert_eq!(rt; store.hold(&LONG_DIGEST, 65, 1), Held::NoRoom);
     assert_eq!(rt; store.probe(&SHORT_DIGEST, 3), Held::Placed(extent(0, 1)));
-    assert_eq!(rt; store.hold(&SHORT_DIGEST, 3), Held::Placed(extent(0, 1)));
-    assert_eq!(rt; store.hold(&SHORT_DIGEST, 3), Held::Present);
-    assert_eq!(rt; store.hold(&LONG_DIGEST, 56), Held::NoNames);
+    assert_eq!(rt; store.hold(&SHORT_DIGEST, 3, 7), Held::Placed(extent(0, 1)));
+    assert_eq!(rt; store.number_of(&SHORT_DIGEST), Some(7));
+    assert_eq!(rt; store.number_of(&LONG_DIGEST), None);
+    assert_eq!(rt; store.hold(&SHORT_DIGEST, 3, 8), Held::Present);
+    assert_eq!(rt; store.hold(&LONG_DIGEST, 56, 8), Held::NoNames);
 
     assert_eq!(rt;
         store.fill(&SHORT_DIGEST, LONG.as_bytes()),
@@ -66,7 +68,7 @@ fn a_content_is_held_under_its_digest(rt: HostRuntime) -> Result<(), Fail> {
     assert!(rt; store.remove(&SHORT_DIGEST));
     assert!(rt; !store.remove(&SHORT_DIGEST));
     assert!(rt; store.get(&SHORT_DIGEST).is_none());
-    assert_eq!(rt; store.hold(&LONG_DIGEST, 56), Held::Placed(extent(0, 1)));
+    assert_eq!(rt; store.hold(&LONG_DIGEST, 56, 8), Held::Placed(extent(0, 1)));
     Ok(())
 }
 
@@ -87,7 +89,9 @@ fn a_blob_has_a_row_and_its_content(rt: HostRuntime) -> Result<(), Fail> {
         extent: extent(0, 1),
         deadline: 1600,
     };
-    assert!(rt; blobs.rows() == [renewed].as_slice());
+    assert_eq!(rt; blobs.count(), 1);
+    assert!(rt; blobs.row_at(0) == Some(&renewed));
+    assert!(rt; blobs.row_at(1).is_none());
     assert!(rt; blobs.blob_of(&SHORT_DIGEST) == Some(&renewed));
 
     blobs.remove(1);
@@ -102,6 +106,7 @@ fn a_blob_has_a_row_and_its_content(rt: HostRuntime) -> Result<(), Fail> {
     };
     assert!(rt; blobs.blob_numbered(1).is_none());
     assert!(rt; blobs.blob_numbered(2) == Some(&next));
+    assert!(rt; blobs.blob_of(&LONG_DIGEST) == Some(&next));
 
     let digest = Sha256::digest(LONG.as_bytes());
     assert_eq!(rt; digest, LONG_DIGEST);

@@ -16,7 +16,7 @@ returns-in-Err-clause-told c =
     let named : same_digest (sha256 c.args.content.now) c.args.digest.now ≡ true =
     same_text (sha256 c.args.content.now) c.args.digest.now c.requires.named in
     told_unknown (map (content_in old) slots) c.args.digest.now c.args.content.now named
-    (not_held old slots c.args.digest.now c.in-Err.field-0 (rw c.as_slice.ensures.value at c.in-Err.ensures))
+    (not_held old slots c.args.digest.now c.in-Err.field-0 c.in-Err.ensures)
 
 pub returns-then-index-content-clause-told : goal.returns-then-index-content-clause-told
 returns-then-index-content-clause-told c =
@@ -26,7 +26,7 @@ returns-then-index-content-clause-told c =
     let named : same_digest (sha256 c.args.content.now) c.args.digest.now ≡ true =
     same_text (sha256 c.args.content.now) c.args.digest.now c.requires.named in
     told_other_size (map (content_in old) slots) c.args.digest.now c.args.content.now named (content_in old (get_or slots c.in-Ok.index d))
-    (held_at old slots c.args.digest.now c.in-Ok.index d c.requires.laid_out.sorted (rw c.as_slice.ensures.value at c.in-Ok.ensures))
+    (held_at old slots c.args.digest.now c.in-Ok.index d c.requires.laid_out.sorted c.in-Ok.ensures)
     (λ same_size. c.if-index-content.true (ap (λ (s : Slot). s.size) c.index.ensures ∙ same_size))
 
 pub returns-else-index-content-clause-told : goal.returns-else-index-content-clause-told
@@ -37,5 +37,5 @@ returns-else-index-content-clause-told c =
     let named : same_digest (sha256 c.args.content.now) c.args.digest.now ≡ true =
     same_text (sha256 c.args.content.now) c.args.digest.now c.requires.named in
     told_done (map (content_in old) slots) c.args.digest.now c.args.content.now named (content_in old (get_or slots c.in-Ok.index d))
-    (held_at old slots c.args.digest.now c.in-Ok.index d c.requires.laid_out.sorted (rw c.as_slice.ensures.value at c.in-Ok.ensures))
+    (held_at old slots c.args.digest.now c.in-Ok.index d c.requires.laid_out.sorted c.in-Ok.ensures)
     (sym (ap (λ (s : Slot). s.size) c.index.ensures) ∙ c.if-index-content.false)

@@ -13,7 +13,7 @@ use Rattle.content_store.proofs.row_changing.add.Goals as goal
 pub returns-in-Placed-clause-stored : goal.returns-in-Placed-clause-stored
 returns-in-Placed-clause-stored c =
     let row : BlobRow = record { no = c.args.placed + 1; digest = c.args.digest.now; size = c.args.size; extent = c.in-Placed.extent; deadline = c.args.deadline } in
-    let content : Content = unfilled_content c.args.digest.now c.args.size c.in-Placed.extent in
+    let content : Content = unfilled_content c.args.digest.now c.args.size (c.args.placed + 1) c.in-Placed.extent in
     let held = ap (λ (s : ContentStoreState). s.held) c.in-Placed.ensures.holds in
     subst (λ (l : List Content). AreStored c.push.new.rows.items (c.args.placed + 1) l) (sym held)
     (subst (λ (l : List BlobRow). AreStored l (c.args.placed + 1) (with_content content c.args.store.now.held)) (sym c.push.ensures.items)
@@ -28,7 +28,7 @@ returns-in-Placed-clause-rows c =
     units = ap (λ (s : ContentStoreState). s.units) c.in-Placed.ensures.holds
 
 pub returns-in-Placed-clause-store : goal.returns-in-Placed-clause-store
-returns-in-Placed-clause-store c = c.in-Placed.ensures.holds ∙ ap (store_after c.args.store.now c.args.digest.now c.args.size) c.in-Placed.ensures.told
+returns-in-Placed-clause-store c = c.in-Placed.ensures.holds ∙ ap (store_after c.args.store.now c.args.digest.now c.args.size (c.args.placed + 1)) c.in-Placed.ensures.told
 
 pub returns-in_default-clause-rows : goal.returns-in_default-clause-rows
 returns-in_default-clause-rows c =
@@ -37,9 +37,9 @@ returns-in_default-clause-rows c =
     ∙ rows_after-other c.hold.result c.in_default.not-Placed c.args.rows.now.items c.args.placed c.args.store.now c.args.deadline c.args.digest.now c.args.size)
 
 pub returns-in_default-clause-store : goal.returns-in_default-clause-store
-returns-in_default-clause-store c = c.hold.ensures.holds ∙ ap (store_after c.args.store.now c.args.digest.now c.args.size) c.hold.ensures.told
+returns-in_default-clause-store c = c.hold.ensures.holds ∙ ap (store_after c.args.store.now c.args.digest.now c.args.size (c.args.placed + 1)) c.hold.ensures.told
 
 pub returns-in_default-clause-stored : goal.returns-in_default-clause-stored
 returns-in_default-clause-stored c =
     subst (λ (l : List Content). AreStored c.args.rows.now.items c.args.placed l)
-    (sym (ap (λ (s : ContentStoreState). s.held) c.hold.ensures.holds ∙ held_after_hold-other c.hold.result c.in_default.not-Placed c.args.digest.now c.args.size c.args.store.now.held)) c.requires.stored
+    (sym (ap (λ (s : ContentStoreState). s.held) c.hold.ensures.holds ∙ held_after_hold-other c.hold.result c.in_default.not-Placed c.args.digest.now c.args.size (c.args.placed + 1) c.args.store.now.held)) c.requires.stored

@@ -1,5 +1,5 @@
 -- Each index follows the entry by its law.
-use Rattle.std.proofs.Common.{◌≡◌, ℕ, cond, Option, sym, ap, ◌∙◌, subst}
+use Rattle.std.proofs.Common.{◌≡◌, ℕ, Option, sym, ap, ◌∙◌, subst}
 use Rattle.pool_index.specs.declared.claim_link.ClaimLink.{ClaimLink}
 use Rattle.pool_index.specs.declared.source_link.SourceLink.{SourceLink}
 use Rattle.pool_index.specs.declared.uuid_link.UuidLink.{UuidLink}
@@ -8,7 +8,7 @@ use Rattle.pool_index.specs.Sources.{AreWith}
 use Rattle.pool_index.specs.Uuids as uuids
 use Rattle.swarm_model.specs.declared.pool_state.PoolState.{PoolState}
 use Rattle.swarm_model.specs.Effects.{after}
-use Rattle.index_laws.specs.RowDeadlines.{put_deadline, task_deadline_of, bot_deadline_of, first_blob_deadline}
+use Rattle.index_laws.specs.RowDeadlines.{put_deadline, task_deadline_of, bot_deadline_of}
 use Rattle.index_laws.specs.StateCounts.{touched_row}
 use Rattle.index_laws.specs.TaskQueues.{IsRequeued, touched_place}
 use Rattle.index_laws.specs.Touched.{touched_task}
@@ -21,7 +21,7 @@ use Rattle.index_laws.proofs.UuidLinks.{uuids_follow, uuids_are_fresh}
 use Rattle.swarm_machine.specs.Inside.{state_of}
 use Rattle.swarm_machine.specs.Indexes.{state_of_row, AreIndexes}
 use Rattle.swarm_machine.specs.UsesBehind.{AreUses}
-use Rattle.swarm_machine.proofs.Following.{blob_end_follows, counts_after, task_ends_after, bot_ends_after}
+use Rattle.swarm_machine.proofs.Following.{blob_ends_after, counts_after, task_ends_after, bot_ends_after}
 use Rattle.swarm_machine.proofs.indexes.Indexes.follow.Goals as goal
 
 pub requeue-requires : goal.requeue-requires
@@ -70,8 +70,8 @@ returns c =
           (c.put_task_deadline.ensures ∙ ap (λ (p : PoolState). put_deadline (task_deadline_of p) c.args.touched.task old.task_ends) now);
       bot_ends = bot_ends_after s e b.sound b.follows old.bot_ends c.put_bot_deadline.new.ends c.args.touched.bot b.indexes_of.bot_ends b.ready.bot_ends b.touched_by.bot
           (c.put_bot_deadline.ensures ∙ ap (λ (p : PoolState). put_deadline (bot_deadline_of p) c.args.touched.bot old.bot_ends) now);
-      blob_end = blob_end_follows s e c.args.touched.blobs b.touched_by.blobs old.blob_end c.blob_end_after-self.result b.indexes_of.blob_end
-          (c.blob_end_after-self.ensures ∙ ap (λ (p : PoolState). cond c.args.touched.blobs (first_blob_deadline p) old.blob_end) now);
+      blob_ends = blob_ends_after s e b.sound b.follows old.blob_ends.deadlines c.move_deadline.new.ends.deadlines c.args.touched.blob_end c.blob_end_with-blob_end.result c.args.touched.fresh
+          c.args.rows.now.blobs.rows b.indexes_of.blob_ends b.touched_by.blob_end b.touched_by.fresh (ap (λ (p : PoolState). p.blobs) now) c.blob_end_with-blob_end.ensures c.move_deadline.ensures;
       claims = claims_follow s e b.sound b.follows old.claims.links c.add.new.self.links b.indexes_of.claims
           (ap (λ (x : claims.ClaimIndexState). x.links) c.add.ensures ∙ ap (λ (ready : Option ClaimLink). claims.links_with ready old.claims.links) b.ready.claim);
       uuids = uuids_follow s e b.sound b.follows old.uuids.links c.add-2.new.self.links b.indexes_of.uuids

@@ -24,7 +24,7 @@ returns c =
     (filled_bytes held digest bytes c.fill.result c.fill.ensures.told) in
     record {
       fills = record {
-        told = c.fill.ensures.told ∙ filled_is (state_of rows) held c.rows-rows.ensures.stored digest bytes ∙ ap (λ (pool : KeptPool). filled pool.pool digest bytes) c.self.view_is;
+        told = c.fill.ensures.told ∙ filled_is (state_of rows) held c.count-count.ensures.stored digest bytes ∙ ap (λ (pool : KeptPool). filled pool.pool digest bytes) c.self.view_is;
         holds = (λ i. let x : MachineState = record {
           pool = let p : PoolState = record (state_of rows) { blobs = (holds i).rows; placed = (holds i).placed } in p;
           log = c.self.inside.log.items;

@@ -10,4 +10,4 @@ pub returns-clause-sized : goal.returns-clause-sized
 returns-clause-sized c =
     let rows = c.self.inside.rows in
     subst (λ (pool : ListPoolState). IfSome c.bytes.result (λ b. IsTrue (has_blob pool.pool c.args.digest.now (length b.now)))) c.self.view_is
-    (lent_size (state_of rows) rows.blobs.store.held c.rows-rows.ensures.stored c.args.digest.now c.bytes.result c.bytes.ensures.sized)
+    (lent_size (state_of rows) rows.blobs.store.held c.count-count.ensures.stored c.args.digest.now c.bytes.result c.bytes.ensures.sized)
