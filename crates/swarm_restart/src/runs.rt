@@ -50,7 +50,8 @@ where
     P::Keeper: Drop,
 {
     let settings = open_settings(alloc)?;
-    let keepers = vec![in alloc; store.attach(alloc, FOLDER, POOL)?]?;
+    let mut keepers = Vec::new(alloc);
+    keepers.push(store.attach(alloc, FOLDER, POOL)?)?;
     let mut link = MemoryLink::new(alloc, input, 4096, Vec::new(alloc));
     let mut clock = StepClock {
         at,

@@ -42,9 +42,9 @@ where
     if settings.pools.as_slice().len() != 2 {
         return Err(StartFault::Failed);
     }
-    let default = store.attach(alloc, FOLDER, DEFAULT)?;
-    let lab = store.attach(alloc, FOLDER, LAB)?;
-    let keepers = vec![in alloc; default, lab]?;
+    let mut keepers = Vec::new(alloc);
+    keepers.push(store.attach(alloc, FOLDER, DEFAULT)?)?;
+    keepers.push(store.attach(alloc, FOLDER, LAB)?)?;
     let mut link = MemoryLink::new(alloc, Vec::from_slice(alloc, input)?, 100, Vec::new(alloc));
     let mut clock = StepClock {
         at: 1000,

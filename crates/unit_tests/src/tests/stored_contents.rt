@@ -30,18 +30,24 @@ fn the_least_place_is_taken(rt: HostRuntime) -> Result<(), Fail> {
     let mut region = Region::new(rt.alloc(), 4, 8)?;
     assert_eq!(rt; region.find(5), None);
     assert_eq!(rt; region.place(1), Some(extent(0, 1)));
-    match region.place(2) {
-        None => assert!(rt; false, "no place"),
-        Some(middle) => {
-            assert_eq!(rt; middle, extent(1, 2));
-            region.give_back(middle);
-        }
-    }
-    assert_eq!(rt; region.find(4), None);
-    assert_eq!(rt; region.find(3), Some(extent(1, 3)));
-    assert_eq!(rt; region.place(1), Some(extent(1, 1)));
-    assert_eq!(rt; region.place(2), Some(extent(2, 2)));
+    assert_eq!(rt; region.place(2), Some(extent(1, 2)));
+    assert_eq!(rt; region.find(2), None);
+    assert_eq!(rt; region.place(1), Some(extent(3, 1)));
     assert_eq!(rt; region.place(1), None);
+    Ok(())
+}
+
+#[test]
+fn a_place_is_free_again(rt: HostRuntime) -> Result<(), Fail> {
+    let mut store = ContentStore::new(rt.alloc(), 4, 8)?;
+    assert_eq!(rt; store.hold(&[1; 32], 64, 1), Held::Placed(extent(0, 1)));
+    assert_eq!(rt; store.hold(&[2; 32], 65, 2), Held::Placed(extent(1, 2)));
+    assert!(rt; store.remove(&[2; 32]));
+    assert_eq!(rt; store.probe(&[3; 32], 193), Held::NoRoom);
+    assert_eq!(rt; store.probe(&[3; 32], 192), Held::Placed(extent(1, 3)));
+    assert_eq!(rt; store.hold(&[3; 32], 0, 3), Held::Placed(extent(1, 1)));
+    assert_eq!(rt; store.hold(&[4; 32], 128, 4), Held::Placed(extent(2, 2)));
+    assert_eq!(rt; store.hold(&[5; 32], 1, 5), Held::NoRoom);
     Ok(())
 }
 
