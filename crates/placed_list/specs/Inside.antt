@@ -13,5 +13,5 @@ module _ {T : Type 0} where
     pub places : ArePlaces (length list.items.items) list.order.items list.free.items
     pub few : length list.items.items ≤ list.room
     pub items_room : list.room ≤ vec_capacity list.items
-    pub order_room : list.room ≤ vec_capacity list.order
+    pub order_room : list.room ≤ list.order.room
     pub free_room : list.room ≤ vec_capacity list.free

@@ -1,3 +1,5 @@
 pub mod Plain
+pub mod Blocks
+pub mod OrderInside
 pub mod Places
 pub mod Inside

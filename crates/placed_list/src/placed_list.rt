@@ -1,19 +1,23 @@
-ghost use Rattle.std.specs.Prelude.{◌≡◌, ◌≤◌, ◌<◌, [], length, slice_get, slice_index_or, slice_set, vec_len, vec_capacity, IfOk};
+ghost use Rattle.std.specs.Prelude.{◌≡◌, ◌≤◌, ◌<◌, [], length, slice_get, slice_index_or, slice_set, IfOk};
 ghost use Rattle.std.specs.List.{insert, remove};
 ghost use Rattle.std.specs.Option.{option_copied};
 
+use crate::order::Order;
 use std::alloc::{AllocError, Global};
 use std::marker::Model;
 use std::ops::Index;
 
 /// A list whose items stay where they lie in memory. `with_capacity` takes all its memory: for an
-/// item its size and eight bytes.
+/// item its size and eight bytes, of which four are taken for whole blocks of 1024 items.
+///
+/// An item is read and replaced at once. One that comes or goes moves the numbers of places in a
+/// block of 1024, and one number for each block behind it.
 #[derive(Drop)]
 pub struct PlacedList<T> {
     /// At a free place lies what lay there last.
     items: Vec<T>,
     /// The places of the items, in the order of the list.
-    order: Vec<u32>,
+    order: Order,
     /// The places that were given up.
     free: Vec<u32>,
     room: u32,
@@ -54,7 +58,7 @@ impl<T: Copy> PlacedList<T> {
     {
         Ok(PlacedList {
             items: Vec::with_capacity(alloc, most as usize)?,
-            order: Vec::with_capacity(alloc, most as usize)?,
+            order: Order::with_capacity(alloc, most)?,
             free: Vec::with_capacity(alloc, most as usize)?,
             room: most,
         })
@@ -86,12 +90,12 @@ impl<T: Copy> PlacedList<T> {
         match self.free.pop() {
             Some(place) => {
                 self.items[place as usize] = item;
-                put(&mut self.order, index, place);
+                self.order.insert_reserved(index, place);
             }
             None => {
                 let place = self.items.len() as u32;
                 self.items.push_reserved(item);
-                put(&mut self.order, index, place);
+                self.order.insert_reserved(index, place);
             }
         }
     }
@@ -115,18 +119,5 @@ impl<T: Copy> PlacedList<T> {
     {
         let place = self.order[index];
         self.items[place as usize] = item;
-    }
-}
-
-/// Puts a place into the order, which has room for it.
-fn put(order: &mut Vec<u32>, index: usize, place: u32)
-    requires index { index ≤ length order.old.items }
-    requires room { vec_len order.old < vec_capacity order.old }
-    ensures items { order.new.items ≡ insert order.old.items index place }
-    ensures room { vec_capacity order.old ≤ vec_capacity order.new }
-{
-    match order.insert(index, place) {
-        Ok(()) => {}
-        Err(_) => unreachable!(),
     }
 }

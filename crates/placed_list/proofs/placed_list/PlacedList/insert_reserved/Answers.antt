@@ -8,8 +8,8 @@ use Rattle.placed_list.proofs.Listing.{length-items_at}
 use Rattle.placed_list.proofs.Places.{used_again, added, items-used_again, items-added}
 use Rattle.placed_list.proofs.placed_list.PlacedList.insert_reserved.Goals as goal
 
-pub put-requires-clause-index : goal.put-requires-clause-index
-put-requires-clause-index g c =
+pub insert_reserved-requires-clause-index : goal.insert_reserved-requires-clause-index
+insert_reserved-requires-clause-index g c =
     omega (arith, c.requires.index, length-items_at c.self.inside.items.items c.self.inside.order.items c.self.invariant.places.in_order, ap (λ (s : PlacedListState _). length s.items) c.self.view_is)
 
 pub invariant_of-self : goal.invariant_of-self
@@ -23,10 +23,10 @@ invariant_of-self g c =
     let index : c.args.index ≤ length order = omega (arith, c.requires.index, length-items_at items order kept.places.in_order, ap (λ (s : PlacedListState _). length s.items) c.self.view_is) in
     let was : ArePlaces (length items) order (free ++ place ∷ []) = subst (λ (l : List ℕ). ArePlaces (length items) order l) c.in-Some.ensures.items kept.places in
     record {
-      places = rw (long, c.put.ensures.items) (used_again (length items) order free place was c.args.index index);
+      places = rw (long, c.insert_reserved.ensures.items) (used_again (length items) order free place was c.args.index index);
       few = omega (arith, kept.few, long);
       items_room = kept.items_room;
-      order_room = omega (arith, kept.order_room, c.put.ensures.room);
+      order_room = omega (arith, kept.order_room, c.insert_reserved.ensures.room);
       free_room = omega (arith, kept.free_room, c.in-Some.ensures.capacity);
     }
 
@@ -44,12 +44,12 @@ push_reserved-requires g c =
       c.in-None.ensures.cases,
     )
 
-pub put-requires-in-None-clause-index : goal.put-requires-in-None-clause-index
-put-requires-in-None-clause-index g c =
+pub insert_reserved-requires-in-None-clause-index : goal.insert_reserved-requires-in-None-clause-index
+insert_reserved-requires-in-None-clause-index g c =
     omega (arith, c.requires.index, length-items_at c.self.inside.items.items c.self.inside.order.items c.self.invariant.places.in_order, ap (λ (s : PlacedListState _). length s.items) c.self.view_is)
 
-pub put-requires-in-None-clause-room : goal.put-requires-in-None-clause-room
-put-requires-in-None-clause-room g c =
+pub insert_reserved-requires-in-None-clause-room : goal.insert_reserved-requires-in-None-clause-room
+insert_reserved-requires-in-None-clause-room g c =
     let kept = c.self.invariant in
     omega (
       arith,
@@ -75,10 +75,10 @@ invariant_of-self-in-None g c =
     let left : length c.pop.new.self.items ≡ 0 = omega (arith, c.in-None.ensures.cases) in
     let was : ArePlaces (length items) order [] = subst (λ (l : List ℕ). ArePlaces (length items) order l) (nil_from_length c.self.inside.free.items none) kept.places in
     record {
-      places = rw (long, c.put-in-None.ensures.items, end, nil_from_length c.pop.new.self.items left) (added (length items) order c.args.index was index);
+      places = rw (long, c.insert_reserved-in-None.ensures.items, end, nil_from_length c.pop.new.self.items left) (added (length items) order c.args.index was index);
       few = omega (arith, c.requires.room, size, room, kept.places.all, none, long);
       items_room = omega (arith, kept.items_room, c.push_reserved.ensures.capacity);
-      order_room = omega (arith, kept.order_room, c.put-in-None.ensures.room);
+      order_room = omega (arith, kept.order_room, c.insert_reserved-in-None.ensures.room);
       free_room = omega (arith, kept.free_room, c.in-None.ensures.capacity);
     }
 
@@ -89,7 +89,7 @@ returns-in-Some-clause-items g c =
     let free = c.pop.new.self.items in
     let place = c.in-Some.place in
     let was : ArePlaces (length items) order (free ++ place ∷ []) = subst (λ (l : List ℕ). ArePlaces (length items) order l) c.in-Some.ensures.items c.self.invariant.places in
-    ap (λ (l : List ℕ). items_at (set items place c.args.item) l) c.put.ensures.items
+    ap (λ (l : List ℕ). items_at (set items place c.args.item) l) c.insert_reserved.ensures.items
     ∙ items-used_again items order free place c.args.index c.args.item was
     ∙ ap (λ (s : PlacedListState _). insert s.items c.args.index c.args.item) c.self.view_is
 
@@ -100,5 +100,5 @@ returns-in-None-clause-items g c =
     let end : c.len-place.result ≡ length items = omega (arith, c.len-place.ensures) in
     let none : length c.self.inside.free.items ≡ 0 = omega (arith, c.in-None.ensures.cases) in
     let was : ArePlaces (length items) order [] = subst (λ (l : List ℕ). ArePlaces (length items) order l) (nil_from_length c.self.inside.free.items none) c.self.invariant.places in
-    rw (c.push_reserved.ensures.items, c.put-in-None.ensures.items, end)
+    rw (c.push_reserved.ensures.items, c.insert_reserved-in-None.ensures.items, end)
     (items-added items order c.args.index c.args.item was ∙ ap (λ (s : PlacedListState _). insert s.items c.args.index c.args.item) c.self.view_is)

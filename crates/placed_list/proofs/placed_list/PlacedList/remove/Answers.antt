@@ -1,5 +1,5 @@
 -- The place of the item is given up.
-use Rattle.std.proofs.Common.{◌<◌, ◌∙◌, sym, ap, ℕ, List, length, get_or, arith}
+use Rattle.std.proofs.Common.{◌<◌, ◌∙◌, sym, ap, subst, ℕ, List, length, get_or, arith}
 use Rattle.std.specs.List.{remove}
 use Rattle.placed_list.specs.Plain.{PlacedListState}
 use Rattle.placed_list.specs.Places.{items_at}
@@ -10,6 +10,15 @@ use Rattle.placed_list.proofs.placed_list.PlacedList.remove.Goals as goal
 pub remove-place-requires : goal.remove-place-requires
 remove-place-requires g c =
     omega (arith, c.requires, length-items_at c.self.inside.items.items c.self.inside.order.items c.self.invariant.places.in_order, ap (λ (s : PlacedListState _). length s.items) c.self.view_is)
+
+pub index-requires : goal.index-requires
+index-requires g c =
+    let items = c.self.inside.items.items in
+    let order = c.self.inside.order.items in
+    let place = c.remove-place.result in
+    let low : c.args.index < length order = omega (arith, c.requires, length-items_at items order c.self.invariant.places.in_order, ap (λ (s : PlacedListState _). length s.items) c.self.view_is) in
+    let under : place < length items = subst (λ (p : ℕ). p < length items) (sym c.remove-place.ensures.value) (c.self.invariant.places.in_order c.args.index place low) in
+    omega (arith, under)
 
 pub invariant_of-self : goal.invariant_of-self
 invariant_of-self g c =
@@ -22,7 +31,7 @@ invariant_of-self g c =
       places = rw (c.remove-place.ensures.items, c.push_reserved.ensures.items) (given_up (length items) order c.self.inside.free.items kept.places c.args.index place low (sym c.remove-place.ensures.value));
       few = kept.few;
       items_room = kept.items_room;
-      order_room = omega (arith, kept.order_room, c.remove-place.ensures.capacity);
+      order_room = omega (arith, kept.order_room, c.remove-place.ensures.room);
       free_room = omega (arith, kept.free_room, c.push_reserved.ensures.capacity);
     }
 
