@@ -1,1 +1,2 @@
 mod Edges
+pub mod Rising
