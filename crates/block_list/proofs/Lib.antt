@@ -1,0 +1,2 @@
+mod Edges
+pub mod Rising

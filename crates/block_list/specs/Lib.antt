@@ -1,0 +1,4 @@
+pub mod Plain
+pub mod Partition
+pub mod Inside
+pub mod Rising

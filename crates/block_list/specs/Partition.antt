@@ -1,0 +1,8 @@
+-- Lists of which the items that pass a test stand first.
+use Rattle.std.specs.Prelude.{◌≡◌, ℕ, ◌≤◌, Bool, true, false, List, length}
+use Rattle.std.specs.List.Sorted.{IsPartitionedBy, IsPartitionPoint}
+
+-- where the items that pass the test stand first, the index of the first that does not, or the length, meets a condition
+abbrev pub AtPartition : {T : Type 0} → (T → Bool) → List T → (ℕ → Type 0) → Type 0
+AtPartition p items Q =
+    IsPartitionedBy p items → (index : ℕ) × (index ≤ length items) × IsPartitionPoint (λ y. p y ≡ true) (λ y. p y ≡ false) items index × Q index
