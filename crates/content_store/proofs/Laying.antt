@@ -5,7 +5,6 @@ use Rattle.std.specs.Option.{option_map}
 use Rattle.std.specs.List.{insert, remove, All, Contains}
 use Rattle.std.specs.List.Sorted.{IsStrictlySortedBy}
 use Rattle.std.proofs.lemmas.List.{map-append, map-id, take-map, drop-map, length-map, get_or-map}
-use Rattle.std.proofs.lemmas.List.Edits.{length-insert, length-remove}
 use Rattle.std.proofs.lemmas.List.Kept.{IsStrictlySortedBy-filter}
 use Rattle.std.proofs.lemmas.List.Quantifiers.{all_pairs_remove}
 use Rattle.std.proofs.lemmas.List.Elements.{All-append, All-cons, All-take, All-drop}
@@ -13,7 +12,7 @@ use Rattle.region.specs.declared.extent.Extent.{Extent}
 use Rattle.region.specs.Places.{least_place, is_free, overlaps}
 use Rattle.region.specs.Extents.{extent_at, without_extent, AreApart}
 use Rattle.region.specs.Plain.{RegionState}
-use Rattle.region.specs.FreeUnits.{AreHolesBeside, AreInUse}
+use Rattle.region.specs.FreeUnits.{IsFreeBeside, AreInUse}
 use Rattle.region.proofs.Overlaps.{insert-apart}
 use Rattle.content_store.specs.Contents.{Content, digest_cmp, units_of, extent_of, content_of, with_content, unfilled_content, without_content, same_digest}
 use Rattle.content_store.specs.Slots.{digest_of, extent_of_slot, content_in, part_of, IsAt, BelongsAt, AreLaidOut, IsThere, AreThere}
@@ -67,17 +66,16 @@ module _ (layout : RegionState) (slots : List Slot) (i : ℕ) (slot : Slot) (lai
   free : (slot.at + units_of slot.size ≤ layout.units) × (is_free (map extent_of_slot slots) (units_of slot.size) slot.at ≡ true)
   free = least_place-free (map extent_of_slot slots) layout.units (units_of slot.size) slot.at least
 
-  pub added-laid : (next : RegionState) → next.units ≡ layout.units → next.most ≡ layout.most → length slots < layout.most →
-      AreHolesBeside next (insert (map extent_of_slot slots) i (extent_of_slot slot)) → AreLaidOut next (insert slots i slot)
-  added-laid next units most few holes =
+  pub added-laid : (next : RegionState) → next.units ≡ layout.units →
+      IsFreeBeside next (insert (map extent_of_slot slots) i (extent_of_slot slot)) → AreLaidOut next (insert slots i slot)
+  added-laid next units beside =
       let extents : List Extent = map extent_of_slot slots in
       let low : i ≤ length extents = omega (arith, within, length-map slots extent_of_slot) in
       record {
         sorted = subst (λ (l : List (List ℕ)). IsStrictlySortedBy digest_cmp l) (sym (map-insert digest_of slots i slot)) (insert-sorted slot.digest (map digest_of slots) i laid.sorted belongs);
-        few = omega (arith, few, most, length-insert slots i slot within);
         apart = subst (λ (l : List Extent). AreApart l) (sym (map-insert extent_of_slot slots i slot)) (insert-apart extents i (extent_of_slot slot) low laid.apart free.1);
         inside = subst (λ (n : ℕ). All (λ s. s.at + units_of s.size ≤ n) (insert slots i slot)) (sym units) (All-inserted (λ s. s.at + units_of s.size ≤ layout.units) slots i slot free.0 laid.inside);
-        holes = subst (λ (l : List Extent). AreHolesBeside next l) (sym (map-insert extent_of_slot slots i slot)) holes;
+        beside = subst (λ (l : List Extent). IsFreeBeside next l) (sym (map-insert extent_of_slot slots i slot)) beside;
       }
 
   pub added-holds : slot.is_filled ≡ false → (bytes : List ℕ) →
@@ -112,15 +110,14 @@ held_at bytes slots name i d sorted at =
     ∙ ap (λ (c : Content). Some c) (get_or-map (content_in bytes) slots i d (content_in bytes d) low)
 
 -- where nothing was placed
-pub kept-laid : (layout next : RegionState) (slots : List Slot) → AreLaidOut layout slots → next.units ≡ layout.units → next.most ≡ layout.most →
-    AreHolesBeside next (map extent_of_slot slots) → AreLaidOut next slots
-kept-laid layout next slots laid units most holes =
+pub kept-laid : (layout next : RegionState) (slots : List Slot) → AreLaidOut layout slots → next.units ≡ layout.units →
+    IsFreeBeside next (map extent_of_slot slots) → AreLaidOut next slots
+kept-laid layout next slots laid units beside =
     record {
       sorted = laid.sorted;
-      few = omega (arith, laid.few, most);
       apart = laid.apart;
       inside = subst (λ (n : ℕ). All (λ s. s.at + units_of s.size ≤ n) slots) (sym units) laid.inside;
-      holes = holes;
+      beside = beside;
     }
 
 -- where a content finds its place asks for the extents of the slots alone
@@ -151,28 +148,26 @@ module _ (layout : RegionState) (slots : List Slot) (i : ℕ) (d : Slot) (laid :
   pub slots_in_use : AreInUse layout (map extent_of_slot slots)
   slots_in_use =
       record {
-        few = omega (arith, laid.few, length-map slots extent_of_slot);
         inside = λ k e under.
             let d : Slot = get_or slots i d in
             let within : k < length slots = omega (arith, under, length-map slots extent_of_slot) in
             subst (λ (x : Extent). x.at + x.units ≤ layout.units) (sym (get_or-map extent_of_slot slots k d e within)) (laid.inside k d within);
         apart = laid.apart;
-        holes = laid.holes;
+        beside = laid.beside;
       }
 
-  pub removed-laid : (next : RegionState) → next.units ≡ layout.units → next.most ≡ layout.most →
-      AreHolesBeside next (without_extent gone (map extent_of_slot slots)) → AreLaidOut next (remove slots i)
-  removed-laid next units most holes =
+  pub removed-laid : (next : RegionState) → next.units ≡ layout.units →
+      IsFreeBeside next (without_extent gone (map extent_of_slot slots)) → AreLaidOut next (remove slots i)
+  removed-laid next units beside =
       let extents : List Extent = map extent_of_slot slots in
       let far : i < length extents = omega (arith, low, length-map slots extent_of_slot) in
       let left : map extent_of_slot (remove slots i) ≡ without_extent gone extents =
-      map-remove extent_of_slot slots i ∙ remove-is extents i gone laid.apart laid.holes.some far at_gone in
+      map-remove extent_of_slot slots i ∙ remove-is extents i gone laid.apart laid.beside.some far at_gone in
       record {
         sorted = subst (λ (l : List (List ℕ)). IsStrictlySortedBy digest_cmp l) (sym (map-remove digest_of slots i)) (remove-sorted (map digest_of slots) i (omega (arith, low, length-map slots digest_of)) laid.sorted);
-        few = omega (arith, laid.few, most, length-remove slots i low);
         apart = subst (λ (l : List Extent). AreApart l) (sym (map-remove extent_of_slot slots i)) (all_pairs_remove (λ a b. overlaps a.at a.units b ≡ false) extents i far laid.apart);
         inside = subst (λ (n : ℕ). All (λ s. s.at + units_of s.size ≤ n) (remove slots i)) (sym units) (All-removed (λ s. s.at + units_of s.size ≤ layout.units) slots i laid.inside);
-        holes = subst (λ (l : List Extent). AreHolesBeside next l) (sym left) holes;
+        beside = subst (λ (l : List Extent). IsFreeBeside next l) (sym left) beside;
       }
 
 pub removed-holds : (bytes : List ℕ) (slots : List Slot) (name : List ℕ) (i : ℕ) → IsStrictlySortedBy digest_cmp (map digest_of slots) → IsAt (map digest_of slots) name i →
@@ -198,15 +193,14 @@ kept-holds bytes slots name i belongs = sym (none_out name (map (content_in byte
         by_test false none rest = ap (λ (l : List Content). c ∷ l) (rest none)
 
 -- where nothing is held yet
-pub empty-laid : (layout : RegionState) (slots : List Slot) → AreHolesBeside layout [] → slots ≡ [] → AreLaidOut layout slots
+pub empty-laid : (layout : RegionState) (slots : List Slot) → IsFreeBeside layout [] → slots ≡ [] → AreLaidOut layout slots
 unfolding IsStrictlySortedBy
-empty-laid layout slots holes empty =
+empty-laid layout slots beside empty =
     subst (λ (l : List Slot). AreLaidOut layout l) (sym empty) (record {
       sorted = tt;
-      few = omega arith;
       apart = λ i j d less low. absurd (omega arith);
       inside = λ k d low. absurd (omega arith);
-      holes = holes;
+      beside = beside;
     })
 
 pub empty-there : (bytes : List ℕ) (slots : List Slot) → slots ≡ [] → AreThere bytes slots

@@ -11,7 +11,7 @@ use Rattle.region.specs.declared.extent.Extent.{Extent}
 use Rattle.region.specs.Places.{overlaps}
 use Rattle.region.specs.Extents.{AreApart}
 use Rattle.region.specs.Plain.{RegionState}
-use Rattle.region.specs.FreeUnits.{AreHolesBeside}
+use Rattle.region.specs.FreeUnits.{IsFreeBeside}
 use Rattle.region.proofs.Overlaps.{clear_of, one_first}
 use Rattle.content_store.specs.Contents.{Content, digest_cmp, units_of, filled_with}
 use Rattle.content_store.specs.Slots.{digest_of, extent_of_slot, content_in, part, part_of, IsAt, AreLaidOut, IsThere, AreThere, AreBeside, IsWritten, filled_slot}
@@ -127,8 +127,7 @@ marked-laid layout slots i d low laid =
     let extents : map extent_of_slot (set slots i (filled_slot slot)) ≡ map extent_of_slot slots = map-set_same extent_of_slot slots i (filled_slot slot) d refl in
     record {
       sorted = subst (λ (l : List (List ℕ)). IsStrictlySortedBy digest_cmp l) (sym names) laid.sorted;
-      few = omega (arith, laid.few, length-set slots i (filled_slot slot));
       apart = subst (λ (l : List Extent). AreApart l) (sym extents) laid.apart;
       inside = All-set (λ s. s.at + units_of s.size ≤ layout.units) slots i (filled_slot slot) (laid.inside i d low) laid.inside;
-      holes = subst (λ (l : List Extent). AreHolesBeside layout l) (sym extents) laid.holes;
+      beside = subst (λ (l : List Extent). IsFreeBeside layout l) (sym extents) laid.beside;
     }

@@ -11,6 +11,5 @@ kept_of store = state_in store.region.units store.names store.bytes.items store.
 pub record IsKept (store : Inside) : Type 0 where
   pub laid_out : AreLaidOut store.region store.slots.items
   pub there : AreThere store.bytes.items store.slots.items
-  pub names : store.names ≤ store.region.most
   pub slots_room : store.names ≤ store.slots.room
   pub bytes_room : store.region.units * 64 ≤ vec_capacity store.bytes

@@ -8,7 +8,7 @@ use Rattle.sha2.specs.Sha256.{sha256}
 use Rattle.region.specs.declared.extent.Extent.{Extent}
 use Rattle.region.specs.Extents.{extent_at, AreApart}
 use Rattle.region.specs.Plain.{RegionState}
-use Rattle.region.specs.FreeUnits.{AreHolesBeside}
+use Rattle.region.specs.FreeUnits.{IsFreeBeside}
 use Rattle.content_store.specs.declared.slot.Slot.{Slot}
 use Rattle.content_store.specs.Contents.{Content, digest_cmp, units_of}
 use Rattle.content_store.specs.Plain.{ContentStoreState}
@@ -74,13 +74,12 @@ pub record BelongsAt (names : List (List ℕ)) (name : List ℕ) (index : ℕ) :
   pub below : (k : ℕ) → k < index → digest_cmp (slice_index_or names k []) name ≡ Less
   pub above : (k : ℕ) → index ≤ k → k < length names → digest_cmp (slice_index_or names k []) name ≡ Greater
 
--- the slots are sorted by digest, and their extents are those in use in the region: apart, inside, and beside its holes
+-- the slots are sorted by digest, and their extents are those in use in the region: apart, inside, and beside its free units
 pub record AreLaidOut (region : RegionState) (slots : List Slot) : Type 0 where
   pub sorted : IsStrictlySortedBy digest_cmp (map digest_of slots)
-  pub few : length slots ≤ region.most
   pub apart : AreApart (map extent_of_slot slots)
   pub inside : All (λ slot. slot.at + units_of slot.size ≤ region.units) slots
-  pub holes : AreHolesBeside region (map extent_of_slot slots)
+  pub beside : IsFreeBeside region (map extent_of_slot slots)
 
 -- the bytes of a slot are there, and have its digest
 pub record IsThere (bytes : List ℕ) (slot : Slot) : Type 0 where

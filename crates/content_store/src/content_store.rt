@@ -13,7 +13,8 @@ use region::Region;
 use std::alloc::{AllocError, Global};
 use std::marker::Model;
 
-/// Contents by their digests, each at its extent of a region. A name takes 64 bytes, and a unit 64.
+/// Contents by their digests, each at its extent of a region. A name takes 64 bytes, and a unit 64
+/// for what it holds and 4 in the region.
 #[derive(Drop)]
 pub struct ContentStore {
     region: Region,
@@ -38,7 +39,7 @@ impl Model for ContentStore {
 
 impl ContentStore {
     /// A store of so many units of 64 bytes, which holds at most so many names and holds none yet.
-    /// The memory of its units is taken and not written to.
+    /// The memory of what its units hold is taken and not written to.
     ///
     /// # Errors
     ///
@@ -47,7 +48,7 @@ impl ContentStore {
         ensures { IfOk result (λ s. s ≡ record { units = units; names = names; held = [] }) }
     {
         Ok(ContentStore {
-            region: Region::new(alloc, units, names.max(1))?,
+            region: Region::new(alloc, units)?,
             names,
             slots: PlacedList::with_capacity(alloc, names)?,
             bytes: Vec::with_capacity(alloc, units as usize * 64)?,

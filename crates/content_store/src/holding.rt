@@ -4,7 +4,7 @@ ghost use Rattle.std.specs.List.{remove, Contains};
 ghost use Rattle.std.specs.List.Sorted.{IsStrictlySortedBy};
 ghost use Rattle.region.specs.declared.extent.Extent.{Extent};
 ghost use Rattle.region.specs.Extents.{without_extent};
-ghost use Rattle.region.specs.FreeUnits.{AreHolesBeside, AreInUse, least_extent, with_placed};
+ghost use Rattle.region.specs.FreeUnits.{IsFreeBeside, AreInUse, least_extent, with_placed};
 ghost use Rattle.content_store.specs.Contents.{digest_cmp, units_of, number_of, is_held, without_content};
 ghost use Rattle.content_store.specs.Plain.{hold_result, held_after_hold};
 ghost use Rattle.content_store.specs.Slots.{digest_of, extent_of_slot, content_in, state_in, BelongsAt, AreLaidOut, AreThere};
@@ -17,18 +17,17 @@ use region::{Extent, Region};
 
 /// The extent of a content of this size, at its least place.
 fn find_for(region: &Region, size: u32) -> Option<Extent>
-    ensures { (extents : List Extent) → AreHolesBeside region.now extents → result ≡ least_extent extents region.now.units (units_of size) }
+    ensures { (extents : List Extent) → IsFreeBeside region.now extents → result ≡ least_extent extents region.now.units (units_of size) }
 {
     region.find(units_of(size))
 }
 
 /// Takes that extent into use.
 fn place_for(region: &mut Region, size: u32) -> Option<Extent>
-    ensures least { (extents : List Extent) → AreHolesBeside region.old extents → result ≡ least_extent extents region.old.units (units_of size) }
-    ensures adds { (extents : List Extent) (index : ℕ) → AreHolesBeside region.old extents →
-        AreHolesBeside region.new (with_placed result index extents) }
+    ensures least { (extents : List Extent) → IsFreeBeside region.old extents → result ≡ least_extent extents region.old.units (units_of size) }
+    ensures adds { (extents : List Extent) (index : ℕ) → IsFreeBeside region.old extents →
+        IsFreeBeside region.new (with_placed result index extents) }
     ensures units { region.new.units ≡ region.old.units }
-    ensures most { region.new.most ≡ region.old.most }
 {
     region.place(units_of(size))
 }
@@ -37,9 +36,8 @@ fn place_for(region: &mut Region, size: u32) -> Option<Extent>
 fn give_back(region: &mut Region, slot: Slot)
     requires { (extents : List Extent) × Contains extents (extent_of_slot slot) × AreInUse region.old extents }
     ensures frees { (extents : List Extent) → Contains extents (extent_of_slot slot) → AreInUse region.old extents →
-        AreHolesBeside region.new (without_extent (extent_of_slot slot) extents) }
+        IsFreeBeside region.new (without_extent (extent_of_slot slot) extents) }
     ensures units { region.new.units ≡ region.old.units }
-    ensures most { region.new.most ≡ region.old.most }
 {
     region.give_back(Extent {
         at: slot.at,
@@ -94,7 +92,6 @@ fn add(
 ) -> Held
     requires laid_out { AreLaidOut region.old slots.old.items }
     requires belongs { BelongsAt (map digest_of slots.old.items) digest.now index }
-    requires few { length slots.old.items < region.old.most }
     requires room { length slots.old.items < slots.old.room }
     ensures told { (names : ℕ) (bytes : List ℕ) → length slots.old.items < names →
         result ≡ hold_result (state_in region.old.units names bytes slots.old.items) digest.now size }
@@ -103,7 +100,6 @@ fn add(
     ensures laid_out { AreLaidOut region.new slots.new.items }
     ensures there { (bytes : List ℕ) → AreThere bytes slots.old.items → AreThere bytes slots.new.items }
     ensures units { region.new.units ≡ region.old.units }
-    ensures most { region.new.most ≡ region.old.most }
     ensures room { slots.new.room ≡ slots.old.room }
 {
     match place_for(region, size) {
@@ -132,7 +128,6 @@ pub(crate) fn hold(
     number: u32,
 ) -> Held
     requires laid_out { AreLaidOut region.old slots.old.items }
-    requires names { names ≤ region.old.most }
     requires room { names ≤ slots.old.room }
     ensures told { (bytes : List ℕ) → result ≡ hold_result (state_in region.old.units names bytes slots.old.items) digest.now size }
     ensures holds { (bytes : List ℕ) →
@@ -140,7 +135,6 @@ pub(crate) fn hold(
     ensures laid_out { AreLaidOut region.new slots.new.items }
     ensures there { (bytes : List ℕ) → AreThere bytes slots.old.items → AreThere bytes slots.new.items }
     ensures units { region.new.units ≡ region.old.units }
-    ensures most { region.new.most ≡ region.old.most }
     ensures room { slots.new.room ≡ slots.old.room }
 {
     match place_of(slots, digest) {
@@ -161,7 +155,6 @@ fn remove_at(region: &mut Region, slots: &mut PlacedList<Slot>, index: usize)
     ensures items { slots.new.items ≡ remove slots.old.items index }
     ensures laid_out { AreLaidOut region.new slots.new.items }
     ensures units { region.new.units ≡ region.old.units }
-    ensures most { region.new.most ≡ region.old.most }
     ensures room { slots.new.room ≡ slots.old.room }
 {
     let slot = slots.remove(index);
@@ -177,7 +170,6 @@ pub(crate) fn remove(region: &mut Region, slots: &mut PlacedList<Slot>, digest: 
     ensures laid_out { AreLaidOut region.new slots.new.items }
     ensures there { (bytes : List ℕ) → AreThere bytes slots.old.items → AreThere bytes slots.new.items }
     ensures units { region.new.units ≡ region.old.units }
-    ensures most { region.new.most ≡ region.old.most }
     ensures room { slots.new.room ≡ slots.old.room }
 {
     match place_of(slots, digest) {

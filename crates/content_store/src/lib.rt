@@ -13,8 +13,8 @@
 //! (`specs/BlobRows.antt`): a machine over them needs to know nothing of the store. A row is found by
 //! its number with a bisection of the rows, and by its digest over the number that the store keeps.
 //!
-//! `new` takes all the memory; no other call takes any, and the memory of the units is written to
-//! no further than some content has reached. The crate stands on `placed_list`, `region` and the
+//! `new` takes all the memory; no other call takes any, and the memory of what units hold is written
+//! to no further than some content has reached. The crate stands on `placed_list`, `region` and the
 //! kit's `sha2`.
 #![tactic(auto)]
 

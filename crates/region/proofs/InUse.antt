@@ -6,28 +6,33 @@ use Rattle.std.proofs.lemmas.Bool.Decides.{nat_tests}
 use Rattle.std.proofs.lemmas.List.Elements.{All-append, All-cons, All-take, All-drop, All-filter}
 use Rattle.std.proofs.lemmas.List.{get_or_default}
 use Rattle.std.proofs.lemmas.List.Folds.{list_any_at}
-use Rattle.std.proofs.lemmas.List.Sums.{length-filter, count_by-le-length}
 use Rattle.region.specs.declared.extent.Extent.{Extent}
 use Rattle.region.specs.Places.{overlaps}
 use Rattle.region.specs.Extents.{is_same_extent, without_extent, AreApart}
-use Rattle.region.specs.Plain.{RegionState}
-use Rattle.region.specs.FreeUnits.{is_within, AreHolesFrom, AreHolesBeside, AreInUse}
-use Rattle.region.specs.HoleLists.{IsOutside}
+use Rattle.region.specs.Plain.{RegionState, is_free_unit}
+use Rattle.region.specs.FreeUnits.{is_within, IsFreeBeside, AreInUse}
 use Rattle.region.proofs.Runs.{unit_inside}
-use Rattle.region.proofs.Edits.{units_inserted}
+use Rattle.region.proofs.SameItems.{list_any-same, insert-same}
 use Rattle.region.proofs.Overlaps.{clear_of}
-use Rattle.region.proofs.Counted.{counts_more, few_holes}
 
 -- ---- an extent more
 
-pub placed : (old new : RegionState) (extents : List Extent) (i : ℕ) (e : Extent) → AreHolesBeside old extents → 1 ≤ e.units → new.units ≡ old.units →
-    AreHolesFrom 0 old.units new.holes → ((u : ℕ) → is_within new.holes u ≡ (is_within old.holes u && not (overlaps u 1 e))) → AreHolesBeside new (insert extents i e)
-placed old new extents i e beside some units in_order takes =
+units_inserted : (extents : List Extent) (i u : ℕ) (e : Extent) → is_within (insert extents i e) u ≡ (is_within extents u || overlaps u 1 e)
+units_inserted extents i u e = list_any-same (overlaps u 1) (insert extents i e) (e ∷ extents) (insert-same extents i e) ∙ turned (overlaps u 1 e) (is_within extents u)
+  where
+    turned : (a b : Bool) → (a || b) ≡ (b || a)
+    turned true true = refl
+    turned true false = refl
+    turned false true = refl
+    turned false false = refl
+
+pub placed : (old new : RegionState) (extents : List Extent) (i : ℕ) (e : Extent) → IsFreeBeside old extents → 1 ≤ e.units → new.units ≡ old.units →
+    ((u : ℕ) → u < old.units → is_free_unit new u ≡ (is_free_unit old u && not (overlaps u 1 e))) → IsFreeBeside new (insert extents i e)
+placed old new extents i e beside some units takes =
     record {
       some = All-append (λ x. 1 ≤ x.units) (take i extents) (e ∷ drop i extents) (All-take (λ x. 1 ≤ x.units) i extents beside.some)
           (All-cons (λ x. 1 ≤ x.units) e (drop i extents) some (All-drop (λ x. 1 ≤ x.units) i extents beside.some));
-      in_order = subst (λ (n : ℕ). AreHolesFrom 0 n new.holes) (sym units) in_order;
-      free = λ u low. takes u ∙ ap (λ (t : Bool). t && not (overlaps u 1 e)) (beside.free u (omega (arith, low, units)))
+      free = λ u low. takes u (omega (arith, low, units)) ∙ ap (λ (t : Bool). t && not (overlaps u 1 e)) (beside.free u (omega (arith, low, units)))
           ∙ by_case (is_within extents u) (overlaps u 1 e) ∙ ap not (sym (units_inserted extents i u e));
     }
   where
@@ -126,25 +131,24 @@ remove-is (x ∷ es) (suc i) e apart some low is =
 -- an extent in use has a unit and lies inside
 pub in_use : (region : RegionState) (extents : List Extent) (e : Extent) → Contains extents e → AreInUse region extents → (1 ≤ e.units) × (e.at + e.units ≤ region.units)
 in_use region extents e has used = (
-  subst (λ (x : Extent). 1 ≤ x.units) has.2 (used.holes.some has.0 e has.1),
+  subst (λ (x : Extent). 1 ≤ x.units) has.2 (used.beside.some has.0 e has.1),
   subst (λ (x : Extent). x.at + x.units ≤ region.units) has.2 (used.inside has.0 e has.1),
 )
 
--- the units of an extent in use are in no hole
-pub outside_holes : (region : RegionState) (extents : List Extent) (e : Extent) → Contains extents e → AreInUse region extents → IsOutside region.holes e
-outside_holes region extents e has used u own =
+-- no unit of an extent in use is free
+pub not_free : (region : RegionState) (extents : List Extent) (e : Extent) → Contains extents e → AreInUse region extents → (u : ℕ) → overlaps u 1 e ≡ true → is_free_unit region u ≡ false
+not_free region extents e has used u own =
     let at = unit_inside e u own in
     let inside = (in_use region extents e has used).1 in
     let there : is_within extents u ≡ true = list_any_at (overlaps u 1) extents has.0 e has.1 (ap (λ (x : Extent). overlaps u 1 x) has.2 ∙ own) in
-    used.holes.free u (omega (arith, at.1, inside)) ∙ ap not there
+    used.beside.free u (omega (arith, at.1, inside)) ∙ ap not there
 
 pub freed : (old new : RegionState) (extents : List Extent) (e : Extent) → Contains extents e → AreInUse old extents → new.units ≡ old.units →
-    AreHolesFrom 0 old.units new.holes → ((u : ℕ) → is_within new.holes u ≡ (is_within old.holes u || overlaps u 1 e)) → AreHolesBeside new (without_extent e extents)
-freed old new extents e has used units in_order frees =
+    ((u : ℕ) → u < old.units → is_free_unit new u ≡ (is_free_unit old u || overlaps u 1 e)) → IsFreeBeside new (without_extent e extents)
+freed old new extents e has used units frees =
     record {
-      some = All-filter (λ other. not (is_same_extent e other)) (λ x. 1 ≤ x.units) extents used.holes.some;
-      in_order = subst (λ (n : ℕ). AreHolesFrom 0 n new.holes) (sym units) in_order;
-      free = λ u low. frees u ∙ ap (λ (t : Bool). t || overlaps u 1 e) (used.holes.free u (omega (arith, low, units)))
+      some = All-filter (λ other. not (is_same_extent e other)) (λ x. 1 ≤ x.units) extents used.beside.some;
+      free = λ u low. frees u (omega (arith, low, units)) ∙ ap (λ (t : Bool). t || overlaps u 1 e) (used.beside.free u (omega (arith, low, units)))
           ∙ by_case (is_within extents u) (overlaps u 1 e)
           ∙ ap not (sym (units_without extents e u (λ k d own low differs. others_clear extents e u k d used.apart has own low differs)));
     }
@@ -153,11 +157,3 @@ freed old new extents e has used units in_order frees =
     by_case true true = refl
     by_case true false = refl
     by_case false o = refl
-
--- no more holes are left than extents were in use
-pub freed_few : (old new : RegionState) (extents : List Extent) (e : Extent) → Contains extents e → AreInUse old extents → AreHolesBeside new (without_extent e extents) → length new.holes ≤ old.most
-freed_few old new extents e has used beside =
-    let keeps : Extent → Bool = λ other. not (is_same_extent e other) in
-    let holes = few_holes new (without_extent e extents) beside in
-    let fewer = counts_more keeps (λ x. true) extents has.0 e (λ x is. refl) has.1 (ap (λ (x : Extent). keeps x) has.2 ∙ ap not (same_itself e)) refl in
-    omega (arith, holes, fewer, length-filter keeps extents, count_by-le-length (λ (x : Extent). true) extents, used.few)

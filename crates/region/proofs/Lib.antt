@@ -2,9 +2,10 @@ pub mod SameItems
 pub mod LeastPlaces
 pub mod Overlaps
 pub mod Runs
-pub mod InOrder
-pub mod Edits
-pub mod Joins
-pub mod FirstFit
-pub mod Counted
 pub mod InUse
+pub mod HoleUnits
+pub mod FirstFit
+pub mod Taking
+pub mod Joining
+pub mod Bands
+pub mod Empty

@@ -1,5 +1,5 @@
 -- One unit and runs of units.
-use Rattle.std.proofs.Common.{◌≡◌, ℕ, suc, ◌+◌, ◌-◌, ◌<◌, ◌≤◌, Bool, true, false, not, ◌&&◌, ◌||◌, ◌⊎◌, List, [], ◌∷◌, refl, ap, ◌∙◌, arith, inl, inr, ltb}
+use Rattle.std.proofs.Common.{◌≡◌, ℕ, suc, ◌+◌, ◌<◌, ◌≤◌, Bool, true, false, not, ◌||◌, ◌⊎◌, List, [], ◌∷◌, refl, ap, ◌∙◌, arith, inl, inr, ltb}
 use Rattle.std.specs.List.{list_any, All}
 use Rattle.std.proofs.lemmas.Bool.{cases_lt, both_ways, ltb-true, and_parts, or_parts, or_cases, or_left, or_right, not-false}
 use Rattle.std.proofs.lemmas.Bool.Decides.{nat_tests}
@@ -38,15 +38,6 @@ unit_outside e u is low =
       | inl high ↦ absurd (both_ways (overlaps u 1 e) is (has_unit e u low high))
       | inr far ↦ far
     ]
-
--- two runs that touch are one
-pub units_joined : (u a n m : ℕ) (e : Extent) → e ≡ record { at = a; units = n + m } →
-    overlaps u 1 e ≡ (overlaps u 1 (record { at = a; units = n }) || overlaps u 1 (record { at = a + n; units = m }))
-units_joined u a n m e is = ap (λ (x : Extent). overlaps u 1 x) is ∙ grind (arith, nat_tests)
-
--- a run without its first units
-pub units_left : (u a n m : ℕ) → n ≤ m → overlaps u 1 (record { at = a + n; units = m - n }) ≡ (overlaps u 1 (record { at = a; units = m }) && not (overlaps u 1 (record { at = a; units = n })))
-units_left u a n m le = grind (arith, nat_tests)
 
 -- a run of which a unit is in use is not free
 meets : (q n : ℕ) (e : Extent) → e.at < q + n → q < e.at + e.units → overlaps q n e ≡ true

@@ -1,34 +1,26 @@
--- The holes of a region, its free runs of units, beside the extents that are in use.
-use Rattle.std.specs.Prelude.{◌≡◌, ℕ, Bool, ◌+◌, ◌≤◌, ◌<◌, not, List, [], ◌∷◌, length, Option, Some, None}
+-- The free units of a region, beside the extents that are in use.
+use Rattle.std.specs.Prelude.{◌≡◌, ℕ, Bool, ◌+◌, ◌≤◌, ◌<◌, not, List, Option, Some, None}
 use Rattle.std.specs.List.{list_any, insert, All}
 use Rattle.std.specs.Option.{option_map}
 use Rattle.region.specs.declared.extent.Extent.{Extent}
 use Rattle.region.specs.Places.{overlaps, least_place}
 use Rattle.region.specs.Extents.{extent_at, AreApart}
-use Rattle.region.specs.Plain.{RegionState}
+use Rattle.region.specs.Plain.{RegionState, is_free_unit}
 
--- the unit is in one of the runs
+-- the unit is in one of the extents
 abbrev pub is_within : List Extent → ℕ → Bool
-is_within runs unit = list_any (overlaps unit 1) runs
+is_within extents unit = list_any (overlaps unit 1) extents
 
--- from one unit on, inside so many: each hole has a unit, and at least one unit lies between it and the next
-abbrev pub AreHolesFrom : ℕ → ℕ → List Extent → Type 0
-AreHolesFrom start units [] = Unit
-AreHolesFrom start units (hole ∷ others) =
-    (start ≤ hole.at) × (1 ≤ hole.units) × (hole.at + hole.units ≤ units) × AreHolesFrom (hole.at + hole.units + 1) units others
-
--- the units in the holes of the region are those that are in none of the extents
-pub record AreHolesBeside (region : RegionState) (extents : List Extent) : Type 0 where
+-- the free units of the region are those that are in none of the extents
+pub record IsFreeBeside (region : RegionState) (extents : List Extent) : Type 0 where
   pub some : All (λ extent. 1 ≤ extent.units) extents
-  pub in_order : AreHolesFrom 0 region.units region.holes
-  pub free : (unit : ℕ) → unit < region.units → is_within region.holes unit ≡ not (is_within extents unit)
+  pub free : (unit : ℕ) → unit < region.units → is_free_unit region unit ≡ not (is_within extents unit)
 
--- the extents that are in use: no more than may be, inside the region, and no two share a unit
+-- the extents that are in use: inside the region, and no two share a unit
 pub record AreInUse (region : RegionState) (extents : List Extent) : Type 0 where
-  pub few : length extents ≤ region.most
   pub inside : All (λ extent. extent.at + extent.units ≤ region.units) extents
   pub apart : AreApart extents
-  pub holes : AreHolesBeside region extents
+  pub beside : IsFreeBeside region extents
 
 -- the extent of so many units at the least place at which the extents leave them free
 abbrev pub least_extent : List Extent → ℕ → ℕ → Option Extent

@@ -1,14 +1,13 @@
 -- What a region keeps, and what holds of it.
-use Rattle.std.specs.Prelude.{◌≤◌, ◌<◌, vec_len, vec_capacity}
+use Rattle.std.specs.Prelude.{◌≡◌, length}
 use Rattle.region.specs.declared.region.Region.TheInside.{Inside}
-use Rattle.region.specs.FreeUnits.{AreHolesFrom}
+use Rattle.region.specs.HoleSizes.{region_of, AreHoles}
 use Rattle.region.specs.Plain.{RegionState}
 
-abbrev pub kept_of : Inside → RegionState
-kept_of region = record { units = region.units; most = region.most; holes = region.holes.items }
+abbrev pub state_of : Inside → RegionState
+state_of region = region_of region.sizes region.units
 
--- the holes are in order, no more than the extents that may be in use, and there is room for one more
+-- there is a size for each unit, and the holes are apart
 pub record IsKept (region : Inside) : Type 0 where
-  pub in_order : AreHolesFrom 0 region.units region.holes.items
-  pub few : vec_len region.holes ≤ region.most
-  pub room : region.most < vec_capacity region.holes
+  pub count : length region.sizes ≡ region.units
+  pub holes : AreHoles region.sizes

@@ -3,5 +3,6 @@ pub mod Extents
 pub mod SameItems
 pub mod Plain
 pub mod FreeUnits
-pub mod HoleLists
+pub mod HoleSizes
+pub mod SizesInside
 pub mod Inside

@@ -1,16 +1,16 @@
 //! Where the blobs of a pool lie: an allocator of runs of units, each at the least place at which
 //! it is free.
 //!
-//! A [`Region`] is seen as its units, the most extents that may be in use at once, and its holes,
-//! the free runs of units, sorted by place (`specs/Plain.antt`). Its calls speak of the extents in
-//! use beside which the holes are (`specs/FreeUnits.antt`): the caller knows which they are, and the
-//! region keeps the holes alone. The place of a new extent is `least_place` (`specs/Places.antt`),
-//! which asks only which units are taken, so it does not depend on how a region finds it. `new` takes
-//! all the memory; no other call takes any. What a unit holds is up to the layer above. The crate
-//! stands on std alone.
+//! A [`Region`] is seen as its units, and which of them are free (`specs/Plain.antt`). Its calls
+//! speak of the extents in use beside which the units are free (`specs/FreeUnits.antt`): the caller
+//! knows which they are, and the region keeps the holes alone, the free runs of units. The place of a
+//! new extent is `least_place` (`specs/Places.antt`), which asks only which units are taken, so it
+//! does not depend on how a region finds it. `new` takes all the memory; no other call takes any.
+//! What a unit holds is up to the layer above. The crate stands on std alone.
 #![tactic(auto)]
 
 mod extent;
+mod hole_sizes;
 mod holes;
 mod region;
 

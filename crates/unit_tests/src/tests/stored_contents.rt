@@ -27,7 +27,7 @@ fn extent(at: u32, units: u32) -> Extent {
 
 #[test]
 fn the_least_place_is_taken(rt: HostRuntime) -> Result<(), Fail> {
-    let mut region = Region::new(rt.alloc(), 4, 8)?;
+    let mut region = Region::new(rt.alloc(), 4)?;
     assert_eq!(rt; region.find(5), None);
     assert_eq!(rt; region.place(1), Some(extent(0, 1)));
     assert_eq!(rt; region.place(2), Some(extent(1, 2)));

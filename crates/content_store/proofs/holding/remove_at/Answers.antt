@@ -2,7 +2,7 @@
 use Rattle.std.proofs.Common.{sym, subst, List, get_or, map}
 use Rattle.std.specs.List.{Contains}
 use Rattle.region.specs.Extents.{without_extent}
-use Rattle.region.specs.FreeUnits.{AreHolesBeside}
+use Rattle.region.specs.FreeUnits.{IsFreeBeside}
 use Rattle.content_store.specs.Slots.{extent_of_slot, AreLaidOut}
 use Rattle.content_store.specs.declared.slot.Slot.{Slot}
 use Rattle.content_store.proofs.Laying.{gone_there, slots_in_use, removed-laid}
@@ -25,8 +25,8 @@ returns-clause-laid_out c =
     let next = c.give_back.new.region in
     let used = slots_in_use layout slots c.args.index d c.requires.laid_out c.requires.index in
     let there = subst (λ (s : Slot). Contains (map extent_of_slot slots) (extent_of_slot s)) (sym c.remove-slot.ensures.value) (gone_there layout slots c.args.index d c.requires.laid_out c.requires.index) in
-    let holes : AreHolesBeside next (without_extent (extent_of_slot (get_or slots c.args.index d)) (map extent_of_slot slots)) =
-    subst (λ (s : Slot). AreHolesBeside next (without_extent (extent_of_slot s) (map extent_of_slot slots))) c.remove-slot.ensures.value
+    let beside : IsFreeBeside next (without_extent (extent_of_slot (get_or slots c.args.index d)) (map extent_of_slot slots)) =
+    subst (λ (s : Slot). IsFreeBeside next (without_extent (extent_of_slot s) (map extent_of_slot slots))) c.remove-slot.ensures.value
     (c.give_back.ensures.frees (map extent_of_slot slots) there used) in
     subst (λ (l : List Slot). AreLaidOut next l) (sym c.remove-slot.ensures.items)
-    (removed-laid layout slots c.args.index d c.requires.laid_out c.requires.index next c.give_back.ensures.units c.give_back.ensures.most holes)
+    (removed-laid layout slots c.args.index d c.requires.laid_out c.requires.index next c.give_back.ensures.units beside)

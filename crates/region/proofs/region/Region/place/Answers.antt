@@ -1,49 +1,38 @@
 -- The first hole with room begins at the least place.
-use Rattle.std.proofs.Common.{◌≡◌, ◌≤◌, List, Option, Some, None, get_or, refl, sym, ap, ◌∙◌, subst, arith}
-use Rattle.std.specs.List.{position}
-use Rattle.std.proofs.lemmas.Bool.{leb-true}
-use Rattle.std.proofs.lemmas.List.Quantifiers.{position-Some}
+use Rattle.std.proofs.Common.{◌≡◌, ◌&&◌, Bool, not, Some, None, refl, subst, sym, ap, ◌∙◌}
 use Rattle.region.specs.declared.extent.Extent.{Extent}
+use Rattle.region.specs.Places.{overlaps}
 use Rattle.region.specs.Plain.{RegionState}
-use Rattle.region.specs.FreeUnits.{AreHolesBeside}
-use Rattle.region.proofs.FirstFit.{has_room, no_place, first_place}
+use Rattle.region.specs.HoleSizes.{region_of}
+use Rattle.region.specs.FreeUnits.{IsFreeBeside, least_extent}
+use Rattle.region.proofs.HoleUnits.{free_unit}
+use Rattle.region.proofs.FirstFit.{no_place, first_place}
+use Rattle.region.proofs.Taking.{units_taken}
 use Rattle.region.proofs.InUse.{placed}
 use Rattle.region.proofs.region.Region.place.Goals as goal
 
-pub take_front-requires-clause-room : goal.take_front-requires-clause-room
-take_front-requires-clause-room c = λ d.
-    let hs = c.self.inside.holes.items in
-    let n = c.args.units in
-    let some : position (has_room n) hs ≡ Some c.in-Some.index =
-    ap (λ (l : List Extent). position (has_room n) l) (sym c.as_slice.ensures.value) ∙ sym c.first_with_room.ensures ∙ c.in-Some.is in
-    leb-true n (get_or hs c.in-Some.index d).units (position-Some (has_room n) hs c.in-Some.index d some).1
-
 pub returns-in-None-clause-least : goal.returns-in-None-clause-least
-returns-in-None-clause-least c = λ extents beside.
-    let n = c.args.units in
-    let none : position (has_room n) c.args.self.now.holes ≡ None =
-    ap (λ (r : RegionState). position (has_room n) r.holes) (sym c.self.view_is) ∙ ap (λ (l : List Extent). position (has_room n) l) (sym c.as_slice.ensures.value)
-    ∙ sym c.first_with_room.ensures ∙ c.in-None.is in
-    no_place c.args.self.now extents n c.requires beside none
+returns-in-None-clause-least c = λ extents held.
+    let i = c.self.inside in
+    let beside : IsFreeBeside (region_of i.sizes i.units) extents = subst (λ (r : RegionState). IsFreeBeside r extents) (sym c.self.view_is) held in
+    subst (λ (r : RegionState). None ≡ least_extent extents r.units c.args.units) c.self.view_is
+    (no_place i.sizes i.units extents c.args.units c.requires c.self.invariant.count c.self.invariant.holes beside c.in-None.ensures)
 
 pub returns-in-Some-clause-least : goal.returns-in-Some-clause-least
-returns-in-Some-clause-least c = λ extents beside.
-    let n = c.args.units in
-    let i = c.in-Some.index in
-    let d = c.take_front.result in
-    let some : position (has_room n) c.args.self.now.holes ≡ Some i =
-    ap (λ (r : RegionState). position (has_room n) r.holes) (sym c.self.view_is) ∙ ap (λ (l : List Extent). position (has_room n) l) (sym c.as_slice.ensures.value)
-    ∙ sym c.first_with_room.ensures ∙ c.in-Some.is in
-    let here : d ≡ record { at = (get_or c.args.self.now.holes i d).at; units = n } =
-    c.take_front.ensures.at d ∙ ap (λ (r : RegionState). let e : Extent = record { at = (get_or r.holes i d).at; units = n } in e) c.self.view_is in
-    ap (λ (e : Extent). let o : Option Extent = Some e in o) here ∙ first_place c.args.self.now extents n c.requires beside i d some
+returns-in-Some-clause-least c = λ extents held.
+    let i = c.self.inside in
+    let e : Extent = record { at = c.in-Some.at; units = c.args.units } in
+    let beside : IsFreeBeside (region_of i.sizes i.units) extents = subst (λ (r : RegionState). IsFreeBeside r extents) (sym c.self.view_is) held in
+    subst (λ (r : RegionState). Some e ≡ least_extent extents r.units c.args.units) c.self.view_is
+    (first_place i.sizes i.units extents c.args.units c.requires c.self.invariant.count c.self.invariant.holes beside c.in-Some.at c.in-Some.ensures)
 
 pub returns-in-Some-clause-adds : goal.returns-in-Some-clause-adds
 returns-in-Some-clause-adds c = λ extents index held.
     let i = c.self.inside in
-    let e = c.take_front.result in
-    let old : RegionState = record { units = i.units; most = i.most; holes = i.holes.items } in
-    let new : RegionState = record { units = i.units; most = i.most; holes = c.take_front.new.holes.items } in
-    let beside : AreHolesBeside old extents = subst (λ (r : RegionState). AreHolesBeside r extents) (sym c.self.view_is) held in
-    let wide : 1 ≤ e.units = omega (arith, c.requires, ap (λ (x : Extent). x.units) (c.take_front.ensures.at e)) in
-    placed old new extents index e beside wide refl (c.take_front.ensures.in_order i.units c.self.invariant.in_order) c.take_front.ensures.takes
+    let e : Extent = record { at = c.in-Some.at; units = c.args.units } in
+    let old : RegionState = region_of i.sizes i.units in
+    let new : RegionState = region_of c.take_front.new.sizes i.units in
+    let beside : IsFreeBeside old extents = subst (λ (r : RegionState). IsFreeBeside r extents) (sym c.self.view_is) held in
+    let takes = units_taken i.sizes c.take_front.new.sizes e.at e.units c.self.invariant.holes c.requires c.in-Some.ensures.room c.take_front.ensures.taken in
+    placed old new extents index e beside c.requires refl (λ u low.
+    free_unit c.take_front.new.sizes i.units u low ∙ takes u ∙ ap (λ (t : Bool). t && not (overlaps u 1 e)) (sym (free_unit i.sizes i.units u low)))
