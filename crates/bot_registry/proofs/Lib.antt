@@ -1,5 +1,4 @@
 mod RowEffects
-mod Folding
 mod Named
 mod Next
 pub mod Alike

@@ -1,11 +1,9 @@
 -- The rows after an entry.
-use Rattle.std.proofs.Common.{◌≡◌, ℕ, ◌+◌, ◌^◌, ◌≤◌, List, [], ◌∷◌, ◌++◌, map, length, refl, sym, ap, ◌∙◌, subst, Option, Some, None, Bool, true, false, cond, arith, eqb-true}
+use Rattle.std.proofs.Common.{◌≡◌, ℕ, ◌+◌, ◌≤◌, List, [], ◌∷◌, ◌++◌, map, length, refl, sym, ap, ◌∙◌, subst, Option, Some, None, Bool, true, false, cond, arith, eqb-true}
 use Rattle.std.specs.Prelude.{◌==◌, ◌<◌, if◌then◌else◌, MatchOption, IfSome, ⊤}
-use Rattle.std.specs.List.{find, All}
-use Rattle.std.specs.Option.{option_map_or}
+use Rattle.std.specs.List.{find}
 use Rattle.std.proofs.lemmas.Bool.Decides.{nat_tests}
 use Rattle.std.proofs.lemmas.List.{map_push, length_push, length-map}
-use Rattle.std.proofs.lemmas.List.Elements.{All-map, All-weaker, All-push, All-append, All-cons, All-nil}
 use Rattle.dimensions.specs.declared.text.Text.{Text}
 use Rattle.dimensions.specs.declared.bot_dims.BotDims.{BotDims}
 use Rattle.swarm_model.specs.declared.bot_row.BotRow.{BotRow}
@@ -18,15 +16,13 @@ use Rattle.swarm_model.specs.Numbers.{AreNumbered, change_at}
 use Rattle.swarm_model.specs.Finding.{is_bot}
 use Rattle.swarm_model.specs.Effects.{no_of_bot, bot_after, session_row, event_effect, idle_bot_at, if_some, bot_at, heard, runs_task}
 use Rattle.row_changes.specs.declared.parts.BotParts.{BotParts}
-use Rattle.row_changes.specs.Rows.{IsHeard}
 use Rattle.row_changes.specs.Bots.{with_bot, bots_after, HasRoomFor}
 use Rattle.row_changes.proofs.Numbered.{find_before, changed_none, numbered-map, numbered-push}
 use Rattle.row_changes.proofs.RowEffects.{with_bot-new, with_bot-known}
 use Rattle.bot_registry.specs.Plain.{RegistryState}
 use Rattle.bot_registry.specs.Acting.{row_of, IsNewBot, Follows}
-use Rattle.bot_registry.specs.Inside.{HeardSince, IsNextBot, FollowsIn}
+use Rattle.bot_registry.specs.Inside.{IsNextBot, FollowsIn}
 use Rattle.bot_registry.specs.Names.{name_of, AreByName}
-use Rattle.bot_registry.proofs.Folding.{on_false}
 
 -- ---- the numbers stay
 
@@ -148,108 +144,25 @@ pub other_kind : (k : EntryKind) → ((b : ℕ) (id session : Text) (dims : BotD
 other_kind (kind.Handshake b id session dims q) other = absurd (other b id session dims q refl)
 other_kind k other = tt
 
--- ---- each bot is heard at an early moment
+-- ---- all rows are numbered
 
-if_heard : (b : Bool) (x y : BotRow) → IsHeard x → IsHeard y → IsHeard (if b then x else y)
-if_heard true x y hx hy = hx
-if_heard false x y hx hy = hy
-
-event_effect_heard : (moment : ℕ) (e : EventKind) (text : List ℕ) (bot : BotRow) → moment ≤ 2 ^ 40 → IsHeard (event_effect moment e text bot)
-event_effect_heard moment event.Ping text bot early = early
-event_effect_heard moment event.Quarantine text bot early = early
-event_effect_heard moment event.Unquarantine text bot early = early
-
-idle_bot_heard : (b : ℕ) (last : Option Last) (bot : BotRow) → IsHeard bot → IsHeard (if_some (idle_bot_at b) last bot)
-idle_bot_heard b None bot h = h
-idle_bot_heard b (Some last) bot h = if_heard (bot.no == b) _ bot h h
-
-after_heard : (moment : ℕ) (k : EntryKind) (bot : BotRow) → moment ≤ 2 ^ 40 → IsHeard bot → IsHeard (bot_after moment k bot)
-after_heard moment (kind.Silence t) bot early h = if_heard (runs_task t bot) _ bot h h
-after_heard moment (kind.Dead b) bot early h = if_heard (bot.no == b) _ bot h h
-after_heard moment (kind.Handshake b id session dims q) bot early h = if_heard (bot.no == b) _ bot early h
-after_heard moment (kind.Poll b dims q hint) bot early h = if_heard (bot.no == b) _ bot early h
-after_heard moment (kind.Claim b t claim) bot early h = if_heard (bot.no == b) _ bot early h
-after_heard moment (kind.Contact b) bot early h = if_heard (bot.no == b) _ bot early h
-after_heard moment (kind.Event b e text) bot early h = if_heard (bot.no == b) _ bot (event_effect_heard moment e text bot early) h
-after_heard moment (kind.Update b t try_no chunk last) bot early h = idle_bot_heard b last _ (if_heard (bot.no == b) _ bot early h)
-after_heard moment (kind.Terminate b) bot early h = if_heard (bot.no == b) _ bot h h
-after_heard moment k bot early h = h
-
--- ---- no living bot is heard before a moment
-
-if_since : (since : ℕ) (b : Bool) (x y : BotRow) → HeardSince since x → HeardSince since y → HeardSince since (if b then x else y)
-if_since since true x y hx hy = hx
-if_since since false x y hx hy = hy
-
-event_effect_since : (since moment : ℕ) (e : EventKind) (text : List ℕ) (bot : BotRow) → since ≤ moment → HeardSince since (event_effect moment e text bot)
-event_effect_since since moment event.Ping text bot le = on_false (heard moment bot).dead _ le
-event_effect_since since moment event.Quarantine text bot le = on_false (heard moment bot).dead _ le
-event_effect_since since moment event.Unquarantine text bot le = on_false (heard moment bot).dead _ le
-
-idle_bot_since : (since b : ℕ) (last : Option Last) (bot : BotRow) → HeardSince since bot → HeardSince since (if_some (idle_bot_at b) last bot)
-idle_bot_since since b None bot h = h
-idle_bot_since since b (Some last) bot h = if_since since (bot.no == b) _ bot h h
-
-after_since : (since moment : ℕ) (k : EntryKind) (bot : BotRow) → since ≤ moment → HeardSince since bot → HeardSince since (bot_after moment k bot)
-after_since since moment (kind.Silence t) bot le h = if_since since (runs_task t bot) _ bot tt h
-after_since since moment (kind.Dead b) bot le h = if_since since (bot.no == b) _ bot tt h
-after_since since moment (kind.Handshake b id session dims q) bot le h = if_since since (bot.no == b) _ bot le h
-after_since since moment (kind.Poll b dims q hint) bot le h = if_since since (bot.no == b) _ bot (on_false (heard moment bot).dead _ le) h
-after_since since moment (kind.Claim b t claim) bot le h = if_since since (bot.no == b) _ bot (on_false (heard moment bot).dead _ le) h
-after_since since moment (kind.Contact b) bot le h = if_since since (bot.no == b) _ bot (on_false (heard moment bot).dead _ le) h
-after_since since moment (kind.Event b e text) bot le h = if_since since (bot.no == b) _ bot (event_effect_since since moment e text bot le) h
-after_since since moment (kind.Update b t try_no chunk last) bot le h =
-    idle_bot_since since b last _ (if_since since (bot.no == b) _ bot (on_false (heard moment bot).dead _ le) h)
-after_since since moment (kind.Terminate b) bot le h = if_since since (bot.no == b) _ bot h h
-after_since since moment k bot le h = h
-
-map_since : (since moment : ℕ) (k : EntryKind) (rows : List BotRow) → since ≤ moment → All (HeardSince since) rows → All (HeardSince since) (map (bot_after moment k) rows)
-map_since since moment k rows le all =
-    All-map (HeardSince since) (bot_after moment k) rows (All-weaker (HeardSince since) (λ bot. HeardSince since (bot_after moment k bot)) (λ bot h. after_since since moment k bot le h) rows all)
-
-all_added : (P : BotRow → Type 0) (row : BotRow) (o : Option BotRow) → P row → All P (option_map_or (λ old. []) o (row ∷ []))
-all_added P row None here = All-cons P row [] here (All-nil P)
-all_added P row (Some old) here = All-nil P
-
-pub since_stays : (since moment : ℕ) (k : EntryKind) (rows : List BotRow) → since ≤ moment → All (HeardSince since) rows → All (HeardSince since) (bots_after moment k rows)
-since_stays since moment (kind.Handshake b id session dims q) rows le all =
-    All-append (HeardSince since) _ _ (map_since since moment (kind.Handshake b id session dims q) rows le all) (all_added (HeardSince since) (session_row moment b id session dims q) (row_of rows b) le)
-since_stays since moment k rows le all = map_since since moment k rows le all
-
--- ---- numbers and early moments, for all rows
-
-pub numbered_after : (moment : ℕ) (k : EntryKind) (rows : List BotRow) → AreNumbered no_of_bot 1 rows → AreNumbered no_of_bot 1 (map (bot_after moment k) rows)
+numbered_after : (moment : ℕ) (k : EntryKind) (rows : List BotRow) → AreNumbered no_of_bot 1 rows → AreNumbered no_of_bot 1 (map (bot_after moment k) rows)
 numbered_after moment k rows numbered = numbered-map no_of_bot (bot_after moment k) (after_no moment k) 1 rows numbered
 
-pub heard_after : (moment : ℕ) (k : EntryKind) (rows : List BotRow) → moment ≤ 2 ^ 40 → All IsHeard rows → All IsHeard (map (bot_after moment k) rows)
-heard_after moment k rows early heard =
-    All-map IsHeard (bot_after moment k) rows (All-weaker IsHeard (λ bot. IsHeard (bot_after moment k bot)) (λ bot h. after_heard moment k bot early h) rows heard)
+session_row_after : (row : BotRow) (rows : List BotRow) (o : Option BotRow) → o ≡ row_of rows row.no → MatchOption o (row.no ≡ length rows + 1) (λ bot. ⊤) →
+    AreNumbered no_of_bot 1 rows → AreNumbered no_of_bot 1 (map (change_at no_of_bot row.no (λ old. row)) rows) → AreNumbered no_of_bot 1 (with_bot row rows)
+session_row_after row rows None is next old all = rw (with_bot-new row rows (sym is)) (numbered-push no_of_bot 1 rows row old (omega (arith, next)))
+session_row_after row rows (Some bot) is next old all = rw (with_bot-known row bot rows (sym is)) all
 
--- what holds of all rows
-pub record AreRows (rows : List BotRow) : Type 0 where
-  pub numbered : AreNumbered no_of_bot 1 rows
-  pub heard : All IsHeard rows
-
-session_row_after : (moment : ℕ) (row : BotRow) (rows : List BotRow) (o : Option BotRow) → o ≡ row_of rows row.no → MatchOption o (row.no ≡ length rows + 1) (λ bot. ⊤) → IsHeard row →
-    AreRows rows → AreRows (map (change_at no_of_bot row.no (λ old. row)) rows) → AreRows (with_bot row rows)
-session_row_after moment row rows None is next heard old all =
-    let none : with_bot row rows ≡ rows ++ row ∷ [] = with_bot-new row rows (sym is) in
-    rw none (record {
-      numbered = numbered-push no_of_bot 1 rows row old.numbered (omega (arith, next));
-      heard = All-push IsHeard rows row old.heard heard;
-    })
-session_row_after moment row rows (Some bot) is next heard old all = rw (with_bot-known row bot rows (sym is)) all
-
-pub rows_stay : (moment : ℕ) (k : EntryKind) (kept : RegistryState) → moment ≤ 2 ^ 40 → Follows kept k → AreRows kept.rows → AreRows (bots_after moment k kept.rows)
-rows_stay moment (kind.Handshake b id session dims q) kept early follows old =
-    session_row_after moment (session_row moment b id session dims q) kept.rows (row_of kept.rows b) refl (next_of (row_of kept.rows b) follows) early old
-    (record { numbered = numbered_after moment (kind.Handshake b id session dims q) kept.rows old.numbered; heard = heard_after moment (kind.Handshake b id session dims q) kept.rows early old.heard })
+pub numbered_stays : (moment : ℕ) (k : EntryKind) (kept : RegistryState) → Follows kept k → AreNumbered no_of_bot 1 kept.rows → AreNumbered no_of_bot 1 (bots_after moment k kept.rows)
+numbered_stays moment (kind.Handshake b id session dims q) kept follows old =
+    session_row_after (session_row moment b id session dims q) kept.rows (row_of kept.rows b) refl (next_of (row_of kept.rows b) follows) old
+    (numbered_after moment (kind.Handshake b id session dims q) kept.rows old)
   where
     next_of : (o : Option BotRow) → MatchOption o (IsNewBot kept b id) (λ bot. bot.name ≡ id) → MatchOption o (b ≡ length kept.rows + 1) (λ bot. ⊤)
     next_of None new = new.next
     next_of (Some bot) same = tt
-rows_stay moment k kept early follows old =
-    record { numbered = numbered_after moment k kept.rows old.numbered; heard = heard_after moment k kept.rows early old.heard }
+numbered_stays moment k kept follows old = numbered_after moment k kept.rows old
 
 -- ---- the rows are few
 

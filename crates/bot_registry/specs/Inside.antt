@@ -1,15 +1,10 @@
 -- What a registry keeps, and what holds of it.
-use Rattle.std.specs.Prelude.{◌≡◌, ℕ, ◌+◌, ◌^◌, ◌<◌, ◌≤◌, List, map, length, None, IfSome, MatchOption, ⊤, vec_len, vec_capacity}
-use Rattle.std.specs.Bool.{OnFalse}
-use Rattle.std.specs.List.{All}
+use Rattle.std.specs.Prelude.{◌≡◌, ℕ, ◌+◌, ◌<◌, ◌≤◌, List, map, length, None, IfSome, MatchOption, ⊤, vec_len, vec_capacity}
 use Rattle.swarm_model.specs.declared.bot_row.BotRow.{BotRow}
-use Rattle.swarm_model.specs.declared.deadline.Cause.TheVariants as cause
-use Rattle.swarm_model.specs.declared.deadline.Deadline.{Deadline}
 use Rattle.swarm_model.specs.declared.entry.EntryKind.{EntryKind}
 use Rattle.swarm_model.specs.declared.entry.EntryKind.TheVariants as kind
 use Rattle.swarm_model.specs.Numbers.{AreNumbered}
 use Rattle.swarm_model.specs.Effects.{no_of_bot}
-use Rattle.row_changes.specs.Rows.{IsHeard}
 use Rattle.bot_registry.specs.declared.registry.Registry.TheInside.{Inside}
 use Rattle.bot_registry.specs.Plain.{RegistryState}
 use Rattle.bot_registry.specs.Acting.{row_of, row_named}
@@ -17,35 +12,22 @@ use Rattle.bot_registry.specs.Names.{name_of, AreByName}
 use Rattle.bot_registry.specs.Demands.{AreCounted}
 
 abbrev pub kept_of : Inside → RegistryState
-kept_of registry =
-    record { rows = registry.rows.items; ready = registry.ready; most = registry.most; death_timeout = registry.death_timeout }
-
--- a bot that isn't dead was heard at the moment or after it
-abbrev pub HeardSince : ℕ → BotRow → Type 0
-HeardSince moment bot = OnFalse bot.dead (moment ≤ bot.contact)
+kept_of registry = record { rows = registry.rows.items; ready = registry.ready; most = registry.most }
 
 -- each list has room for one bot more, where there may be one
 pub record HasPlaces (rows most row_len row_room number_len number_room : ℕ) : Type 0 where
   pub row : rows < most → row_len < row_room
   pub number : rows < most → number_len < number_room
 
--- the rows are as few as there may be and numbered by their places, each bot was heard at an early
--- moment, the numbers are known by name, the sets are counted, no living bot was heard before a moment,
--- and where an entry is ready, there is room for it
+-- the rows are as few as there may be and numbered by their places, the numbers are known by name, the
+-- sets are counted, and where an entry is ready, there is room for it
 pub record IsKept (registry : Inside) : Type 0 where
   pub few : length registry.rows.items ≤ registry.most
   pub numbered : AreNumbered no_of_bot 1 registry.rows.items
-  pub heard : All IsHeard registry.rows.items
   pub named : AreByName (map no_of_bot registry.rows.items) (map name_of registry.rows.items) registry.by_name.items
   pub demands : AreCounted registry.rows.items registry.demands
-  pub early : registry.heard_since ≤ 2 ^ 40
-  pub since : All (HeardSince registry.heard_since) registry.rows.items
   pub prepared : IfSome registry.ready (λ parts.
       HasPlaces (length registry.rows.items) registry.most (vec_len registry.rows) (vec_capacity registry.rows) (vec_len registry.by_name) (vec_capacity registry.by_name))
-
--- the deadline is a bot's
-abbrev pub IsDeath : Deadline → Type 0
-IsDeath d = d.cause ≡ cause.Bot
 
 -- a new bot has the next number and a new name, and there is room for its number
 pub record IsNextBot (rows : List BotRow) (len capacity number : ℕ) (name : List ℕ) : Type 0 where

@@ -1,9 +1,8 @@
-//! The rows of a pool's bots, found by number, by name, by silence and by what they can run.
+//! The rows of a pool's bots, found by number, by name and by what they can run.
 //!
-//! A [`Registry`] is seen as four things (`specs/Plain.antt`): the rows, what is made ready
-//! of an entry, how many bots there may be, and how long a silent one may live. Its queries answer as
-//! scans of the rows do, in the words of `swarm_model`, and `apply` does to the rows what the entry
-//! does to the bots of a pool. What the registry keeps beside the rows stands in the invariant of
+//! A [`Registry`] is seen as three things (`specs/Plain.antt`): the rows, what is made ready
+//! of an entry, and how many bots there may be. Its queries answer as scans of the rows do, in the
+//! words of `swarm_model`, and `apply` does to the rows what the entry does to the bots of a pool. What the registry keeps beside the rows stands in the invariant of
 //! its `Model` alone (`specs/Inside.antt`): the numbers sorted by name, by which a bot and the one
 //! that comes next after a name are found by bisection, and for each set of dimensions that a task
 //! asked for the number of fit bots that match it, which tells whether some bot could run it.
@@ -16,6 +15,5 @@
 mod demand;
 mod names;
 mod registry;
-mod silence;
 
 pub use registry::Registry;

@@ -1,14 +1,13 @@
-ghost use Rattle.std.specs.Prelude.{◌≡◌, ◌≤◌, ◌^◌, [], length, Some, None, OnOk, OnErr};
+ghost use Rattle.std.specs.Prelude.{◌≡◌, [], length, Some, None, OnOk, OnErr};
 ghost use Rattle.std.specs.List.{list_any};
 ghost use Rattle.std.specs.Option.{option_copied, option_map};
 ghost use Rattle.swarm_model.specs.Slices.{could_run};
 ghost use Rattle.swarm_model.specs.Effects.{no_of_bot};
 ghost use Rattle.row_changes.specs.Parts.{bot_parts};
 ghost use Rattle.bot_registry.specs.Acting.{row_of, row_named, IsNextAfter, IsAfter, Follows};
-ghost use Rattle.bot_registry.specs.Silence.{IsDueDeath};
 
 use crate::demand::Demands;
-use crate::{names, silence};
+use crate::names;
 use dimensions::{DimSet, Text};
 use row_changes::{BotParts, change_bots, row_of};
 use std::alloc::{AllocError, Global};
@@ -21,12 +20,9 @@ use swarm_model::{BotRow, Entry};
 pub struct Registry {
     alloc: Global,
     most: u32,
-    death_timeout: u32,
     rows: Vec<BotRow>,
     /// The numbers of the rows, sorted by name.
     by_name: Vec<u32>,
-    /// No bot that isn't dead was last heard before this moment.
-    heard_since: u64,
     /// The sets that tasks asked for, each with the number of fit bots that match it.
     demands: Demands,
     /// What the entry that was reserved moves into a row.
@@ -46,18 +42,15 @@ impl Model for Registry {
 }
 
 impl Registry {
-    /// No bot yet, of at most `most`; one that is silent for `death_timeout` seconds counts as
-    /// dead. It takes no memory.
-    pub fn new(alloc: Global, most: u32, death_timeout: u32) -> Registry
-        ensures { result ≡ record { rows = []; ready = None; most = most; death_timeout = death_timeout } }
+    /// No bot yet, of at most `most`. It takes no memory.
+    pub fn new(alloc: Global, most: u32) -> Registry
+        ensures { result ≡ record { rows = []; ready = None; most = most } }
     {
         Registry {
             alloc,
             most,
-            death_timeout,
             rows: Vec::new(alloc),
             by_name: Vec::new(alloc),
-            heard_since: 0,
             demands: Demands::new(alloc),
             ready: None,
         }
@@ -108,18 +101,6 @@ impl Registry {
         self.demands.is_capable(&self.rows, dims)
     }
 
-    /// Of the deadlines of bots that aren't dead, the earliest by moment and then number, where it
-    /// has come by the moment: its moment, and the number of the bot. It costs a pass over the bots
-    /// only where a bot may have been silent for so long.
-    pub fn first_silence(&self, moment: u64) -> Option<(u64, u32)>
-        ensures { IsDueDeath self.now moment result }
-    {
-        if moment < self.heard_since + u64::from(self.death_timeout) {
-            return None;
-        }
-        silence::if_come(moment, silence::first_end(&self.rows, self.death_timeout))
-    }
-
     /// Makes ready all that the entry's change of the rows needs, so that `apply` takes no memory.
     /// It costs the copy of what the entry moves into a row. A new task's sets of dimensions are
     /// known from here on, also where the entry is never applied: each costs a search among those
@@ -148,10 +129,9 @@ impl Registry {
     /// Where it changes the dimensions of a bot, or whether it is fit, it costs a pass over the sets
     /// that are known; a sign of life costs none. A bot that comes for the first time costs a
     /// bisection and the move of the numbers behind its own. A silent run costs a pass over the
-    /// bots, and so does an entry by whose moment the bot that was heard the longest ago may be dead.
+    /// bots.
     pub fn apply(&mut self, entry: &Entry)
         requires ready { self.old.ready ≡ Some (bot_parts entry.now.kind) }
-        requires early { entry.now.moment ≤ 2 ^ 40 }
         requires follows { Follows self.old entry.now.kind }
         ensures rows { IsAfter self.old.rows entry.now self.new.rows }
         ensures rest { self.new ≡ record self.old { rows = self.new.rows; ready = None } }
@@ -164,13 +144,6 @@ impl Registry {
                 change_bots(&mut self.rows, self.alloc, entry.moment, &entry.kind, parts);
                 self.demands
                     .count_changed(&self.rows, &entry.kind, included);
-                let since = self.heard_since.min(entry.moment);
-                self.heard_since = silence::heard_since(
-                    &self.rows,
-                    since,
-                    self.death_timeout,
-                    entry.moment,
-                );
             }
         }
     }

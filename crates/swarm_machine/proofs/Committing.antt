@@ -13,13 +13,13 @@ pub record IsOfEntry (pool : Inside) (ready : Ready) (entry : Entry) : Type 0 wh
   pub weighs : ready.weight ≡ weight entry
   pub made : IsMadeReady pool.rows pool.indexes (vec_len pool.log) (vec_capacity pool.log) entry
 
-pub of_entry : (pool : Inside) → IsKept pool → (taken : Option Ready) (ready : Ready) (entry : Entry) → taken ≡ pool.ready → taken ≡ Some ready → option_map (λ (r : Ready). r.entry) pool.ready ≡ Some entry →
+pub of_entry : (pool : Inside) → IsKept pool → (taken : Option Ready) (ready : Ready) (entry : Entry) → taken ≡ pool.ready → taken ≡ Some ready → option_map (λ (r : Ready). r.entry.value) pool.ready ≡ Some entry →
     IsOfEntry pool ready entry
 of_entry pool kept taken ready entry took is own =
     let there : pool.ready ≡ Some ready = sym took ∙ is in
     let all : IsReady pool ready = subst (λ (o : Option Ready). IfSome o (IsReady pool)) there kept.prepared in
-    let some : Some ready.entry ≡ Some entry = ap (option_map (λ (r : Ready). r.entry)) (sym there) ∙ own in
-    let same : ready.entry ≡ entry = cc (some) in
+    let some : Some ready.entry.value ≡ Some entry = ap (option_map (λ (r : Ready). r.entry.value)) (sym there) ∙ own in
+    let same : ready.entry.value ≡ entry = cc (some) in
     record {
       weighs = all.weighs ∙ ap weight same;
       made = subst (IsMadeReady pool.rows pool.indexes (vec_len pool.log) (vec_capacity pool.log)) same all.made;

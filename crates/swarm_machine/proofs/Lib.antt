@@ -7,7 +7,6 @@ mod NumberedTasks
 mod Following
 mod Moving
 mod Counts
-mod Keeping
 mod Committing
 mod UsesChange
 mod UsesFollow

@@ -13,12 +13,12 @@ use Rattle.swarm_machine.specs.Inside.{state_of, IsOfSettings}
 use Rattle.swarm_machine.specs.Indexes.{AreIndexes, IsMadeReady}
 
 abbrev pub kept_of : Inside → KeptPool
-kept_of pool = record { pool = state_of pool.rows; log = pool.log.items; ready = option_map (λ r. r.entry) pool.ready; held = pool.rows.blobs.store.held }
+kept_of pool = record { pool = state_of pool.rows; log = pool.log.items; ready = option_map (λ r. r.entry.value) pool.ready; held = pool.rows.blobs.store.held }
 
 -- the weight of the entry that is ready is known, and all that it adds lies ready
 pub record IsReady (pool : Inside) (ready : Ready) : Type 0 where
-  pub weighs : ready.weight ≡ weight ready.entry
-  pub made : IsMadeReady pool.rows pool.indexes (vec_len pool.log) (vec_capacity pool.log) ready.entry
+  pub weighs : ready.weight ≡ weight ready.entry.value
+  pub made : IsMadeReady pool.rows pool.indexes (vec_len pool.log) (vec_capacity pool.log) ready.entry.value
 
 -- the rows are the replay of the log, the log is legal, and its weight is known; the parts are as large
 -- as the settings say, and each index is that of the rows

@@ -10,7 +10,8 @@ use crate::indexes::{Indexes, touched_by};
 use crate::rows::Rows;
 use crate::{pages, sources};
 use content_store::{Filled, Held};
-use dimensions::{BotDims, DimSet, Text, TryCopy};
+use dimensions::{BotDims, DimSet, Text};
+use ghost_values::GhostValue;
 use std::alloc::{AllocError, Global};
 use std::marker::Model;
 use std::mem;
@@ -22,10 +23,10 @@ use swarm_model::{
 use swarm_rules::{PoolQueries, decide, due_entry};
 use task_props::Digest;
 
-/// An entry for which all lies ready, and its weight.
+/// The entry for which all lies ready, and its weight.
 #[derive(Drop)]
 pub(crate) struct Ready {
-    pub entry: Entry,
+    pub entry: GhostValue<Entry>,
     pub weight: u64,
 }
 
@@ -302,30 +303,24 @@ impl Machine for Pool {
         if make_ready(self.alloc, log, rows, indexes, entry).is_err() {
             return Err(ReserveFault::Memory);
         }
-        match entry.try_copy(self.alloc) {
-            Ok(entry) => {
-                drop(mem::replace(&mut self.ready, Some(Ready { entry, weight })));
-                Ok(())
-            }
-            Err(_) => Err(ReserveFault::Memory),
-        }
+        let ready = Ready {
+            entry: GhostValue::of(entry),
+            weight,
+        };
+        drop(mem::replace(&mut self.ready, Some(ready)));
+        Ok(())
     }
 
     fn commit(&mut self, entry: Entry, bytes: Option<&[u8]>) {
         match self.ready.take() {
             None => unreachable!(),
             Some(ready) => {
-                let Ready {
-                    entry: copy,
-                    weight,
-                } = ready;
-                drop(copy);
                 let touched = touched_by(&self.rows, &entry);
                 self.rows.apply(&entry, bytes);
                 self.indexes.follow(&entry, touched, &self.rows);
                 // For the proof: the limits of the settings.
                 let _most = self.rows.settings.most_weight;
-                self.weight += weight;
+                self.weight += ready.weight;
                 self.log.push_reserved(entry);
             }
         }

@@ -38,7 +38,7 @@ impl Rows {
         ensures held { IfOk result (λ rows. rows.blobs.store.held ≡ []) }
     {
         let blobs = Blobs::new(alloc, settings.store_units, MOST_BLOBS)?;
-        let bots = Registry::new(alloc, settings.most_bots, settings.death_timeout_secs);
+        let bots = Registry::new(alloc, settings.most_bots);
         Ok(Rows {
             settings,
             last: 0,

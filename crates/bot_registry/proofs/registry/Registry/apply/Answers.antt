@@ -6,8 +6,7 @@ use Rattle.row_changes.specs.Bots.{bots_after}
 use Rattle.row_changes.proofs.RowEffects.{bots_after-is}
 use Rattle.bot_registry.specs.Plain.{RegistryState}
 use Rattle.bot_registry.specs.Inside.{kept_of}
-use Rattle.bot_registry.proofs.RowEffects.{rows_stay, rows_few, since_stays, room_for, follows_in, room_of}
-use Rattle.bot_registry.proofs.Folding.{since_weaker}
+use Rattle.bot_registry.proofs.RowEffects.{numbered_stays, rows_few, room_for, follows_in, room_of}
 use Rattle.bot_registry.proofs.registry.Registry.apply.Goals as goal
 
 pub change_bots-requires-clause-room : goal.change_bots-requires-clause-room
@@ -35,33 +34,22 @@ count_changed-requires-clause-few c =
 pub count_changed-requires-clause-numbered : goal.count_changed-requires-clause-numbered
 count_changed-requires-clause-numbered c =
     let follows = rw (← c.self.view_is) at c.requires.follows in
-    let all = rows_stay c.args.entry.now.moment c.args.entry.now.kind (kept_of c.self.inside) c.requires.early follows
-    (record { numbered = c.self.invariant.numbered; heard = c.self.invariant.heard }) in
-    rw (c.deref-in-Some-2.ensures.value, c.change_bots.ensures) all.numbered
+    let numbered = numbered_stays c.args.entry.now.moment c.args.entry.now.kind (kept_of c.self.inside) follows c.self.invariant.numbered in
+    rw (c.deref-in-Some-2.ensures.value, c.change_bots.ensures) numbered
 
 pub count_changed-requires-clause-known : goal.count_changed-requires-clause-known
 count_changed-requires-clause-known c =
     rw (c.deref-in-Some-2.ensures.value, c.change_bots.ensures, ← c.deref-in-Some.ensures.value) (c.remove_changing-included.ensures c.args.entry.now.moment)
 
-pub heard_since-self-inside-requires-clause-since : goal.heard_since-self-inside-requires-clause-since
-heard_since-self-inside-requires-clause-since c =
-    rw (c.deref-in-Some-3.ensures.value, c.change_bots.ensures)
-    (since_stays c.min-since.result c.args.entry.now.moment c.args.entry.now.kind c.self.inside.rows.items (omega (arith, c.min-since.ensures))
-    (since_weaker c.self.inside.heard_since c.min-since.result c.self.inside.rows.items (omega (arith, c.min-since.ensures)) c.self.invariant.since))
-
 pub invariant_of-self : goal.invariant_of-self
 invariant_of-self c =
     let follows = rw (← c.self.view_is) at c.requires.follows in
-    let all = rows_stay c.args.entry.now.moment c.args.entry.now.kind (kept_of c.self.inside) c.requires.early follows
-    (record { numbered = c.self.invariant.numbered; heard = c.self.invariant.heard }) in
+    let numbered = numbered_stays c.args.entry.now.moment c.args.entry.now.kind (kept_of c.self.inside) follows c.self.invariant.numbered in
     record {
       few = rw c.change_bots.ensures (rows_few c.args.entry.now.moment c.args.entry.now.kind (kept_of c.self.inside) follows c.self.invariant.few);
-      numbered = rw c.change_bots.ensures all.numbered;
-      heard = rw c.change_bots.ensures all.heard;
+      numbered = rw c.change_bots.ensures numbered;
       named = rw (c.change_bots.ensures, ← c.deref.ensures.value) (c.follow.ensures c.args.entry.now.moment);
       demands = rw c.deref-in-Some-2.ensures.value at c.count_changed.ensures;
-      early = omega (arith, c.requires.early, c.heard_since-self-inside.ensures.not_later);
-      since = rw c.deref-in-Some-3.ensures.value at c.heard_since-self-inside.ensures.since;
       prepared = rw c.take.ensures.after tt;
     }
 

@@ -95,7 +95,7 @@ returns-clause-finals c =
 
 pub returns-clause-added : goal.returns-clause-added
 returns-clause-added c =
-    let none = ap (option_map (λ (r : Ready). r.entry)) c.take.ensures.after in
+    let none = ap (option_map (λ (r : Ready). r.entry.value)) c.take.ensures.after in
     (λ i. let x : MachineState = record { pool = c.apply.ensures.state i; log = c.push_reserved.ensures.items i; ready = none i; held = c.apply.ensures.held i } in x)
     ∙ ap (λ (pool : KeptPool). let x : MachineState = record (machine_of pool) {
       pool = after pool.pool c.args.entry;

@@ -19,7 +19,7 @@ returns c =
     let digest = c.args.digest.now in
     let bytes = c.args.bytes.now in
     let holds = c.fill.ensures.holds in
-    let none = ap (option_map (λ (r : Ready). r.entry)) c.take.ensures.after in
+    let none = ap (option_map (λ (r : Ready). r.entry.value)) c.take.ensures.after in
     let by_digest = held_by (bytes_of (held_after_fill c.fill.result digest bytes held)) (bytes_after_fill c.fill.result digest bytes (bytes_of held))
     (filled_bytes held digest bytes c.fill.result c.fill.ensures.told) in
     record {
