@@ -14,8 +14,9 @@ use swarm_model::Deadline;
 /// are, and for how many more there is memory.
 ///
 /// An addition or a removal searches the list twice by bisection, each time with a comparison for
-/// each halving, and moves at most the 128 deadlines of one block, 16 bytes for each: none where the
-/// deadline is added behind all others. The earliest is read without a comparison.
+/// each halving. It moves at most the 128 deadlines of one block, 16 bytes for each, and where a
+/// block comes or goes 24 bytes for each block behind it: nothing where the deadline is added behind
+/// all others. The earliest is read without a comparison.
 #[derive(Drop)]
 pub struct DeadlineQueue {
     deadlines: BlockList<Deadline>,
