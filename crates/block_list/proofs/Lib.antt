@@ -1,1 +1,3 @@
-mod Edges
+mod Pieces
+mod Searches
+mod Changes

@@ -1,3 +1,4 @@
 pub mod Plain
 pub mod Partition
+pub mod Blocks
 pub mod Inside
