@@ -1,2 +1,4 @@
-mod Edges
+mod Pieces
+mod Searches
+mod Changes
 pub mod Rising

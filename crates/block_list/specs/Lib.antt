@@ -1,4 +1,5 @@
 pub mod Plain
 pub mod Partition
+pub mod Blocks
 pub mod Inside
 pub mod Rising

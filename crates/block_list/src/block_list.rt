@@ -4,12 +4,19 @@ ghost use Rattle.std.specs.Option.{option_copied};
 ghost use Rattle.std.specs.Fn.{ComputesKey};
 ghost use Rattle.block_list.specs.Partition.{AtPartition};
 
+use crate::blocks::Blocks;
+use crate::place::Place;
 use std::alloc::{AllocError, Global};
 use std::marker::Model;
 
 #[derive(Drop)]
 pub struct BlockList<T> {
-    items: Vec<T>,
+    alloc: Global,
+    blocks: Blocks<T>,
+    /// A block without items.
+    spare: Vec<T>,
+    /// Whether the next item takes no memory.
+    ready: bool,
 }
 
 impl<T> Model for BlockList<T> {
@@ -17,9 +24,11 @@ impl<T> Model for BlockList<T> {
 
     ghost Value = { BlockListState T };
 
-    ghost use Rattle.block_list.specs.Inside.{state_of};
+    ghost use Rattle.block_list.specs.Inside.{state_of, IsKept};
 
     ghost view = { state_of };
+
+    ghost invariant = { IsKept };
 }
 
 impl<T: Copy> BlockList<T> {
@@ -28,11 +37,15 @@ impl<T: Copy> BlockList<T> {
         ensures { result.items ≡ [] }
     {
         BlockList {
-            items: Vec::new(alloc),
+            alloc,
+            blocks: Blocks::new(alloc),
+            spare: Vec::new(alloc),
+            ready: false,
         }
     }
 
-    /// Makes room for one item more.
+    /// Makes room for one item more. The head block grows as a `Vec` does, as long as it is alone
+    /// and not full; else a block is made where no spare one is left.
     ///
     /// # Errors
     ///
@@ -41,19 +54,26 @@ impl<T: Copy> BlockList<T> {
         ensures items { self.new.items ≡ self.old.items }
         ensures room { OnOk result (0 < self.new.room) }
     {
-        self.items.reserve(1)
+        if !self.ready {
+            self.blocks.reserve(&mut self.spare)?;
+            self.ready = true;
+        }
+        Ok(())
     }
 
     pub fn is_empty(&self) -> bool
         ensures { result ≡ (length self.now.items == 0) }
     {
-        self.items.is_empty()
+        self.first().is_none()
     }
 
     pub fn first(&self) -> Option<&T>
         ensures { option_copied result ≡ slice_get self.now.items 0 }
     {
-        self.items.first()
+        self.blocks.get(Place {
+            block: 0,
+            offset: 0,
+        })
     }
 
     /// The first item for which `before` is false, where those for which it is true stand first.
@@ -61,8 +81,8 @@ impl<T: Copy> BlockList<T> {
         requires { F.IsAlwaysCallable before }
         ensures { (p : T → Bool) → ComputesKey F.FnMut p before → AtPartition p self.now.items (λ index. option_copied result ≡ slice_get self.now.items index) }
     {
-        let index = self.items.partition_point(before);
-        self.items.get(index)
+        let place = self.blocks.search(before);
+        self.blocks.get(self.blocks.item_place(place))
     }
 
     /// Puts an item before the first for which `before` is false, where those for which it is true
@@ -73,11 +93,9 @@ impl<T: Copy> BlockList<T> {
         ensures items { (p : T → Bool) → ComputesKey F.FnMut p before → AtPartition p self.old.items (λ index. self.new.items ≡ insert self.old.items index item) }
         ensures room { self.old.room ≤ self.new.room + 1 }
     {
-        let index = self.items.partition_point(before);
-        match self.items.insert(index, item) {
-            Ok(()) => {}
-            Err(_) => unreachable!(),
-        }
+        let place = self.blocks.search(before);
+        self.blocks.insert(self.alloc, &mut self.spare, place, item);
+        self.ready = false;
     }
 
     /// Takes out the first item for which `before` is false, where those for which it is true stand
@@ -87,11 +105,14 @@ impl<T: Copy> BlockList<T> {
         ensures items { (p : T → Bool) → ComputesKey F.FnMut p before → AtPartition p self.old.items (λ index. (result ≡ slice_get self.old.items index) × (self.new.items ≡ remove self.old.items index)) }
         ensures room { self.old.room ≤ self.new.room }
     {
-        let index = self.items.partition_point(before);
-        if index < self.items.len() {
-            Some(self.items.remove(index))
-        } else {
-            None
+        let place = self.blocks.item_place(self.blocks.search(before));
+        match self.blocks.get(place) {
+            None => None,
+            Some(item) => {
+                let item = *item;
+                self.blocks.remove(&mut self.spare, place);
+                Some(item)
+            }
         }
     }
 }

@@ -1,6 +1,18 @@
-//! A list in blocks.
+//! A list in blocks, so that an item that comes or goes in the middle moves the items of one block.
+//!
+//! A search, an insertion and a removal go by a test of the items: contracts speak of the first item
+//! that does not pass it, where those that pass it stand first. [`BlockList::reserve`] makes room for
+//! an item, and is the only call that takes memory. Contracts see a [`BlockList`] as the list of its
+//! items, and as how many more it takes without memory.
+//!
+//! The first items lie in the head block, which grows as a `Vec` does. Behind it are blocks with
+//! memory for 128 items each. No two blocks side by side are left with at most 64 items together by
+//! a removal. The crate stands on std alone.
 #![tactic(auto)]
 
+mod block;
 mod block_list;
+mod blocks;
+mod place;
 
 pub use block_list::BlockList;

@@ -1,11 +1,14 @@
-use Rattle.std.proofs.Common.{ap, ◌∙◌, rules}
-use Rattle.block_list.proofs.Edges.{copied}
+use Rattle.std.proofs.Common.{◌≡◌, ap, ◌∙◌}
+use Rattle.std.specs.Prelude.{slice_get}
+use Rattle.std.specs.Option.{option_copied}
+use Rattle.block_list.specs.Blocks.{items_of, all_of}
+use Rattle.block_list.proofs.Searches.{at_place}
 use Rattle.block_list.proofs.block_list.BlockList.at_partition.Goals as goal
 
 pub returns : goal.returns
-returns g c p h parted =
-    let is = c.deref.ensures.value ∙ ap (λ s. s.items) c.self.view_is in
-    let point = c.partition_point-index.ensures.partitioned p h (rw is parted) in
-    let index = c.partition_point-index.result in
-    let read = copied c.deref-2.result.now index c.get.result _ c.get.ensures.lookup.3 c.get.ensures.lookup.1 in
-    (index, search rules, rw is at point, rw (c.deref-2.ensures.value ∙ ap (λ s. s.items) c.self.view_is) at read)
+returns g c p h =
+    let blocks = all_of c.self.inside.blocks in
+    let is : items_of blocks ≡ c.args.self.now.items = ap (λ s. s.items) c.self.view_is in
+    let value = c.get.ensures.value ∙ ap (slice_get (items_of blocks)) c.item_place.ensures.index in
+    let answer = at_place p blocks c.search-place.result (λ index. option_copied c.get.result ≡ slice_get (items_of blocks) index) c.search-place.ensures.place (c.search-place.ensures.partition p h) value in
+    rw is at answer

@@ -1,27 +1,28 @@
-use Rattle.std.proofs.Common.{◌≡◌, None, ap, sym, ◌∙◌, ◌<◌, ◌≤◌, length, refl, rules, arith}
+use Rattle.std.proofs.Common.{◌≡◌, ap, sym, ◌∙◌, Some, None}
 use Rattle.std.specs.Prelude.{slice_get}
 use Rattle.std.specs.List.{remove}
-use Rattle.std.proofs.lemmas.Option.{slice_get_read, slice_get_past}
-use Rattle.block_list.proofs.Edges.{removed_past}
+use Rattle.block_list.specs.Blocks.{items_of, all_of, index_of}
+use Rattle.block_list.proofs.Pieces.{past_from_none, remove_past}
+use Rattle.block_list.proofs.Searches.{at_place}
 use Rattle.block_list.proofs.block_list.BlockList.remove_at_partition.Goals as goal
 
-pub returns-then-index-len-clause-items : goal.returns-then-index-len-clause-items
-returns-then-index-len-clause-items g c p h parted =
-    let items = c.self.inside.items.items in
-    let index = c.partition_point-index.result in
-    let is = ap (λ s. s.items) c.self.view_is in
-    let point = c.partition_point-index.ensures.partitioned p h (rw (c.deref.ensures.value ∙ is) parted) in
-    let within : index < length items = omega (arith, c.if-index-len.true, c.len.ensures, c.self.inside.items.ok.0) in
-    let value = sym (slice_get_read items (length items) index c.remove.result refl within c.remove.ensures.value) in
-    (index, search rules, rw (c.deref.ensures.value ∙ is) at point, (rw is at value, rw is at c.remove.ensures.items))
+pub returns-in-None-clause-items : goal.returns-in-None-clause-items
+returns-in-None-clause-items g c p h =
+    let blocks = all_of c.self.inside.blocks in
+    let items = items_of blocks in
+    let is : items ≡ c.args.self.now.items = ap (λ s. s.items) c.self.view_is in
+    let none : None ≡ slice_get items (index_of blocks c.search.result) = c.in-None.ensures.value ∙ ap (slice_get items) c.item_place-place.ensures.index in
+    let same : items ≡ remove items (index_of blocks c.search.result) = sym (remove_past items (index_of blocks c.search.result) (past_from_none items (index_of blocks c.search.result) (sym none))) in
+    let answer = at_place p blocks c.search.result (λ index. (None ≡ slice_get items index) × (items ≡ remove items index)) c.search.ensures.place (c.search.ensures.partition p h) (none, same) in
+    rw is at answer
 
-pub returns-else-index-len-clause-items : goal.returns-else-index-len-clause-items
-returns-else-index-len-clause-items g c p h parted =
-    let items = c.self.inside.items.items in
-    let index = c.partition_point-index.result in
-    let is = ap (λ s. s.items) c.self.view_is in
-    let point = c.partition_point-index.ensures.partitioned p h (rw (c.deref.ensures.value ∙ is) parted) in
-    let past : length items ≤ index = omega (arith, c.if-index-len.false, c.len.ensures, c.self.inside.items.ok.0) in
-    let none : None ≡ slice_get items index = sym (slice_get_past items index past) in
-    let same : items ≡ remove items index = sym (removed_past items index past) in
-    (index, search rules, rw (c.deref.ensures.value ∙ is) at point, (rw is at none, rw is at same))
+pub returns-in-Some-clause-items : goal.returns-in-Some-clause-items
+returns-in-Some-clause-items g c p h =
+    let blocks = all_of c.self.inside.blocks in
+    let items = items_of blocks in
+    let is : items ≡ c.args.self.now.items = ap (λ s. s.items) c.self.view_is in
+    let new = items_of (all_of c.remove.new.self) in
+    let value : Some c.in-Some.item.now ≡ slice_get items (index_of blocks c.search.result) = c.in-Some.ensures.value ∙ ap (slice_get items) c.item_place-place.ensures.index in
+    let removed : new ≡ remove items (index_of blocks c.search.result) = c.remove.ensures.items ∙ ap (remove items) c.item_place-place.ensures.index in
+    let answer = at_place p blocks c.search.result (λ index. (Some c.in-Some.item.now ≡ slice_get items index) × (new ≡ remove items index)) c.search.ensures.place (c.search.ensures.partition p h) (value, removed) in
+    rw is at answer
