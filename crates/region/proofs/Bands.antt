@@ -20,26 +20,26 @@ zero_at n u =
     ]
 
 -- no size is set yet
-pub none-greatest : (sizes greatest : List ℕ) (units : ℕ) → sizes ≡ zeros units → greatest ≡ zeros (units / 1024 + 1) → AreGreatest sizes greatest
+pub none-greatest : (sizes greatest : List ℕ) (units : ℕ) → sizes ≡ zeros units → greatest ≡ zeros (units / 2048 + 1) → AreGreatest sizes greatest
 none-greatest sizes greatest units none empty =
     subst (λ (s : List ℕ). AreGreatest s greatest) (sym none) (subst (λ (g : List ℕ). AreGreatest (zeros units) g) (sym empty) (record {
-      bands = subst (λ (n : ℕ). n / 1024 < length (zeros (units / 1024 + 1))) (sym (count_zeros units)) (omega (arith, count_zeros (units / 1024 + 1)));
+      bands = subst (λ (n : ℕ). length (zeros (units / 2048 + 1)) ≡ n / 2048 + 1) (sym (count_zeros units)) (count_zeros (units / 2048 + 1));
       each = λ band within.
           record {
             bound = λ u at. omega (arith, zero_at units u);
-            reached = (band * 1024, omega arith, zero_at units (band * 1024) ∙ sym (zero_at (units / 1024 + 1) band));
+            reached = (band * 2048, omega arith, zero_at units (band * 2048) ∙ sym (zero_at (units / 2048 + 1) band));
           };
     }))
 
 module _ (sizes greatest : List ℕ) (unit : ℕ) (low : unit < length sizes) where
-  other_unit : (u band : ℕ) → u / 1024 ≡ band → band ≢ unit / 1024 → u ≢ unit
-  other_unit u band at other same = other (sym at ∙ ap (λ (k : ℕ). k / 1024) same)
+  other_unit : (u band : ℕ) → u / 2048 ≡ band → band ≢ unit / 2048 → u ≢ unit
+  other_unit u band at other same = other (sym at ∙ ap (λ (k : ℕ). k / 2048) same)
 
   -- a size is set
-  pub set-greatest : (size : ℕ) → AreGreatest sizes greatest → AreGreatestBeside (unit / 1024) (set sizes unit size) greatest
+  pub set-greatest : (size : ℕ) → AreGreatest sizes greatest → AreGreatestBeside (unit / 2048) (set sizes unit size) greatest
   set-greatest size are =
       record {
-        bands = subst (λ (n : ℕ). n / 1024 < length greatest) (sym (length-set sizes unit size)) are.bands;
+        bands = subst (λ (n : ℕ). length greatest ≡ n / 2048 + 1) (sym (length-set sizes unit size)) are.bands;
         each = λ band within other.
             let was = are.each band within in
             record {
@@ -52,10 +52,10 @@ module _ (sizes greatest : List ℕ) (unit : ℕ) (low : unit < length sizes) wh
       kept u other = get_or-set_other sizes unit u size 0 other
 
   abbrev start : ℕ
-  start = unit / 1024 * 1024
+  start = unit / 2048 * 2048
 
   -- the sizes of the band
-  module _ (end r : ℕ) (ends : end ≡ min (length sizes) (start + 1024)) (bound : (k : ℕ) → get_or (take (end - start) (drop start sizes)) k 0 ≤ r)
+  module _ (end r : ℕ) (ends : end ≡ min (length sizes) (start + 2048)) (bound : (k : ℕ) → get_or (take (end - start) (drop start sizes)) k 0 ≤ r)
       (reached : 1 ≤ length (take (end - start) (drop start sizes)) →
       (k : ℕ) × (k < length (take (end - start) (drop start sizes))) × (get_or (take (end - start) (drop start sizes)) k 0 ≡ r)) where
     count : length (take (end - start) (drop start sizes)) ≡ end - start
@@ -64,7 +64,7 @@ module _ (sizes greatest : List ℕ) (unit : ℕ) (low : unit < length sizes) wh
     at_unit : (k u : ℕ) → start + k ≡ u → k < end - start → get_or (take (end - start) (drop start sizes)) k 0 ≡ size_at sizes u
     at_unit k u is inside = get_or-take (end - start) (drop start sizes) k 0 inside ∙ get_or-drop start sizes k 0 ∙ ap (λ (n : ℕ). size_at sizes n) is
 
-    own : IsGreatestOf (unit / 1024) sizes r
+    own : IsGreatestOf (unit / 2048) sizes r
     own =
         record {
           bound = λ u at. elim (cases_lt u (length sizes)) [
@@ -77,15 +77,15 @@ module _ (sizes greatest : List ℕ) (unit : ℕ) (low : unit < length sizes) wh
               (start + some.0, omega (arith, inside, ends), sym (at_unit some.0 (start + some.0) refl inside) ∙ some.2);
         }
 
-    pub updated-greatest : AreGreatestBeside (unit / 1024) sizes greatest → AreGreatest sizes (set greatest (unit / 1024) r)
+    pub updated-greatest : AreGreatestBeside (unit / 2048) sizes greatest → AreGreatest sizes (set greatest (unit / 2048) r)
     updated-greatest are =
         let bands = are.bands in
         record {
-          bands = subst (λ (n : ℕ). length sizes / 1024 < n) (sym (length-set greatest (unit / 1024) r)) bands;
-          each = λ band within. elim (cases_eq band (unit / 1024)) [
-            | inl same ↦ subst (λ (n : ℕ). IsGreatestOf n sizes (size_at (set greatest (unit / 1024) r) n)) (sym same)
-                (subst (λ (n : ℕ). IsGreatestOf (unit / 1024) sizes n) (sym (get_or-set_same greatest (unit / 1024) r 0 (omega (arith, bands, low)))) own)
-            | inr other ↦ subst (λ (n : ℕ). IsGreatestOf band sizes n) (sym (get_or-set_other greatest (unit / 1024) band r 0 other))
-                (are.each band (omega (arith, within, length-set greatest (unit / 1024) r)) other)
+          bands = length-set greatest (unit / 2048) r ∙ bands;
+          each = λ band within. elim (cases_eq band (unit / 2048)) [
+            | inl same ↦ subst (λ (n : ℕ). IsGreatestOf n sizes (size_at (set greatest (unit / 2048) r) n)) (sym same)
+                (subst (λ (n : ℕ). IsGreatestOf (unit / 2048) sizes n) (sym (get_or-set_same greatest (unit / 2048) r 0 (omega (arith, bands, low)))) own)
+            | inr other ↦ subst (λ (n : ℕ). IsGreatestOf band sizes n) (sym (get_or-set_other greatest (unit / 2048) band r 0 other))
+                (are.each band (omega (arith, within, length-set greatest (unit / 2048) r)) other)
           ];
         }

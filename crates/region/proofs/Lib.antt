@@ -9,3 +9,4 @@ pub mod Taking
 pub mod Joining
 pub mod Bands
 pub mod Empty
+pub mod Searches

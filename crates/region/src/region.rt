@@ -46,7 +46,7 @@ impl Region {
         Ok(Region { units, sizes })
     }
 
-    /// The extent that `place` would answer. It looks at one number for each 1024 units, up to the
+    /// The extent that `place` would answer. It looks at one number for each 2048 units, up to the
     /// first of these bands in which a hole with so many units starts, and at the units of that band.
     pub fn find(&self, units: u32) -> Option<Extent>
         requires { 1 ≤ units }

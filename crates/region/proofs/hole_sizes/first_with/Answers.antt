@@ -1,17 +1,20 @@
--- No hole of the band has so many units.
-use Rattle.std.proofs.Common.{◌/◌, arith, inl, inr}
-use Rattle.std.proofs.lemmas.Bool.{cases_lt}
+use Rattle.std.proofs.Common.{arith}
+use Rattle.region.proofs.Searches.{none_with, none_at_all}
 use Rattle.region.proofs.hole_sizes.first_with.Goals as goal
 
-pub loop-at-preserved-then-greatest-at : goal.loop-at-preserved-then-greatest-at
-loop-at-preserved-then-greatest-at c =
-    let at = c.loop-at.at in
-    let bands = c.requires.indexed.bands in
-    let own = c.requires.indexed.each (at / 1024) (omega (arith, bands, c.loop-at-test.true)) in
+pub overflow_mul-band : goal.overflow_mul-band
+overflow_mul-band c = omega (arith, c.first_from-band.ensures.inside, c.requires.indexed.bands, c.requires.few)
+
+pub returns-then-at-sizes : goal.returns-then-at-sizes
+returns-then-at-sizes c =
     record {
-      before = λ u low. elim (cases_lt u at) [
-        | inl earlier ↦ c.loop-at.invariant.before u earlier
-        | inr from ↦ let bound = own.bound u (omega (arith, from, low, c.if-at-eq0.true)) in omega (arith, bound, c.if-greatest-at.true)
-      ];
-      few = omega (arith, c.loop-at-test.true);
+      inside = c.if-at-sizes.true;
+      room = c.first_from-at.ensures.found c.if-at-sizes.true;
+      first = none_with c.args.sizes.now c.args.greatest.now c.requires.indexed c.args.units c.first_from-band.result c.min.result c.first_from-at.result c.requires.some
+          c.first_from-band.ensures.passed c.min.ensures c.first_from-at.ensures.passed;
     }
+
+pub returns-else-at-sizes : goal.returns-else-at-sizes
+returns-else-at-sizes c =
+    none_at_all c.args.sizes.now c.args.greatest.now c.requires.indexed c.args.units c.first_from-band.result c.min.result c.first_from-at.result c.requires.some
+    c.first_from-band.ensures.passed c.min.ensures c.first_from-at.ensures.passed c.if-at-sizes.false

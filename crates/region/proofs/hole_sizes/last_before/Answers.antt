@@ -1,17 +1,19 @@
--- The band has no hole.
-use Rattle.std.proofs.Common.{◌-◌, ◌/◌, arith, inl, inr}
-use Rattle.std.proofs.lemmas.Bool.{cases_lt}
+use Rattle.std.proofs.Common.{arith}
+use Rattle.region.proofs.Searches.{none_between}
 use Rattle.region.proofs.hole_sizes.last_before.Goals as goal
 
-pub loop-at-preserved-then-greatest-at-eq0 : goal.loop-at-preserved-then-greatest-at-eq0
-loop-at-preserved-then-greatest-at-eq0 c =
-    let at = c.loop-at.at in
-    let bands = c.requires.indexed.bands in
-    let own = c.requires.indexed.each (at / 1024 - 1) (omega (arith, bands, c.loop-at.invariant.inside, c.requires.place)) in
+pub returns-then-end-gt0 : goal.returns-then-end-gt0
+returns-then-end-gt0 c =
+    let none = none_between c.args.sizes.now c.args.greatest.now c.requires.indexed c.args.place c.end_of_last-bands.result c.end_of_last-end.result c.requires.place
+    (λ k low high. c.end_of_last-behind.ensures.passed k (omega (arith, low, c.if-behind-own.false)) high) c.end_of_last-bands.ensures.passed c.end_of_last-end.ensures.passed in
     record {
-      inside = omega (arith, c.loop-at.invariant.inside);
-      behind = λ u from low. elim (cases_lt u at) [
-        | inr later ↦ c.loop-at.invariant.behind u later low
-        | inl below ↦ let bound = own.bound u (omega (arith, from, below, c.if-at-eq0.true, c.loop-at-test.true)) in omega (arith, bound, c.if-greatest-at-eq0.true)
-      ];
+      before = omega (arith, c.end_of_last-end.ensures.inside, c.end_of_last-bands.ensures.inside, c.if-end-gt0.true);
+      starts = c.end_of_last-end.ensures.found c.if-end-gt0.true;
+      last = λ u low high. none u (omega (arith, low)) high;
     }
+
+pub returns-else-end-gt0 : goal.returns-else-end-gt0
+returns-else-end-gt0 c = λ u high.
+    none_between c.args.sizes.now c.args.greatest.now c.requires.indexed c.args.place c.end_of_last-bands.result c.end_of_last-end.result c.requires.place
+    (λ k low high. c.end_of_last-behind.ensures.passed k (omega (arith, low, c.if-behind-own.false)) high) c.end_of_last-bands.ensures.passed c.end_of_last-end.ensures.passed
+    u (omega (arith, c.if-end-gt0.false)) high
