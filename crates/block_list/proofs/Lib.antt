@@ -1,3 +1,4 @@
 mod Pieces
 mod Searches
 mod Changes
+pub mod Rising

@@ -1,8 +1,8 @@
 -- The first task of a queue, and of several queues.
-use Rattle.std.proofs.Common.{◌≡◌, ℕ, ◌+◌, ◌<◌, true, false, List, [], ◌∷◌, ◌⊎◌, inl, inr, length, get_or, refl, sym, ap, ◌∙◌, subst, arith, Option, Some, None}
+use Rattle.std.proofs.Common.{◌≡◌, ℕ, ◌+◌, ◌<◌, true, List, [], ◌∷◌, ◌⊎◌, inl, inr, length, get_or, refl, sym, ◌∙◌, subst, arith, Option, Some, None}
 use Rattle.std.specs.Prelude.{slice_get}
 use Rattle.std.proofs.lemmas.Bool.{cases_eq, cond_both, false≢true}
-use Rattle.std.proofs.lemmas.List.{get_or_default}
+use Rattle.block_list.proofs.Rising.{least}
 use Rattle.dimensions.specs.declared.dim_set.DimSet.{DimSet}
 use Rattle.dimensions.specs.declared.bot_dims.BotDims.{BotDims}
 use Rattle.dimensions.specs.Matching.{matches}
@@ -10,7 +10,7 @@ use Rattle.dim_queue.specs.declared.waiting.Waiting.{Waiting}
 use Rattle.dim_queue.specs.Order.{goes_first, IsInOrder}
 use Rattle.dim_queue.specs.Plain.{QueueState, queue_at}
 use Rattle.dim_queue.specs.QueueList.{IsFirstOf, MayTake, IsCandidate, MayTakeFrom, candidate_of, earlier_of}
-use Rattle.dim_queue.proofs.Order.{self_not, not_chain, one_way}
+use Rattle.dim_queue.proofs.Order.{strict, not_chain, one_way}
 
 module _ (P Q R : Waiting → Type 0) (split : (w : Waiting) → R w → P w ⊎ Q w) (of_left : (w : Waiting) → P w → R w) (of_right : (w : Waiting) → Q w → R w) where
   pub merge : (a b : Option Waiting) → IsFirstOf P a → IsFirstOf Q b → IsFirstOf R (earlier_of a b)
@@ -27,26 +27,7 @@ module _ (bot : BotDims) (dims : DimSet) (tasks : List Waiting) where
   candidate_none empty w takes = let c = takes.1 in let low : c.0 < length tasks = c.1 in omega arith
 
   pub candidate_some : (w : Waiting) → IsInOrder tasks → matches bot dims ≡ true → 0 < length tasks → w ≡ get_or tasks 0 w → IsCandidate bot dims tasks (Some w)
-  candidate_some w order fits some is = ((fits, (0, some, sym is)), first)
-    where
-      first : (o : Waiting) → MayTake bot dims tasks o → goes_first o w ≡ false
-      first o takes =
-          let c = takes.1 in
-          let low : c.0 < length tasks = c.1 in
-          let at : get_or tasks c.0 o ≡ o = c.2 in
-          elim (cases_eq c.0 0) [
-            | inl e ↦
-                let o_is : o ≡ get_or tasks 0 o = sym at ∙ ap (λ (k : ℕ). get_or tasks k o) e in
-                let same : o ≡ w = o_is ∙ get_or_same o w some ∙ sym is in
-                subst (λ (x : Waiting). goes_first x w ≡ false) (sym same) (self_not w)
-            | inr ne ↦
-                let before : goes_first (get_or tasks 0 o) (get_or tasks c.0 o) ≡ true = order 0 c.0 o (omega arith) low in
-                let w_is : get_or tasks 0 o ≡ w = get_or_same o w some ∙ sym is in
-                one_way w o (subst (λ (x : Waiting). goes_first w x ≡ true) at (subst (λ (x : Waiting). goes_first x (get_or tasks c.0 o) ≡ true) w_is before))
-          ]
-        where
-          get_or_same : (d e : Waiting) → 0 < length tasks → get_or tasks 0 d ≡ get_or tasks 0 e
-          get_or_same d e low = get_or_default tasks 0 d e low
+  candidate_some w order fits some is = ((fits, (0, some, sym is)), λ o takes. least goes_first strict tasks order w o some is takes.1)
 
 first_taken : (bot : BotDims) (dims : DimSet) (tasks : List Waiting) → IsInOrder tasks → matches bot dims ≡ true → IsCandidate bot dims tasks (slice_get tasks 0)
 first_taken bot dims [] order fits = candidate_none bot dims [] refl

@@ -2,10 +2,11 @@
 use Rattle.std.proofs.Common.{◌≡◌, ◌≢◌, ℕ, List, ◌⊎◌, inl, inr, refl, sym, ap, ◌∙◌, subst, Option, Some, None}
 use Rattle.std.specs.List.{Contains}
 use Rattle.std.proofs.lemmas.Bool.{cases_eq}
+use Rattle.block_list.specs.Rising.{Adds, Removes}
 use Rattle.dimensions.specs.declared.dim_set.DimSet.{DimSet}
 use Rattle.dim_queue.specs.declared.waiting.Waiting.{Waiting}
 use Rattle.dim_queue.specs.declared.places.Place.{Place}
-use Rattle.dim_queue.specs.Order.{IsInOrder, Adds, Removes}
+use Rattle.dim_queue.specs.Order.{IsInOrder}
 use Rattle.dim_queue.specs.Plain.{QueueState, queue_at, Waits, SameWaits, Enters, Leaves, IsAbsent}
 use Rattle.dim_queue.specs.QueueList.{SameOthers, SameTasks, AreInOrder}
 use Rattle.dim_queue.specs.Inside.{ArePlaced, AreKnown}

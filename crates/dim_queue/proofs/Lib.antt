@@ -1,5 +1,4 @@
 pub mod Order
-pub mod Positions
 pub mod First
 pub mod Changes
 pub mod Following

@@ -1,6 +1,6 @@
 -- Waiting tasks in the order in which they are given out.
-use Rattle.std.specs.Prelude.{◌≡◌, ◌≢◌, ◌↔◌, ℕ, Bool, true, ◌<◌, ◌==◌, ◌&&◌, ◌||◌, nat_lt, List, Option, None, Some, length, slice_index_or, ◌⊎◌}
-use Rattle.std.specs.List.{Contains}
+use Rattle.std.specs.Prelude.{Bool, true, ◌==◌, ◌&&◌, ◌||◌, nat_lt, List, Option, None, Some}
+use Rattle.block_list.specs.Rising.{IsRising}
 use Rattle.dim_queue.specs.declared.waiting.Waiting.{Waiting}
 
 -- the lower priority goes first, and at equal priorities the lower number
@@ -14,12 +14,4 @@ precedes one (Some other) = goes_first one other
 
 -- each task goes before all that stand behind it in the list
 abbrev pub IsInOrder : List Waiting → Type 0
-IsInOrder tasks = (i j : ℕ) (d : Waiting) → i < j → j < length tasks → goes_first (slice_index_or tasks i d) (slice_index_or tasks j d) ≡ true
-
--- the list has one task more
-pub record Adds (one : Waiting) (old new : List Waiting) : Type 0 where
-  pub each : (w : Waiting) → Contains new w ↔ ((w ≡ one) ⊎ Contains old w)
-
--- the list has one task less
-pub record Removes (one : Waiting) (old new : List Waiting) : Type 0 where
-  pub each : (w : Waiting) → Contains new w ↔ (Contains old w × (w ≢ one))
+IsInOrder = IsRising goes_first

@@ -1,7 +1,6 @@
 -- A list of queues, one for each set of dimensions.
-use Rattle.std.specs.Prelude.{◌≡◌, ◌≢◌, ℕ, true, false, ◌-◌, ◌<◌, length, if◌then◌else◌, Some, List, [], Option, None, MatchOption, slice_get}
+use Rattle.std.specs.Prelude.{◌≡◌, ◌≢◌, ℕ, true, false, ◌<◌, length, if◌then◌else◌, Some, List, [], Option, None, MatchOption, slice_get}
 use Rattle.std.specs.List.{Contains}
-use Rattle.std.specs.VecDeque.{deque_len, deque_capacity}
 use Rattle.dimensions.specs.declared.dim_set.DimSet.{DimSet}
 use Rattle.dimensions.specs.declared.bot_dims.BotDims.{BotDims}
 use Rattle.dimensions.specs.Matching.{matches}
@@ -16,7 +15,7 @@ state_of queue = record { dims = queue.dims; tasks = queue.tasks.items }
 
 -- how many tasks more the queue has memory for
 abbrev pub room_of : Queue → ℕ
-room_of queue = deque_capacity queue.tasks - deque_len queue.tasks
+room_of queue = queue.tasks.room
 
 -- of the tasks that meet a condition, the one that goes first
 abbrev pub IsFirstOf : (Waiting → Type 0) → Option Waiting → Type 0

@@ -1,21 +1,21 @@
 ghost use Rattle.std.specs.Prelude.{◌≡◌, ◌≢◌, ◌<◌, ◌≤◌, OnOk, OnErr, [], IfOk};
 ghost use Rattle.std.specs.List.{Contains};
 ghost use Rattle.dim_queue.specs.declared.waiting.Waiting.{Waiting};
-ghost use Rattle.dim_queue.specs.Order.{IsInOrder, Adds, Removes};
+ghost use Rattle.block_list.specs.Rising.{Adds, Removes};
+ghost use Rattle.dim_queue.specs.Order.{IsInOrder};
 ghost use Rattle.dim_queue.specs.QueueList.{state_of, room_of, candidate_of, earlier_of};
 
-use crate::tasks;
-use crate::tasks::precedes;
+use crate::task_order::{goes_first, precedes};
 use crate::waiting::Waiting;
+use block_list::BlockList;
 use dimensions::{BotDims, DimSet, TryCopy};
 use std::alloc::{AllocError, Global};
-use std::collections::VecDeque;
 
 /// The tasks that wait with one set of dimensions, in the order in which they are given out.
 #[derive(Drop)]
 pub(crate) struct Queue {
     pub dims: DimSet,
-    pub tasks: VecDeque<Waiting>,
+    pub tasks: BlockList<Waiting>,
 }
 
 impl Queue {
@@ -25,7 +25,8 @@ impl Queue {
         ensures tasks { IfOk result (λ queue. queue.tasks.items ≡ []) }
         ensures room { IfOk result (λ queue. 0 < room_of queue) }
     {
-        let tasks = VecDeque::with_capacity(alloc, 1)?;
+        let mut tasks = BlockList::new(alloc);
+        tasks.reserve()?;
         let dims = dims.try_copy(alloc)?;
         Ok(Queue { dims, tasks })
     }
@@ -36,7 +37,7 @@ impl Queue {
         ensures tasks { self.new.tasks.items ≡ self.old.tasks.items }
         ensures room { OnOk result (0 < room_of self.new) }
     {
-        self.tasks.reserve(1)
+        self.tasks.reserve()
     }
 
     /// Gives the queue another set of dimensions, and makes room for one task more. The set is
@@ -48,11 +49,12 @@ impl Queue {
         ensures room { OnOk result (0 < room_of self.new) }
     {
         let dims = dims.try_copy(alloc)?;
-        self.tasks.reserve(1)?;
+        self.tasks.reserve()?;
         self.dims = dims;
         Ok(())
     }
 
+    /// Adds a task at its place in the order. There is room for it, so no memory is taken.
     pub fn add(&mut self, waiting: Waiting)
         requires order { IsInOrder self.old.tasks.items }
         requires room { 0 < room_of self.old }
@@ -61,7 +63,8 @@ impl Queue {
         ensures order { IsInOrder self.new.tasks.items }
         ensures adds { Adds waiting self.old.tasks.items self.new.tasks.items }
     {
-        tasks::add(&mut self.tasks, waiting);
+        self.tasks
+            .insert_at_partition(|other| goes_first(*other, waiting), waiting);
     }
 
     pub fn remove(&mut self, waiting: Waiting)
@@ -72,7 +75,8 @@ impl Queue {
         ensures removes { Removes waiting self.old.tasks.items self.new.tasks.items }
         ensures room { room_of self.old ≤ room_of self.new }
     {
-        tasks::remove(&mut self.tasks, waiting);
+        self.tasks
+            .remove_at_partition(|other| goes_first(*other, waiting));
     }
 
     /// The earlier of `best` and the first task here, where a bot of these dimensions may take
@@ -80,7 +84,7 @@ impl Queue {
     pub fn earlier(&self, best: Option<Waiting>, bot: &BotDims) -> Option<Waiting>
         ensures { result ≡ earlier_of best (candidate_of bot.now (state_of self.now)) }
     {
-        match self.tasks.front() {
+        match self.tasks.first() {
             Some(first) if precedes(*first, best) && self.dims.matches(bot) => Some(*first),
             _ => best,
         }

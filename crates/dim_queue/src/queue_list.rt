@@ -2,7 +2,7 @@
 ghost use Rattle.std.specs.Prelude.{◌≡◌, ◌≢◌, ◌<◌, ◌≤◌, ℕ, OnOk, IfOk, MatchOption, ◌+◌, length, map, slice_index};
 ghost use Rattle.std.specs.List.{Contains};
 ghost use Rattle.dim_queue.specs.declared.waiting.Waiting.{Waiting};
-ghost use Rattle.dim_queue.specs.Order.{Adds, Removes};
+ghost use Rattle.block_list.specs.Rising.{Adds, Removes};
 ghost use Rattle.dim_queue.specs.Plain.{queue_at, AreApart, HaveTasks, ReusesEmpty};
 ghost use Rattle.dim_queue.specs.QueueList.{state_of, room_of, IsFirstOf, MayTakeFrom, HasSet, LackSet, IsEmptyAt, SameOthers, SameTasks, AreInOrder};
 

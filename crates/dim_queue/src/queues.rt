@@ -72,7 +72,7 @@ impl Queues {
     }
 
     /// The task waits from now on, with the dimensions that are ready. It takes no memory. The place
-    /// in the queue is found by binary search, and at most half of the queue moves: none of it
+    /// in the queue is found by bisection, and at most the tasks of one block of the queue move: none
     /// where the task goes after all others.
     pub fn enter(&mut self, dims: &DimSet, priority: u32, no: u32)
         requires ready { self.old.ready ≡ Some dims.now }
@@ -99,8 +99,8 @@ impl Queues {
     }
 
     /// The task waits no longer. Where no task of the number waits, nothing changes. What is ready
-    /// stays ready. It takes no memory and frees none. The queue is found by the number, the place
-    /// in it by binary search, and at most half of it moves: none of it where the task is its first.
+    /// stays ready. It takes no memory. The queue is found by the number, the place in it by
+    /// bisection, and at most the tasks of one block of it move.
     pub fn leave(&mut self, no: u32)
         ensures leaves { Leaves no self.old.queues self.new.queues }
         ensures ready { self.new.ready ≡ self.old.ready }

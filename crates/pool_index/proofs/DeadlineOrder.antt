@@ -3,6 +3,7 @@ use Rattle.std.proofs.Common.{◌≡◌, ℕ, ◌==◌, ◌&&◌, ◌||◌, Bool
 use Rattle.std.specs.Prelude.{nat_lt}
 use Rattle.std.proofs.lemmas.Bool.{cases_Bool, cond_both}
 use Rattle.std.proofs.lemmas.Bool.Decides.{nat_tests}
+use Rattle.block_list.proofs.Rising.{IsStrictOrder}
 use Rattle.swarm_model.specs.declared.deadline.Cause.{Cause}
 use Rattle.swarm_model.specs.declared.deadline.Cause.TheVariants as cause
 use Rattle.swarm_model.specs.declared.deadline.Deadline.{Deadline}
@@ -24,7 +25,7 @@ below_chain m r n k q l u v w g h = grind (arith, nat_tests)
 below_tie : (m r n k q l : ℕ) → below m r n k q l ≡ false → below k q l m r n ≡ false → (m ≡ k) × (r ≡ q) × (n ≡ l)
 below_tie m r n k q l g h = (grind (arith, nat_tests), grind (arith, nat_tests), grind (arith, nat_tests))
 
-pub not_self : (d : Deadline) → is_earlier d d ≡ false
+not_self : (d : Deadline) → is_earlier d d ≡ false
 not_self d = below_self d.moment (rank d.cause) d.number
 
 pub one_way : (a b : Deadline) → is_earlier a b ≡ true → is_earlier b a ≡ false
@@ -68,6 +69,9 @@ tie a b g h =
     ap (λ (x : ℕ). record { moment = x; cause = a.cause; number = a.number }) m
     ∙ ap (λ (x : Cause). record { moment = b.moment; cause = x; number = a.number }) c
     ∙ ap (λ (x : ℕ). record { moment = b.moment; cause = b.cause; number = x }) n
+
+pub strict : IsStrictOrder is_earlier
+strict = record { itself = not_self; chain = earlier_chain; tie = tie }
 
 -- ---- deadlines that may be missing
 

@@ -1,6 +1,5 @@
 pub mod DeadlineOrder
-pub mod OrderedList
-pub mod QueuePlaces
+pub mod QueuedDeadlines
 pub mod TreeRoot
 pub mod Earliest
 pub mod PlaceSearch

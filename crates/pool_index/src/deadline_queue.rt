@@ -1,21 +1,25 @@
-ghost use Rattle.std.specs.Prelude.{◌≡◌, ◌<◌, ◌≤◌, ◌+◌, [], OnOk};
+ghost use Rattle.std.specs.Prelude.{◌≡◌, ◌<◌, ◌≤◌, ◌+◌, [], OnOk, MatchBool};
+ghost use Rattle.std.specs.List.{Contains};
+ghost use Rattle.block_list.specs.Rising.{IsRising};
+ghost use Rattle.swarm_model.specs.Deadlines.{is_earlier};
 ghost use Rattle.pool_index.specs.QueuedDeadlines.{Adds, Removes, IsEarliestOf};
 
-use crate::sorted_deadlines;
+use crate::deadline_order::is_earlier;
+use block_list::BlockList;
 use std::alloc::{AllocError, Global};
-use std::collections::VecDeque;
 use std::marker::Model;
 use swarm_model::Deadline;
 
 /// Deadlines in their order, of which the earliest is at hand. Contracts say which deadlines there
 /// are, and for how many more there is memory.
 ///
-/// An addition or a removal costs a comparison of deadlines for each halving of the list, at most 19
-/// for 262,144 deadlines, and moves those before its place or those behind it, whichever are fewer:
-/// 16 bytes for each. So one near an end moves little. The earliest is read without a comparison.
+/// An addition or a removal searches the list twice by bisection, each time with a comparison for
+/// each halving. It moves at most the 128 deadlines of one block, 16 bytes for each, and where a
+/// block comes or goes 24 bytes for each block behind it: nothing where the deadline is added behind
+/// all others. The earliest is read without a comparison.
 #[derive(Drop)]
 pub struct DeadlineQueue {
-    deadlines: VecDeque<Deadline>,
+    deadlines: BlockList<Deadline>,
 }
 
 impl Model for DeadlineQueue {
@@ -36,7 +40,7 @@ impl DeadlineQueue {
         ensures { result.deadlines ≡ [] }
     {
         DeadlineQueue {
-            deadlines: VecDeque::new(alloc),
+            deadlines: BlockList::new(alloc),
         }
     }
 
@@ -45,7 +49,7 @@ impl DeadlineQueue {
         ensures deadlines { self.new.deadlines ≡ self.old.deadlines }
         ensures room { OnOk result (0 < self.new.room) }
     {
-        self.deadlines.reserve(1)
+        self.deadlines.reserve()
     }
 
     /// Adds a deadline, unless it is there. It takes no memory.
@@ -54,7 +58,10 @@ impl DeadlineQueue {
         ensures deadlines { Adds deadline self.old.deadlines self.new.deadlines }
         ensures room { self.old.room ≤ self.new.room + 1 }
     {
-        sorted_deadlines::add(&mut self.deadlines, deadline);
+        if !contains(&self.deadlines, deadline) {
+            self.deadlines
+                .insert_at_partition(|other| is_earlier(*other, deadline), deadline);
+        }
     }
 
     /// Takes out a deadline. Where it is not there, nothing changes.
@@ -62,16 +69,27 @@ impl DeadlineQueue {
         ensures deadlines { Removes deadline self.old.deadlines self.new.deadlines }
         ensures room { self.old.room ≤ self.new.room }
     {
-        sorted_deadlines::remove(&mut self.deadlines, deadline);
+        if contains(&self.deadlines, deadline) {
+            self.deadlines
+                .remove_at_partition(|other| is_earlier(*other, deadline));
+        }
     }
 
     /// The earliest deadline.
     pub fn first(&self) -> Option<Deadline>
         ensures { IsEarliestOf self.now.deadlines result }
     {
-        match self.deadlines.front() {
-            None => None,
-            Some(first) => Some(*first),
-        }
+        self.deadlines.first().copied()
+    }
+}
+
+/// Whether the deadline is among these.
+fn contains(deadlines: &BlockList<Deadline>, deadline: Deadline) -> bool
+    requires { IsRising is_earlier deadlines.now.items }
+    ensures { MatchBool result (Contains deadlines.now.items deadline) (Contains deadlines.now.items deadline → ⊥) }
+{
+    match deadlines.at_partition(|other| is_earlier(*other, deadline)) {
+        None => false,
+        Some(other) => !is_earlier(deadline, *other),
     }
 }

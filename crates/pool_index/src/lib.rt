@@ -16,7 +16,8 @@
 //! can make a look-up slow. The calls named `reserve` and `cover` are the only ones that take
 //! memory: a machine makes ready what an entry needs before it writes the entry to its log, and the
 //! entry's `add` or `put` after it can't fail.
-//! [`sooner_of`] is the order of deadlines. The crate stands on `swarm_model` and `dimensions`.
+//! [`sooner_of`] is the order of deadlines. The crate stands on `block_list`, `swarm_model` and
+//! `dimensions`.
 #![tactic(auto)]
 
 mod claim_index;
@@ -26,7 +27,6 @@ mod deadline_queue;
 mod deadline_tree;
 mod digest_key;
 mod link_index;
-mod sorted_deadlines;
 mod sorted_links;
 mod source_index;
 mod source_link;

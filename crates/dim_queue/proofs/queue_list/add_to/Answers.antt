@@ -1,7 +1,8 @@
 use Rattle.std.proofs.Common.{◌≢◌, map, subst, sym, set, get_or}
 use Rattle.std.specs.List.{Contains}
 use Rattle.dim_queue.specs.declared.waiting.Waiting.{Waiting}
-use Rattle.dim_queue.specs.Order.{IsInOrder, Adds}
+use Rattle.block_list.specs.Rising.{Adds}
+use Rattle.dim_queue.specs.Order.{IsInOrder}
 use Rattle.dim_queue.specs.Plain.{QueueState, queue_at}
 use Rattle.dim_queue.specs.QueueList.{state_of}
 use Rattle.dim_queue.proofs.Changes.{here, same_others, in_order, changed, room_low}

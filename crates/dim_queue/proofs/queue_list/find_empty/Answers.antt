@@ -1,6 +1,5 @@
 use Rattle.std.proofs.Common.{◌≡◌, ◌<◌, ℕ, false, length, map, get_or, subst, sym, arith, inl, inr}
 use Rattle.std.specs.Prelude.{◌==◌}
-use Rattle.std.specs.VecDeque.{deque_len}
 use Rattle.std.proofs.lemmas.Bool.{cases_eq}
 use Rattle.std.proofs.lemmas.Bool.Decides.{nat_tests}
 use Rattle.dim_queue.specs.Plain.{QueueState, queue_at}
@@ -17,8 +16,7 @@ loop-at-preserved c k less =
     let at = c.loop-at.at in
     let queue = get_or queues at c.index-queues-at.result in
     let low : at < length queues = omega arith in
-    let len : 0 < deque_len queue.tasks = not_zero (deque_len queue.tasks) c.if-is_empty.ensures in
-    let some : 0 < length queue.tasks.items = omega (arith, len, queue.tasks.ok.0) in
+    let some : 0 < length queue.tasks.items = not_zero (length queue.tasks.items) c.if-is_empty.ensures in
     elim (cases_eq k at) [
       | inl same ↦
           subst (λ (i : ℕ). 0 < length (queue_at (map state_of queues) i).tasks) (sym same)

@@ -1,5 +1,5 @@
 use Rattle.std.proofs.Common.{map, subst, sym, set, get_or}
-use Rattle.dim_queue.specs.Order.{Removes}
+use Rattle.block_list.specs.Rising.{Removes}
 use Rattle.dim_queue.specs.Plain.{QueueState, queue_at}
 use Rattle.dim_queue.specs.QueueList.{state_of}
 use Rattle.dim_queue.proofs.Changes.{here, same_others, in_order, changed, rooms, task_low}
