@@ -43,33 +43,27 @@ room_at blocks spare k b low at ready full =
     ]
 
 module _ {T Z : Type 0} (blocks : List (Vec T Z)) (k : ℕ) (b x : Vec T Z) (low : k < length blocks) (at : get_or blocks k b ≡ b) (good : AreBlocks blocks) (most : length x.items ≤ block_size) where
-  all_are : 0 < length x.items → vec_capacity b ≤ vec_capacity x → block_size ≤ vec_capacity b → All IsBlock blocks → All IsBlock (set blocks k x)
-  all_are some memory full all = All-set IsBlock blocks k x (record { some = some; most = most; memory = omega arith }) all
-
-  pub set_blocks : (1 < length blocks → 0 < length x.items) → vec_capacity b ≤ vec_capacity x → AreBlocks (set blocks k x)
-  set_blocks some memory = record {
+  pub set_blocks : {new : List (Vec T Z)} → new ≡ set blocks k x → (1 < length blocks → 0 < length x.items) → vec_capacity b ≤ vec_capacity x → AreBlocks new
+  set_blocks is some memory = subst AreBlocks (sym is) (record {
     most = All-set (λ block. length block.items ≤ block_size) blocks k x most good.most;
     all = λ more.
         let many : 1 < length blocks = omega (arith, more, length-set blocks k x) in
         let was = holds_at IsBlock blocks k b low at (good.all many) in
-        all_are (some many) memory was.memory (good.all many);
-  }
+        All-set IsBlock blocks k x (record { some = some many; most = most; memory = omega (arith, was.memory, memory) }) (good.all many);
+  })
 
   -- a block that was full has memory for all its items
   pub set_full : 0 < length x.items → vec_capacity b ≤ vec_capacity x → block_size ≤ length b.items → All IsBlock (set blocks k x)
-  set_full some memory full = by_count blocks k low at good.all
+  set_full some memory full = by_count blocks k low good.all
     where
       own : IsBlock x
       own = record { some = some; most = most; memory = omega (arith, b.ok.0, b.ok.1) }
 
-      by_count : (bs : List (Vec T Z)) (i : ℕ) → i < length bs → get_or bs i b ≡ b → (1 < length bs → All IsBlock bs) → All IsBlock (set bs i x)
-      by_count [] i i_low i_at all = absurd (omega arith)
-      by_count (z ∷ []) zero i_low i_at all = All-cons IsBlock x [] own (All-nil IsBlock)
-      by_count (z ∷ []) (suc i) i_low i_at all = absurd (omega arith)
-      by_count (z ∷ (y ∷ bs)) i i_low i_at all = All-set IsBlock (z ∷ (y ∷ bs)) i x own (all (omega arith))
-
-  pub set_changes : {new : List (Vec T Z)} → new ≡ set blocks k x → (1 < length blocks → 0 < length x.items) → vec_capacity b ≤ vec_capacity x → AreBlocks new
-  set_changes is some memory = subst AreBlocks (sym is) (set_blocks some memory)
+      by_count : (bs : List (Vec T Z)) (i : ℕ) → i < length bs → (1 < length bs → All IsBlock bs) → All IsBlock (set bs i x)
+      by_count [] i i_low all = absurd (omega arith)
+      by_count (z ∷ []) zero i_low all = All-cons IsBlock x [] own (All-nil IsBlock)
+      by_count (z ∷ []) (suc i) i_low all = absurd (omega arith)
+      by_count (z ∷ (y ∷ bs)) i i_low all = All-set IsBlock (z ∷ (y ∷ bs)) i x own (all (omega arith))
 
 pub All-remove : {X : Type 0} (P : X → Type 0) (xs : List X) (i : ℕ) → All P xs → All P (remove xs i)
 All-remove P xs i all = All-append P (take i xs) (drop (suc i) xs) (All-take P i xs all) (All-drop P (suc i) xs all)
@@ -91,7 +85,7 @@ module _ {T Z : Type 0} where
         ∙ flat_map-insert vec_items blocks k o item ch.after spare ch.before low (within ch.before) is
 
     pub inserted_blocks : (item : T) (spare : Vec T Z) → AreBlocks blocks → ChangesBlock k (TakesItem o item spare) blocks new → AreBlocks new
-    inserted_blocks item spare good ch = set_changes blocks k ch.before ch.after low ch.stood good ch.changes.most ch.put (λ more. ch.changes.some) ch.changes.memory
+    inserted_blocks item spare good ch = set_blocks blocks k ch.before ch.after low ch.stood good ch.changes.most ch.put (λ more. ch.changes.some) ch.changes.memory
 
     -- where items moved out of a block, they become the block behind it
     pub split_blocks : (item : T) (spare : Vec T Z) → AreBlocks blocks → ChangesBlock k (TakesItem o item spare) blocks new → length spare.items ≢ 0 → AreBlocks (insert new (suc k) spare)
@@ -119,7 +113,7 @@ module _ {T Z : Type 0} where
         let left : 1 < length blocks → 0 < length ch.after.items = λ beside.
         let not_one = subst (λ b. length b.items ≢ 1) ch.stood (more beside ch.before) in
         omega (arith, not_one, some, count) in
-        set_changes blocks k ch.before ch.after low ch.stood good (omega (arith, most, count)) ch.put left (omega (arith, memory))
+        set_blocks blocks k ch.before ch.after low ch.stood good (omega (arith, most, count)) ch.put left (omega (arith, memory))
 
   -- two blocks side by side became one
   module _ (blocks new : List (Vec T Z)) (k : ℕ) (low : suc k < length blocks) (back : Vec T Z) (is_back : back ≡ get_or blocks (suc k) back) (ch : ChangesBlock k (TakesAll back.items) (remove blocks (suc k)) new) where

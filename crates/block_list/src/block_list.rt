@@ -9,11 +9,20 @@ use crate::place::Place;
 use std::alloc::{AllocError, Global};
 use std::marker::Model;
 
+/// A list in blocks. Contracts say which items it has in which order, and whether it takes one more
+/// without memory.
+///
+/// A search bisects the blocks by their first items, and then one block: about 20 calls of the test
+/// for 262,144 items. An insertion or a removal moves items of one block, and at most 64 more where
+/// two blocks are joined. Where a block comes or goes, the pointers of the blocks behind it move.
+/// The first item is read without a search. As long as there are at most 128 items, they lie in one
+/// buffer, which doubles; then each block takes the memory of 128 items. A block that was emptied is
+/// kept as the spare block; where there is one, it is given back.
 #[derive(Drop)]
 pub struct BlockList<T> {
     alloc: Global,
     blocks: Blocks<T>,
-    /// A block without items.
+    /// A block without items, which takes what moves out of a full block.
     spare: Vec<T>,
     /// Whether the next item takes no memory.
     ready: bool,
@@ -44,8 +53,8 @@ impl<T: Copy> BlockList<T> {
         }
     }
 
-    /// Makes room for one item more. The head block grows as a `Vec` does, as long as it is alone
-    /// and not full; else a block is made where no spare one is left.
+    /// Makes room for one item more. As long as there are fewer than 128 items, their buffer grows;
+    /// then a spare block is made, unless there is one.
     ///
     /// # Errors
     ///

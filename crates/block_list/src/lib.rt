@@ -6,8 +6,9 @@
 //! items, and as how many more it takes without memory.
 //!
 //! The first items lie in the head block, which grows as a `Vec` does. Behind it are blocks with
-//! memory for 128 items each. No two blocks side by side are left with at most 64 items together by
-//! a removal. The crate stands on std alone.
+//! memory for 128 items each. A full block is split in the middle, but an item that goes behind all
+//! others begins a block. A removal joins two blocks side by side that have at most 64 items
+//! together. The crate stands on std alone.
 #![tactic(auto)]
 
 mod block;
