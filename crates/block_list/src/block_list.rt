@@ -14,8 +14,8 @@ use std::marker::Model;
 ///
 /// A search bisects the blocks by their first items, and then one block: about 20 calls of the test
 /// for 262,144 items. An insertion or a removal moves items of one block, and at most 64 more where
-/// two blocks are joined. Where a block comes or goes, the pointers of the blocks behind it move.
-/// The first item is read without a search. As long as there are at most 128 items, they lie in one
+/// two blocks are joined; where a block comes or goes, 24 bytes move for each block behind it. The
+/// first item is read without a search. As long as there are at most 128 items, they lie in one
 /// buffer, which doubles; then each block takes the memory of 128 items. A block that was emptied is
 /// kept as the spare block; where there is one, it is given back.
 #[derive(Drop)]

@@ -8,7 +8,8 @@
 //! The first items lie in the head block, which grows as a `Vec` does. Behind it are blocks with
 //! memory for 128 items each. A full block is split in the middle, but an item that goes behind all
 //! others begins a block. A removal joins two blocks side by side that have at most 64 items
-//! together. The crate stands on std alone.
+//! together. What the calls mean for a list in a strict order, `proofs/Rising.antt` says. The crate
+//! stands on std alone.
 #![tactic(auto)]
 
 mod block;
