@@ -1,9 +1,9 @@
 -- What a search among places in the order of their keys finds, and what an insertion leaves.
-use Rattle.std.proofs.Common.{◌≡◌, ◌≢◌, ℕ, ◌+◌, ◌-◌, ◌<◌, ◌≤◌, List, [], ◌∷◌, ◌++◌, length, get_or, refl, sym, ap, ◌∙◌, subst, false, arith, inl, inr}
+use Rattle.std.proofs.Common.{◌≡◌, ◌≢◌, ℕ, ◌+◌, ◌-◌, ◌<◌, ◌≤◌, List, [], ◌∷◌, ◌++◌, length, get_or, refl, sym, ap, ◌∙◌, subst, Bool, true, false, arith, inl, inr}
 use Rattle.std.specs.declared.cmp.Ordering.{Ordering}
 use Rattle.std.specs.declared.cmp.Ordering.TheVariants.{Less, Equal, Greater}
 use Rattle.std.specs.List.{insert, Contains}
-use Rattle.std.specs.List.Sorted.{IsSortedBy, IsPartitionPoint, IsNonDecreasingBy}
+use Rattle.std.specs.List.Sorted.{IsSortedBy, IsPartitionedBy, IsNonDecreasingBy}
 use Rattle.std.specs.Ordering.{is_lt, ordering_index, ordering_reverse}
 use Rattle.std.proofs.lemmas.Bool.{cases_lt}
 use Rattle.std.proofs.lemmas.Cmp.{tied_itself}
@@ -11,48 +11,76 @@ use Rattle.std.proofs.lemmas.List.{get_or_default, get_or_append_left, get_or_pu
 use Rattle.std.proofs.lemmas.List.Edits.{length-insert, get_or-insert_below, get_or-insert_at, get_or-insert_above}
 use Rattle.std.proofs.lemmas.List.Quantifiers.{all_pairs_push}
 use Rattle.std.proofs.lemmas.List.Sorted.{searchable_from_sorted}
-use Rattle.dimensions.specs.Order.{pair_cmp}
+use Rattle.block_list.specs.Partition.{IsPartition, AtPartition}
+use Rattle.dimensions.specs.Order.{pair_cmp, is_below}
 use Rattle.dimensions.proofs.Orders.{pair_total}
 use Rattle.pool_index.specs.SortedLinks.{Key, key_at, AreByKey}
 
-module _ (keys : List Key) (order : List ℕ) (known : AreByKey keys order) where
-  -- the keys below a place in the order are less, those from it on greater
-  abbrev pub Parts : Key → ℕ → Type 0
-  Parts sought i = IsPartitionPoint (λ k. pair_cmp (key_at keys k) sought ≡ Less) (λ k. pair_cmp (key_at keys k) sought ≡ Greater) order i
+-- ---- answers of a comparison
 
+lower_less : (a b : Ordering) → ordering_index a ≤ ordering_index b → is_lt b ≡ true → is_lt a ≡ true
+lower_less Less b le is = refl
+lower_less Equal Less le is = absurd (omega arith)
+lower_less Equal Equal le is = is
+lower_less Equal Greater le is = is
+lower_less Greater Less le is = absurd (omega arith)
+lower_less Greater Equal le is = is
+lower_less Greater Greater le is = is
+
+between_equal : (a b : Ordering) → ordering_index a ≤ ordering_index b → b ≡ Equal → is_lt a ≡ false → a ≡ Equal
+between_equal Less b le equal is = absurd (cc)
+between_equal Equal b le equal is = refl
+between_equal Greater Less le equal is = absurd (omega arith)
+between_equal Greater Equal le equal is = absurd (omega arith)
+between_equal Greater Greater le equal is = absurd (cc)
+
+less_turned : (a : Ordering) → is_lt a ≡ true → is_lt (ordering_reverse a) ≡ false
+less_turned Less is = refl
+less_turned Equal is = absurd (cc)
+less_turned Greater is = absurd (cc)
+
+module _ (keys : List Key) (order : List ℕ) (known : AreByKey keys order) where
   low_at : (j d : ℕ) → j < length order → get_or order j d < length keys
   low_at j d low = subst (λ (n : ℕ). n < length keys) (get_or_default order j 0 d low) (known.low j low)
 
-  -- what a search ensures that compares by `f`, where `f` compares the keys
-  pub parts : (sought : Key) (f : ℕ → Ordering) → ((k : ℕ) → k < length keys → f k ≡ pair_cmp (key_at keys k) sought) → (i : ℕ) → i ≤ length order →
-      (IsNonDecreasingBy (λ k. ordering_index (f k)) order → IsPartitionPoint (λ k. f k ≡ Less) (λ k. f k ≡ Greater) order i) → Parts sought i
-  parts sought f same i under parted =
-      let rises = searchable_from_sorted pair_total (key_at keys) order sought known.rising in
-      let p = parted (λ a b d le low.
-      let left = ap ordering_index (same (get_or order a d) (low_at a d (omega arith))) in
-      let right = ap ordering_index (same (get_or order b d) (low_at b d low)) in
-      let r = rises a b d le low in omega (arith, left, right, r)) in (
-        λ k d least below. sym (same (get_or order k d) (low_at k d (omega arith))) ∙ p.0 k d least below,
-        λ k d least below. sym (same (get_or order k d) (low_at k d below)) ∙ p.1 k d least below,
-      )
+  rises : (sought : Key) → IsNonDecreasingBy (λ k. ordering_index (pair_cmp (key_at keys k) sought)) order
+  rises sought = searchable_from_sorted pair_total (key_at keys) order sought known.rising
 
-  -- a key between the lower and the greater ones is none of them
-  pub absent : (key : Key) (i : ℕ) → Parts key i → (k : ℕ) → k < length keys → key_at keys k ≡ key → ⊥
-  absent key i parted k low is =
+  -- the keys below a place in the order are below a key, and those from it on are not
+  abbrev pub Parts : Key → ℕ → Type 0
+  Parts sought i = IsPartition (λ k. is_below (key_at keys k) sought) order i
+
+  -- the place that a list in blocks finds, where the test is whether a key is below
+  pub placed : (sought : Key) (test : ℕ → Bool) → ((k : ℕ) → k < length keys → test k ≡ is_below (key_at keys k) sought) → (Q : ℕ → Type 0) → AtPartition test order Q →
+      (i : ℕ) × (i ≤ length order) × Parts sought i × Q i
+  placed sought test same Q at =
+      let point = at partitioned in
+      (point.0, point.1, (λ k d least below. sym (here k d (let u = point.1 in omega arith)) ∙ point.2.0 k d least below, λ k d least below. sym (here k d below) ∙ point.2.1 k d least below), point.3)
+    where
+      here : (k d : ℕ) → k < length order → test (get_or order k d) ≡ is_below (key_at keys (get_or order k d)) sought
+      here k d low = same (get_or order k d) (low_at k d low)
+
+      partitioned : IsPartitionedBy test order
+      partitioned a b d le low is = here a d (omega arith) ∙ lower_less _ _ (rises sought a b d le low) (sym (here b d low) ∙ is)
+
+  -- where a key is among these, it stands at its place
+  pub stands : (key : Key) (i : ℕ) → Parts key i → (k : ℕ) → k < length keys → key_at keys k ≡ key → (i < length order) × (pair_cmp (key_at keys (get_or order i 0)) key ≡ Equal)
+  stands key i parted k low is =
       let there = known.each k low in
+      let within : there.0 < length order = there.1 in
       let equal : pair_cmp (key_at keys (get_or order there.0 k)) key ≡ Equal = ap (λ (n : ℕ). pair_cmp (key_at keys n) key) there.2 ∙ ap (λ (x : Key). pair_cmp x key) is ∙ tied_itself pair_total key in
       elim (cases_lt there.0 i) [
-        | inl before ↦ let less = parted.0 there.0 k (omega arith) before in cc (less, equal)
-        | inr behind ↦ let greater = parted.1 there.0 k behind there.1 in cc (greater, equal)
+        | inl before ↦ let below = parted.0 there.0 k (omega arith) before in absurd (cc (below, equal))
+        | inr behind ↦
+            let some : i < length order = omega arith in
+            let not_below = parted.1 i k (omega arith) some in
+            (some, ap (λ (n : ℕ). pair_cmp (key_at keys n) key) (get_or_default order i 0 k some) ∙ between_equal _ _ (rises key i there.0 k behind within) equal not_below)
       ]
 
-  less_not : (a b : Key) → pair_cmp a b ≡ Less → is_lt (pair_cmp b a) ≡ false
-  less_not a b less = ap is_lt (pair_total.antisymm b a ∙ ap ordering_reverse less)
+  less_not : (a b : Key) → is_below a b ≡ true → is_below b a ≡ false
+  less_not a b less = ap is_lt (pair_total.antisymm b a) ∙ less_turned (pair_cmp a b) less
 
-  greater_not : (a b : Key) → pair_cmp a b ≡ Greater → is_lt (pair_cmp a b) ≡ false
-  greater_not a b greater = ap is_lt greater
-
-  module _ (key : Key) (i : ℕ) (under : i ≤ length order) (parted : Parts key i) where
+  module _ (key : Key) (i : ℕ) (under : i ≤ length order) (parted : Parts key i) (fresh : (k : ℕ) → k < length keys → key_at keys k ≡ key → ⊥) where
     abbrev n : ℕ
     n = length keys
 
@@ -99,7 +127,7 @@ module _ (keys : List Key) (order : List ℕ) (known : AreByKey keys order) wher
               | inr near ↦
                   let at : i ≡ k = omega arith in
                   below _ _ _ _ (old_at (k + 1) k d size (get_or-insert_above order i n d k behind under))
-                  (subst (λ (j : ℕ). key_at more (get_or longer j d) ≡ key) at (new_at d)) (greater_not _ key (parted.1 k d behind size))
+                  (subst (λ (j : ℕ). key_at more (get_or longer j d) ≡ key) at (new_at d)) (parted.1 k d behind size)
             ]
           ]
         ]
@@ -143,5 +171,5 @@ module _ (keys : List Key) (order : List ℕ) (known : AreByKey keys order) wher
       rising = rising;
       low = low;
       each = each;
-      apart = all_pairs_push (λ a b. a ≢ b) keys key known.apart (λ k d under is. absent key i parted k under (get_or_default keys k ([], []) d under ∙ is));
+      apart = all_pairs_push (λ a b. a ≢ b) keys key known.apart (λ k d under is. fresh k under (get_or_default keys k ([], []) d under ∙ is));
     }

@@ -10,7 +10,7 @@ state_of index = record { links = index.links.items; ready = index.ready }
 -- there is room for one link more
 pub record HasRoom {L : Type 0} (index : Inside L) : Type 0 where
   pub links_room : vec_len index.links < vec_capacity index.links
-  pub order_room : vec_len index.order < vec_capacity index.order
+  pub order_room : 0 < index.order.room
   pub small : vec_len index.links < 2 ^ 32
 
 -- the places are sorted by the keys, and there is room for the link that is ready

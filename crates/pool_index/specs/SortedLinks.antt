@@ -3,6 +3,7 @@ use Rattle.std.specs.Prelude.{◌≡◌, ◌≢◌, ℕ, Bool, Option, Some, Non
 use Rattle.std.specs.List.{AllPairs, Contains, HoldsAt, find}
 use Rattle.std.specs.List.Sorted.{IsSortedBy}
 use Rattle.std.specs.Option.{option_map_or}
+use Rattle.std.specs.Ordering.{is_lt}
 use Rattle.std.specs.declared.cmp.Ordering.{Ordering}
 use Rattle.std.specs.declared.cmp.Ordering.TheVariants.{Less}
 use Rattle.dimensions.specs.Alike.{same_pair}
@@ -36,6 +37,10 @@ AreSorted key links order = AreByKey (map key links) order
 -- how the key of the link at a place compares with a key; a place past the end counts as less
 abbrev pub order_at : {L : Type 0} → (L → Key) → List L → Key → ℕ → Ordering
 order_at key links sought place = option_map_or (λ link. pair_cmp (key link) sought) (slice_get links place) Less
+
+-- the link at a place has a key below this one
+abbrev pub is_before : {L : Type 0} → (L → Key) → List L → Key → ℕ → Bool
+is_before key links sought place = is_lt (order_at key links sought place)
 
 -- the link at a place has the key
 pub record HasKeyAt {L : Type 0} (key : L → Key) (links : List L) (sought : Key) (place : ℕ) : Type 0 where

@@ -43,9 +43,10 @@ impl Probe<ClaimLink> for ClaimLink {
 /// The task that each bot claimed under each id. Links stand in the order in which they came, and
 /// their places are sorted by bot and then by the bytes of the id.
 ///
-/// A look-up costs a comparison of two keys for each halving of the places, at most 19 for 262,144
-/// links, whatever ids callers choose. An addition costs a look-up, and moves the places that come
-/// after its own: 4 bytes for each link of a later bot or id.
+/// A look-up costs a comparison of two keys for each halving of the places, and one more: about 21
+/// for 262,144 links, whatever ids callers choose. An addition costs as many, less one. It moves at
+/// most the 128 places of one block, 4 bytes for each, and where a block comes 24 bytes for each
+/// block behind it.
 #[derive(Drop)]
 pub struct ClaimIndex {
     alloc: Global,

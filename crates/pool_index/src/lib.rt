@@ -13,9 +13,10 @@
 //! - [`UseCounts`]: how many uses of each digest are counted (`Uses`).
 //!
 //! Keys that callers choose are sorted and found by bisection, and never hashed, so that no caller
-//! can make a look-up slow. The calls named `reserve` and `cover` are the only ones that take
-//! memory: a machine makes ready what an entry needs before it writes the entry to its log, and the
-//! entry's `add` or `put` after it can't fail.
+//! can make a look-up slow. What is sorted lies in blocks, of which an addition moves one. The calls
+//! named `reserve` and `cover` are the only ones that take memory: a machine makes ready what an
+//! entry needs before it writes the entry to its log, and the entry's `add` or `put` after it can't
+//! fail.
 //! [`sooner_of`] is the order of deadlines. The crate stands on `block_list`, `swarm_model` and
 //! `dimensions`.
 #![tactic(auto)]

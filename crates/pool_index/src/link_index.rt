@@ -4,6 +4,7 @@ ghost use Rattle.pool_index.specs.SortedLinks.{HasNoKey, HasKey, Sets, link_of};
 ghost use Rattle.pool_index.specs.Links.{links_with, IsMerged};
 
 use crate::sorted_links::{Keyed, MergeLink, Probe, add, find, merge, replace};
+use block_list::BlockList;
 use std::alloc::{AllocError, Global};
 use std::marker::Model;
 use std::mem;
@@ -14,7 +15,7 @@ use std::mem;
 pub(crate) struct LinkIndex<L: Keyed> {
     links: Vec<L>,
     /// The places of all links, sorted by the keys.
-    order: Vec<u32>,
+    order: BlockList<u32>,
     ready: Option<L>,
 }
 
@@ -36,7 +37,7 @@ impl<L: Probe<L> + Drop> LinkIndex<L> {
     {
         LinkIndex {
             links: Vec::new(alloc),
-            order: Vec::new(alloc),
+            order: BlockList::new(alloc),
             ready: None,
         }
     }
@@ -63,7 +64,7 @@ impl<L: Probe<L> + Drop> LinkIndex<L> {
             return Err(AllocError);
         }
         self.links.reserve(1)?;
-        self.order.reserve(1)?;
+        self.order.reserve()?;
         drop(mem::replace(&mut self.ready, Some(link)));
         Ok(())
     }

@@ -1,11 +1,13 @@
 //! Links in the order in which they came, and the places of all of them, sorted by their keys.
-//! A search halves the places that are left with each comparison of keys.
-ghost use Rattle.std.specs.Prelude.{◌≡◌, ◌<◌, ◌≤◌, ◌^◌, ◌++◌, ◌∷◌, [], length, vec_len, vec_capacity, IsSome, MatchOption};
+//! A search halves the places that are left with each comparison of keys. The places lie in blocks,
+//! so that a new one moves those of one block.
+ghost use Rattle.std.specs.Prelude.{◌≡◌, ◌<◌, ◌^◌, ◌++◌, ◌∷◌, [], length, slice_get, vec_len, vec_capacity, IsSome, MatchOption};
 ghost use Rattle.std.specs.List.{insert};
-ghost use Rattle.std.specs.List.Sorted.{IsSearchInRange, IsBinarySearchResult};
+ghost use Rattle.block_list.specs.Partition.{AtPartition};
 ghost use Rattle.dimensions.specs.Order.{pair_cmp};
-ghost use Rattle.pool_index.specs.SortedLinks.{AreSorted, HasNoKey, HasKeyAt, Sets, link_of, order_at, taken_in};
+ghost use Rattle.pool_index.specs.SortedLinks.{AreSorted, HasNoKey, HasKeyAt, Sets, link_of, order_at, is_before, taken_in};
 
+use block_list::BlockList;
 use std::cmp::Ordering;
 use std::mem;
 
@@ -44,61 +46,69 @@ fn compare_at<L: Keyed, P: Probe<L>>(links: &[L], place: u32, probe: &P) -> Orde
     }
 }
 
-/// The place in `order` of the link that has the probe's key, or the place to which it belongs.
-fn search<L: Keyed, P: Probe<L>>(links: &[L], order: &[u32], probe: &P) -> Result<usize, usize>
-    ensures bound { IsSearchInRange result (length order.now) }
-    ensures place { IsBinarySearchResult (order_at L.key links.now (P.key probe.now)) order.now result }
+/// The first of the places whose link has a key that is not below the probe's.
+fn search<L: Keyed, P: Probe<L>>(links: &[L], order: &BlockList<u32>, probe: &P) -> Option<u32>
+    ensures { AtPartition (is_before L.key links.now (P.key probe.now)) order.now.items (λ index. result ≡ slice_get order.now.items index) }
 {
-    order.binary_search_by(|place| compare_at(links, *place, probe))
+    order
+        .at_partition(|place| compare_at(links, *place, probe).is_lt())
+        .copied()
 }
 
 /// The place in `links` of the link that has the probe's key.
-pub(crate) fn find<L: Keyed, P: Probe<L>>(links: &[L], order: &[u32], probe: &P) -> Option<usize>
-    requires { AreSorted L.key links.now order.now }
+pub(crate) fn find<L: Keyed, P: Probe<L>>(
+    links: &[L],
+    order: &BlockList<u32>,
+    probe: &P,
+) -> Option<usize>
+    requires { AreSorted L.key links.now order.now.items }
     ensures { MatchOption result (HasNoKey L.key links.now (P.key probe.now)) (HasKeyAt L.key links.now (P.key probe.now)) }
 {
     match search(links, order, probe) {
-        Ok(at) => Some(order[at] as usize),
-        Err(_) => None,
-    }
-}
-
-/// Adds a place, for which there is room, before the one at `at`.
-fn insert_place(order: &mut Vec<u32>, at: usize, place: u32)
-    requires at { at ≤ vec_len order.old }
-    requires room { vec_len order.old < vec_capacity order.old }
-    ensures { order.new.items ≡ insert order.old.items at place }
-{
-    match order.insert(at, place) {
-        Ok(()) => {}
-        Err(_) => unreachable!(),
-    }
-}
-
-/// Adds a link with a key that none has, and for which there is room.
-pub(crate) fn add<L: Probe<L> + Drop>(links: &mut Vec<L>, order: &mut Vec<u32>, link: L)
-    requires sorted { AreSorted L.key links.old.items order.old.items }
-    requires fresh { HasNoKey L.key links.old.items (L.key link) }
-    requires room { vec_len links.old < vec_capacity links.old }
-    requires order_room { vec_len order.old < vec_capacity order.old }
-    requires small { vec_len links.old < 2 ^ 32 }
-    ensures sorted { AreSorted L.key links.new.items order.new.items }
-    ensures links { links.new.items ≡ links.old.items ++ link ∷ [] }
-{
-    match search(links, order, &link) {
-        Ok(_) => unreachable!(),
-        Err(at) => {
-            insert_place(order, at, links.len() as u32);
-            links.push_reserved(link);
+        None => None,
+        Some(place) => {
+            if compare_at(links, place, probe).is_eq() {
+                Some(place as usize)
+            } else {
+                None
+            }
         }
     }
 }
 
+/// Adds a place, for which there is room, before the first whose link has a key that is not below
+/// the probe's.
+fn insert_place<L: Keyed, P: Probe<L>>(
+    links: &[L],
+    order: &mut BlockList<u32>,
+    probe: &P,
+    place: u32,
+)
+    requires { 0 < order.old.room }
+    ensures { AtPartition (is_before L.key links.now (P.key probe.now)) order.old.items (λ index. order.new.items ≡ insert order.old.items index place) }
+{
+    order.insert_at_partition(|other| compare_at(links, *other, probe).is_lt(), place);
+}
+
+/// Adds a link with a key that none has, and for which there is room.
+pub(crate) fn add<L: Probe<L> + Drop>(links: &mut Vec<L>, order: &mut BlockList<u32>, link: L)
+    requires sorted { AreSorted L.key links.old.items order.old.items }
+    requires fresh { HasNoKey L.key links.old.items (L.key link) }
+    requires room { vec_len links.old < vec_capacity links.old }
+    requires order_room { 0 < order.old.room }
+    requires small { vec_len links.old < 2 ^ 32 }
+    ensures sorted { AreSorted L.key links.new.items order.new.items }
+    ensures links { links.new.items ≡ links.old.items ++ link ∷ [] }
+{
+    insert_place(links, order, &link, links.len() as u32);
+    links.push_reserved(link);
+}
+
 /// Lets the link that has this one's key take this one in, or adds it where no link has its key.
-pub(crate) fn merge<L: MergeLink>(links: &mut Vec<L>, order: &mut Vec<u32>, link: L)
+pub(crate) fn merge<L: MergeLink>(links: &mut Vec<L>, order: &mut BlockList<u32>, link: L)
     requires sorted { AreSorted L.key links.old.items order.old.items }
     requires room { vec_len links.old < vec_capacity links.old }
-    requires order_room { vec_len order.old < vec_capacity order.old }
+    requires order_room { 0 < order.old.room }
     requires small { vec_len links.old < 2 ^ 32 }
     ensures sorted { AreSorted L.key links.new.items order.new.items }
     ensures links { Sets L.key (L.key link) (taken_in L.merged link (link_of L.key links.old.items (L.key link))) links.old.items links.new.items }
@@ -110,10 +120,10 @@ pub(crate) fn merge<L: MergeLink>(links: &mut Vec<L>, order: &mut Vec<u32>, link
 }
 
 /// Puts a link in the place of the one that has its key.
-pub(crate) fn replace<L: Probe<L> + Drop>(links: &mut [L], order: &[u32], link: L)
-    requires sorted { AreSorted L.key links.old order.now }
+pub(crate) fn replace<L: Probe<L> + Drop>(links: &mut [L], order: &BlockList<u32>, link: L)
+    requires sorted { AreSorted L.key links.old order.now.items }
     requires there { IsSome (link_of L.key links.old (L.key link)) }
-    ensures sorted { AreSorted L.key links.new order.now }
+    ensures sorted { AreSorted L.key links.new order.now.items }
     ensures links { Sets L.key (L.key link) link links.old links.new }
     ensures length { length links.new ≡ length links.old }
 {

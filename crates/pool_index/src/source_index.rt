@@ -46,9 +46,10 @@ impl MergeLink for SourceLink {
 /// For each hash the greatest number of a task that was noted under it. Links stand in the order in
 /// which their hashes came, and their places are sorted by the bytes of the hash.
 ///
-/// A look-up costs a comparison of two hashes for each halving of the places, at most 19 for 262,144
-/// links. Noting a task costs a look-up, and for a new hash moves the places that come after its
-/// own: 4 bytes for each of them, about half of all.
+/// A look-up costs a comparison of two hashes for each halving of the places, and one more: about 21
+/// for 262,144 links. Noting a task costs a look-up. For a new hash it costs two, and moves at most
+/// the 128 places of one block, 4 bytes for each, and where a block comes 24 bytes for each block
+/// behind it.
 #[derive(Drop)]
 pub struct SourceIndex {
     inner: LinkIndex<SourceLink>,

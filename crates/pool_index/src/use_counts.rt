@@ -33,10 +33,10 @@ impl Probe<UseLink> for UseLink {
 /// it has no use any more. Links stand in the order in which their digests came, and their places
 /// are sorted by the bytes of the digest.
 ///
-/// A look-up costs a comparison of two digests for each halving of the places, at most 19 for
-/// 262,144 links. A change of a count costs two look-ups and moves nothing. To list a new digest
-/// costs two look-ups, and moves the places that come after its own: 4 bytes for each of them, about
-/// half of all.
+/// A look-up costs a comparison of two digests for each halving of the places, and one more: about
+/// 21 for 262,144 links. A change of a count costs two look-ups and moves nothing. To list a new
+/// digest costs two look-ups, and moves at most the 128 places of one block, 4 bytes for each, and
+/// where a block comes 24 bytes for each block behind it.
 #[derive(Drop)]
 pub struct UseCounts {
     inner: LinkIndex<UseLink>,

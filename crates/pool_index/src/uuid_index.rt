@@ -45,9 +45,10 @@ impl Probe<UuidLink> for UuidLink {
 /// The task that each creator sent under each uuid. Links stand in the order in which they came,
 /// and their places are sorted by the bytes of the creator and then of the uuid.
 ///
-/// A look-up costs a comparison of two keys for each halving of the places, at most 19 for 262,144
-/// links, whatever uuids callers choose. An addition costs a look-up, and moves the places that
-/// come after its own: 4 bytes for each of them, about half of all for random uuids.
+/// A look-up costs a comparison of two keys for each halving of the places, and one more: about 21
+/// for 262,144 links, whatever uuids callers choose. An addition costs as many, less one. It moves
+/// at most the 128 places of one block, 4 bytes for each, and where a block comes 24 bytes for each
+/// block behind it.
 #[derive(Drop)]
 pub struct UuidIndex {
     alloc: Global,

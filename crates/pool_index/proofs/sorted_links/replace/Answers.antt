@@ -10,9 +10,9 @@ unreachable-requires g c = true≢false (sym c.requires.there ∙ ap is_some (no
 
 pub returns-clause-sorted : goal.returns-clause-sorted
 returns-clause-sorted g c =
-    set_sorted g.L.Keyed.key c.args.links.now c.args.order.now c.requires.sorted (g.L.Keyed.key c.args.link) c.in-Some.place c.in-Some.ensures c.replace.new.dest (ap g.L.Keyed.key c.replace.ensures.after)
+    set_sorted g.L.Keyed.key c.args.links.now c.args.order.now.items c.requires.sorted (g.L.Keyed.key c.args.link) c.in-Some.place c.in-Some.ensures c.replace.new.dest (ap g.L.Keyed.key c.replace.ensures.after)
 
 pub returns-clause-links : goal.returns-clause-links
 returns-clause-links g c =
     subst (λ (l : g.row.L.Denot). Sets g.L.Keyed.key (g.L.Keyed.key c.args.link) l c.args.links.now (set c.args.links.now c.in-Some.place c.replace.new.dest)) c.replace.ensures.after
-    (set_sets g.L.Keyed.key c.args.links.now c.args.order.now c.requires.sorted (g.L.Keyed.key c.args.link) c.in-Some.place c.in-Some.ensures c.replace.new.dest (ap g.L.Keyed.key c.replace.ensures.after))
+    (set_sets g.L.Keyed.key c.args.links.now c.args.order.now.items c.requires.sorted (g.L.Keyed.key c.args.link) c.in-Some.place c.in-Some.ensures c.replace.new.dest (ap g.L.Keyed.key c.replace.ensures.after))
