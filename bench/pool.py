@@ -437,18 +437,19 @@ class Bench:
             pool.fill(size)
         look = request(b"GetResult", b'{"task_id":"10"}')
         for place in range(self.rounds):
-            fronts = {}
+            fronts, alone = {}, {}
             for kind, pool in pools.items():
                 pool.ask(pool.new_tasks(self.calls, SLICE_SECS))
                 fronts[kind] = pool.settle(look)[1]
+                alone[kind] = min(pool.settle(look)[0] for _ in range(10))
             # (moments are whole seconds, so no deadline is later than this)
             time.sleep(SLICE_SECS + 0.1)
             for kind, pool in pools.items():
                 seconds, front = pool.settle(look)
                 if front - fronts[kind] != self.calls:
                     sys.exit("GetResult has settled %d deadlines, and not %d" % (front - fronts[kind], self.calls))
-                alone = min(pool.settle(look)[0] for _ in range(10))
-                self.keep(("deadline", *kind), 1000000 * (seconds - alone) / self.calls)
+                alone[kind] = min(alone[kind], *(pool.settle(look)[0] for _ in range(10)))
+                self.keep(("deadline", *kind), 1000000 * (seconds - alone[kind]) / self.calls)
             tell(f"deadlines, round {place + 1}")
         for pool in pools.values():
             pool.end()
@@ -494,7 +495,8 @@ class Bench:
             tell("no removal of blobs, since filling the pools took longer than the life of a blob")
             ends = []
         for place, end in enumerate(ends):
-            time.sleep(end + 1.1 - time.time())
+            # (moments are whole seconds, and the next round's blobs end two seconds later)
+            time.sleep(math.floor(end) + 1.2 - time.time())
             for size, pool in pools.items():
                 seconds, front = pool.settle(look)
                 if front - fronts[size] != some or time.time() >= held + LIFE:
@@ -547,7 +549,7 @@ class Bench:
         keep_every(2)
         fronts = {size: pool.settle(look)[1] for size, pool in pools.items()}
         for place, at in enumerate(placed):
-            time.sleep(max(at + LIFE + 1.1 - time.time(), 0))
+            time.sleep(max(math.floor(at) + LIFE + 1.2 - time.time(), 0))
             for size, pool in pools.items():
                 seconds, front = pool.settle(look)
                 if front - fronts[size] != BATCH:

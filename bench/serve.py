@@ -287,7 +287,7 @@ SHARES = (
     ("JSON", re.compile(r"serde_json|\bjson|reply_bodies|_bodies::|swarm_wire|btree")),
     ("heads and routes", re.compile(r"httparse|head|matchit|routes|link_reader|link_writer|swarm_http|http::|memchr|itoa")),
     ("dimensions", re.compile(r"\bdimensions::")),
-    ("the pool", re.compile(r"swarm_machine|swarm_rules|pool_index|dim_queue|task_rows|bot_registry|row_changes|pool_queries|pool_changes|content_store|region::")),
+    ("the pool", re.compile(r"swarm_machine|swarm_rules|pool_index|dim_queue|task_rows|bot_registry|row_changes|pool_queries|pool_changes|content_store|region::|block_list|placed_list")),
     ("checks and copies of a task", re.compile(r"task_checks|task_props|swarm_model")),
     ("SHA-256", re.compile(r"sha2")),
 )
@@ -297,8 +297,8 @@ PROFILED = 3
 def profile(bench, folder):
     """For each kind of request the share of the server's time of each kind of function, by perf."""
     columns = {}
-    for name in ("CountTasks", f"CountTasks, {PIPELINED} in one write", *AMONG):
-        counts, path = {}, os.path.join(folder, "perf.data")
+    for name in ("CountTasks", f"CountTasks, {PIPELINED} in one write", *AMONG, f"claim, {PIPELINED} in one write"):
+        counts, path, kind = {}, os.path.join(folder, "perf.data"), name.partition(",")[0]
         end = time.monotonic() + PROFILED
         while time.monotonic() < end:
             server = bench.swarm()
@@ -306,23 +306,22 @@ def profile(bench, folder):
                 link.setsockopt(socket.IPPROTO_TCP, socket.TCP_NODELAY, 1)
                 bench.ask(link, [handshake(bot) for bot in BOTS])
                 for call, (requests, _) in AMONG.items():
-                    if call == name:
+                    if call == kind:
                         break
-                    if name in AMONG:
+                    if kind in AMONG:
                         bench.ask(link, requests)
                 words = ["perf", "record", "-q", "-F", "4999", "-o", path, "-p", str(server.process.pid)]
                 tracer = subprocess.Popen(words, stdout=subprocess.DEVNULL, stderr=subprocess.DEVNULL)
                 time.sleep(0.5)
-                if name in AMONG:
-                    bench.ask(link, AMONG[name][0])
-                elif name == "CountTasks":
-                    bench.ask(link, [ONE] * 20000)
+                requests = AMONG[kind][0] if kind in AMONG else [ONE] * 20000
+                if name == kind:
+                    bench.ask(link, requests)
                 else:
-                    for _ in range(2000):
-                        link.sendall(ONE * PIPELINED)
-                        left = PIPELINED
-                        while left:
-                            left -= link.recv(65536).count(b"HTTP/1.1 200 ")
+                    for at in range(0, len(requests), PIPELINED):
+                        texts, replies = requests[at : at + PIPELINED], b""
+                        link.sendall(b"".join(texts))
+                        while replies.count(b"HTTP/1.1 200 ") < len(texts):
+                            replies += link.recv(65536)
                 tracer.send_signal(signal.SIGINT)
                 tracer.wait(20)
             server.end()
@@ -330,8 +329,8 @@ def profile(bench, folder):
             shown_lines = subprocess.run(words, capture_output=True, text=True, check=False).stdout.splitlines()
             for line in shown_lines:
                 at = "[k] " if "[kernel" in line or "([guest" in line else ""
-                kind = next((it for it, test in SHARES if test.search(at + line)), "all else")
-                counts[kind] = counts.get(kind, 0) + 1
+                share = next((it for it, test in SHARES if test.search(at + line)), "all else")
+                counts[share] = counts.get(share, 0) + 1
         columns[name] = counts
     rows = ["| What | " + " | ".join(columns) + " |", "|---|" + "---|" * len(columns)]
     for kind in [*(it for it, _ in SHARES), "all else"]:
