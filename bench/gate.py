@@ -13,8 +13,9 @@ others stay as they are.
 Minutes are those of a processor, user and system, of every run of the kit's `rattle` with all that
 it started; memory is the most that one process of them held. Each has one job.
 
-With --whole it runs `rt ci` over the whole repository from nothing once, with the processors and
-memory that rt chooses, and writes the rows of all crates from that run, and the minutes of the clock.
+With --whole it runs `.ci/run` over the whole repository from nothing once, with the processors and
+memory that rt chooses, and writes the rows of all crates from that run, and the minutes of the clock
+of `rt ci` and of the whole. Whoever wants times that compare has nothing else run on the machine.
 
 It works on a copy of the tree in the folder --work, by default swarm-gate among the temporary files,
 with a store of kept proofs of its own, so that nothing counts that was proved before, and nothing is
@@ -310,24 +311,41 @@ class Page:
             write(self.path, f"{kept.rstrip()}\n\n{WHOLE}\n{line}\n")
 
 
+def copy_all(to):
+    """Copies the files that git has, or would take, to the folder `to`, as they are in the working tree."""
+    said = subprocess.run(["git", "ls-files", "-coz", "--exclude-standard"], cwd=ROOT, stdout=subprocess.PIPE, check=True)
+    os.makedirs(f"{to}/.git")
+    for name in {it for it in said.stdout.decode().split("\0") if os.path.isfile(f"{ROOT}/{it}")}:
+        os.makedirs(os.path.dirname(f"{to}/{name}"), exist_ok=True)
+        shutil.copy2(f"{ROOT}/{name}", f"{to}/{name}")
+
+
 def run_whole(work, page):
     shutil.rmtree(f"{work}/whole", ignore_errors=True)
-    rt, calls = make_kit(f"{work}/whole/kit"), f"{work}/whole/calls"
-    copy_tree(ROOT, f"{work}/whole/tree")
-    began = time.time()
-    status = run_ci(rt, f"{work}/whole/tree", calls).wait()
-    minutes = (time.time() - began) / 60
-    print("".join(text_of(f"{calls}.log").splitlines(True)[-5:]), end="")
-    if status:
-        return status
-    crates = read_crates(f"{work}/whole/tree")
+    rt, calls, tree = make_kit(f"{work}/whole/kit"), f"{work}/whole/calls", f"{work}/whole/tree"
+    copy_all(tree)
+    env = {it: text for it, text in os.environ.items() if it != "RT_JOBS"}
+    env.update(GATE_CALLS=calls, CI="true", PATH=f"{os.path.dirname(rt)}:{env['PATH']}")
+    began, proved = time.time(), None
+    with open(f"{calls}.log", "w", encoding="utf-8") as log:
+        how = {"stdin": subprocess.DEVNULL, "stdout": log, "stderr": subprocess.STDOUT}
+        run = subprocess.Popen(["bash", ".ci/run"], cwd=tree, env=env, **how)
+    while run.poll() is None:
+        if not proved and re.search(r"^\d+ passed, \d+ failed$", text_of(f"{calls}.log"), re.M):
+            proved = time.time()
+        time.sleep(1)
+    minutes, of_proofs = ((it - began) / 60 for it in (time.time(), proved or time.time()))
+    print("".join(text_of(f"{calls}.log").splitlines(True)[-30:]), end="")
+    if run.returncode:
+        return run.returncode
+    crates = read_crates(tree)
     for crate in crates:
         page.put(crates, crate.name, row_of(crate, calls_in(calls), text_of(f"{calls}.log")))
     taken = sum(it["processor"] for it in calls_in(calls)) / 60
     memory = int(re.search(r"MemTotal:\s+(\d+)", text_of("/proc/meminfo"))[1]) * 1024 / 1e9
     page.put_whole(
-        f"One whole run of `rt ci` from nothing: {minutes:.0f} minutes of the clock on {len(os.sched_getaffinity(0))} processors "
-        f"with {memory:.0f} GB, {taken:.0f} minutes of a processor, {time.strftime('%-d %B %Y')}."
+        f"One whole run of `.ci/run` from nothing: {minutes:.0f} minutes of the clock on {len(os.sched_getaffinity(0))} processors "
+        f"with {memory:.0f} GB, {of_proofs:.0f} of them for `rt ci`, which took {taken:.0f} minutes of a processor, {time.strftime('%-d %B %Y')}."
     )
     shutil.rmtree(f"{work}/whole")
     return 0

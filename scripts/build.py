@@ -14,9 +14,11 @@ from; a library is taken from there as long as that sum is the same. A log for e
 crates/swarm/out/logs.
 
 The processors are shared out among the crates that are ready: one alone gets them all, of two each
-gets half, and of more the one with the longest chain above it gets all but one and each other one
-process, at a lower priority. One process proves a crate with less work in all than several do. A
-chain is as long as the proofs of its crates took by the table of docs/gate-times.md.
+gets half, and of more each gets one process, those that aren't on the longest chain at a lower
+priority. One process proves a crate with less work in all than several do. A chain is as long as
+the proofs of its crates took by the table of docs/gate-times.md. So is the time that is left, which
+each line tells: what those proofs took there, times what the crates that have ended took here for
+each minute of theirs.
 """
 import fcntl
 import hashlib
@@ -40,8 +42,9 @@ PARTS = ("src", "specs", "proofs")
 TIMES = f"{ROOT}/docs/gate-times.md"
 # What a crate that the table lacks is taken for.
 LINES_A_MINUTE = 1000
-# Processes for each crate, at most.
-MOST_JOBS = 4
+# The work of a proof by so many processes, at most four, in that of one.
+WORK = {1: 1, 2: 1.25, 3: 1.5, 4: 1.6}
+MOST_JOBS = max(WORK)
 # Seconds between two lines on how far it is, where nothing ends.
 SILENCE = 30
 
@@ -87,7 +90,7 @@ class Crate:
         self.below = []
         self.rlib, self.stamp, self.log = f"{LIBRARIES}/{name}.rlib", f"{LIBRARIES}/{name}.sum", f"{LOGS}/{name}.log"
         self.lines = self.weight = self.chain = 0
-        self.jobs, self.process, self.status, self.began, self.sum, self.was_killed = 0, None, None, 0, None, False
+        self.jobs, self.process, self.status, self.began, self.taken, self.sum, self.was_killed = 0, None, None, 0, 0, None, False
 
     def is_program(self):
         return self.name == PROGRAM
@@ -112,10 +115,10 @@ class Crate:
         if ended:
             # (so that Popen doesn't wait for it again)
             self.process.returncode = self.status = -os.WTERMSIG(status) if os.WIFSIGNALED(status) else os.WEXITSTATUS(status)
-            took = time.monotonic() - self.began
+            took, self.taken = time.monotonic() - self.began, used.ru_utime + used.ru_stime
             with open(self.log, "a", encoding="utf-8") as it:
                 it.write(
-                    f"{self.name}: {took:.0f} s at {self.jobs} jobs, {used.ru_utime + used.ru_stime:.0f} s of a processor, "
+                    f"{self.name}: {took:.0f} s at {self.jobs} jobs, {self.taken:.0f} s of a processor, "
                     f"{used.ru_maxrss / 1e6:.1f} GB in the largest process\n"
                 )
         return bool(ended)
@@ -238,6 +241,8 @@ class Builder:
         self.left, self.running, self.built = sorted(crates, key=lambda it: -it.chain), [], []
         self.processors, self.memory, self.parent = count_processors(), 0.85 * free_memory(), os.getppid()
         self.told, self.told_at = None, 0
+        # Minutes of a processor that the crates which have ended took, and that the table says they take. Each begins with one, so that a first small crate tells little.
+        self.taken = self.planned = 1
         # Where this process ends, however it ends, the guard's read returns, and it ends all that was started.
         ends, self.held = os.pipe()
         how = {"stdin": ends, "stdout": subprocess.DEVNULL, "stderr": subprocess.DEVNULL}
@@ -289,12 +294,12 @@ class Builder:
         while waiting:
             crate = waiting.pop(0)
             is_first = all(crate.chain >= it.chain for it in [*self.left, *self.running])
-            jobs = self.share(is_first, len(waiting) + len(self.running))
+            jobs = self.share(len(waiting) + len(self.running))
             room = self.memory - sum(memory_of(it, it.jobs) for it in self.running)
             while jobs > 1 and (crate.was_killed or memory_of(crate, jobs) > room):
                 jobs -= 1
             held = sum(it.jobs for it in self.running)
-            if self.running and (held + jobs > self.processors + 2 or memory_of(crate, jobs) > room or crate.was_killed or self.running[0].was_killed):
+            if self.running and (held + jobs > self.processors or memory_of(crate, jobs) > room or crate.was_killed or self.running[0].was_killed):
                 break
             self.left.remove(crate)
             self.running.append(crate)
@@ -304,15 +309,33 @@ class Builder:
             crate.jobs, crate.began = jobs, time.monotonic()
             crate.process = self.spawn(self.kit.build(crate, jobs), crate, is_first)
 
-    def share(self, is_first, others):
-        """How many processes a crate gets beside so many others that run or wait: the first all of
-        them where it is alone, half beside one other and all but one beside more; any other the rest."""
+    def share(self, others):
+        """How many processes a crate gets beside so many others that run or wait: all of them where it is alone, half beside one other, and one beside more."""
         most = min(MOST_JOBS, self.processors)
-        if not others:
-            return most
-        if others == 1:
-            return max(1, most // 2)
-        return max(1, most - 1) if is_first else 1
+        return most if not others else max(1, most // 2) if others == 1 else 1
+
+    def minutes_of(self, crate, jobs):
+        """How long a crate is likely to take, in minutes of the clock."""
+        return crate.weight * self.taken / self.planned * WORK[jobs] / jobs
+
+    def minutes_left(self):
+        """How long the crates that are left are likely to take, begun as `begin` does where memory is no matter."""
+        left, built, now = [*self.left], {*self.built}, time.monotonic()
+        running = [(max(0, self.minutes_of(it, it.jobs) - (now - it.began) / 60), it.jobs, it) for it in self.running]
+        end = 0
+        while left or running:
+            waiting = [it for it in left if built.issuperset(it.below)]
+            for place, crate in enumerate(waiting):
+                jobs = self.share(len(waiting) - place - 1 + len(running))
+                if running and sum(it[1] for it in running) + jobs > self.processors:
+                    break
+                left.remove(crate)
+                running.append((end + self.minutes_of(crate, jobs), jobs, crate))
+            first = min(running, key=lambda it: it[0])
+            running.remove(first)
+            end = first[0]
+            built.add(first[2])
+        return end
 
     def finish(self, crate):
         status = crate.status
@@ -337,6 +360,8 @@ class Builder:
             with open(crate.stamp, "w", encoding="utf-8") as it:
                 it.write(f"{crate.sum} {sum_of_file(crate.made())}")
         self.built.append(crate)
+        self.taken += crate.taken / 60
+        self.planned += crate.weight * WORK[crate.jobs]
 
     def tell(self):
         """Says how far it is, where something began or ended, or nothing was said for long."""
@@ -344,7 +369,8 @@ class Builder:
         if told != self.told or time.monotonic() > self.told_at + SILENCE:
             self.told, self.told_at = told, time.monotonic()
             now = f"; now {', '.join(told[0])}" if told[0] else ""
-            say(f"{told[1]} of {len(self.crates)} crates proved ({minutes_since(self.start)}){now}")
+            left = f", about {self.minutes_left():.0f} min left" if self.left or self.running else ""
+            say(f"{told[1]} of {len(self.crates)} crates proved ({minutes_since(self.start)}{left}){now}")
 
 
 def minutes_since(start):
