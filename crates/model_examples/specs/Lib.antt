@@ -1,4 +1,5 @@
 pub mod Examples
 pub mod BotExamples
 pub mod EndExamples
+pub mod IndexExamples
 pub mod ReuseExamples

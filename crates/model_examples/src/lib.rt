@@ -7,4 +7,5 @@
 pub mod bot_examples;
 pub mod end_examples;
 pub mod examples;
+pub mod index_examples;
 pub mod reuse_examples;
