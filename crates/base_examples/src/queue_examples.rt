@@ -1,5 +1,5 @@
 //! The tasks that wait for a bot at work, as facts that the check computes.
-ghost use Rattle.std.specs.Prelude.{◌≡◌, ◌∷◌, [], Some, None, true, false, codes};
+ghost use Rattle.std.specs.Prelude.{◌≡◌, ◌∷◌, [], Some, None, true, false};
 ghost use Rattle.block_list.specs.Rising.{Removes};
 ghost use Rattle.dim_queue.specs.Order.{goes_first};
 ghost use Rattle.dim_queue.specs.QueueList.{candidate_of, earlier_of};
