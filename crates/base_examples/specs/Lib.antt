@@ -1,0 +1,4 @@
+pub mod CacheExamples
+pub mod ContentExamples
+pub mod ListExamples
+pub mod QueueExamples

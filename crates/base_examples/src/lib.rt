@@ -5,3 +5,10 @@
 //! by its definition refuses each body that answers otherwise there. No crate of the program
 //! stands on this one.
 #![tactic(auto)]
+
+pub mod cache_examples;
+pub mod content_examples;
+pub mod dimension_examples;
+pub mod list_examples;
+pub mod place_examples;
+pub mod queue_examples;

@@ -1,4 +1,5 @@
-//! The definitions of `swarm_model` at work: small pools, their requests and their replies.
+//! The definitions of `swarm_model`, and of the indexes and the rows of bots over it, at work: small
+//! pools, their requests and their replies.
 //!
 //! Each example is a function without a body, whose clauses the check computes. No crate of the
 //! program stands on this one.
@@ -7,4 +8,6 @@
 pub mod bot_examples;
 pub mod end_examples;
 pub mod examples;
+pub mod index_examples;
+pub mod registry_examples;
 pub mod reuse_examples;

@@ -1,0 +1,6 @@
+use Rattle.std.proofs.Common.{arith}
+use Rattle.std.proofs.lemmas.Grind.{common_steps}
+use Rattle.dim_queue.proofs.queue_list.find_or_assign.Goals as goal
+
+pub assign-requires-clause-lack : goal.assign-requires-clause-lack
+assign-requires-clause-lack c = grind (arith, common_steps)
