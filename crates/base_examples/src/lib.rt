@@ -5,3 +5,8 @@
 //! by its definition refuses each body that answers otherwise there. No crate of the program
 //! stands on this one.
 #![tactic(auto)]
+
+pub mod canonical_examples;
+pub mod field_examples;
+pub mod member_examples;
+pub mod task_check_examples;
