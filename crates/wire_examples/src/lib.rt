@@ -5,3 +5,10 @@
 //! by its definition refuses each body that answers otherwise there. No crate of the program
 //! stands on this one.
 #![tactic(auto)]
+
+pub mod blob_body_examples;
+pub mod bot_body_examples;
+pub mod line_examples;
+pub mod reply_examples;
+pub mod settings_examples;
+pub mod task_body_examples;
