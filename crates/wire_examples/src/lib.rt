@@ -6,6 +6,7 @@
 //! stands on this one.
 #![tactic(auto)]
 
+pub mod asking_examples;
 pub mod blob_body_examples;
 pub mod bot_body_examples;
 pub mod line_examples;
