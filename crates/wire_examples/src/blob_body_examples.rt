@@ -1,12 +1,12 @@
 //! What the bodies of the calls on blobs and on the output of runs say, as facts that the check
 //! computes.
-ghost use Rattle.std.specs.Prelude.{◌≡◌, ℕ, List, length, pos, Ok, Err, codes};
-ghost use Rattle.serde_json.specs.Data.{Data, string, object, member, no_members};
+ghost use Rattle.std.specs.Prelude.{◌≡◌, replicate, pos, Ok, Err, codes};
+ghost use Rattle.serde_json.specs.Data.{string, array, object, member, no_members};
+ghost use Rattle.serde_json.specs.View.{items_of};
 ghost use Rattle.json_values.specs.Values.{whole};
 ghost use Rattle.task_props.specs.declared.prop_fault.PropFault.TheVariants.{Broken};
 ghost use Rattle.task_props.specs.declared.prop_rule.PropRule.TheVariants.{Count};
-ghost use Rattle.blob_bodies.specs.BlobLists.{raw_blob_in, raw_blobs_in, blobs_in};
-ghost use Rattle.blob_bodies.specs.declared.blob_lists.RawBlob.{RawBlob};
+ghost use Rattle.blob_bodies.specs.BlobLists.{raw_blob_in, blobs_in};
 ghost use Rattle.blob_bodies.specs.Stdouts.{length_of, stdout_in};
 
 /// The digest and the size of a blob are read of their own fields.
@@ -16,9 +16,9 @@ pub fn a_blob_is_asked_for_by_its_digest_and_its_size()
 {}
 
 /// Of 513 blobs at once none is told.
-#[tactic(auto, unfolding(blob_bodies::specs::BlobLists::blobs_in, crate::specs::BodiesRead::fields_are_read))]
+#[tactic(auto, unfolding(blob_bodies::specs::BlobLists::raw_blob_in, blob_bodies::specs::BlobLists::blobs_in, json_fields::specs::Fields::object_item, crate::specs::BodiesRead::fields_are_read))]
 pub fn at_most_512_blobs_are_asked_for()
-    ensures { (body : Data) (blobs : List RawBlob) → raw_blobs_in body ≡ Ok blobs → length blobs ≡ 513 → blobs_in body ≡ Err (Broken (codes "blobs") Count) }
+    ensures { blobs_in (object (member (codes "blobs") (array (items_of (replicate 513 (object (member (codes "digest") (string (codes "5891")) no_members))))) no_members)) ≡ Err (Broken (codes "blobs") Count) }
 {}
 
 /// A length of 0 means the greatest one.
