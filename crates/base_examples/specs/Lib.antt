@@ -2,3 +2,4 @@ pub mod CacheExamples
 pub mod ContentExamples
 pub mod ListExamples
 pub mod QueueExamples
+pub mod TaskCheckExamples

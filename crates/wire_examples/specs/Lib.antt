@@ -1,0 +1,2 @@
+pub mod BodiesRead
+pub mod LineExamples

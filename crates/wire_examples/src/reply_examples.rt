@@ -1,0 +1,36 @@
+//! The replies of the server at work: their statuses, their bodies and how these are to be read.
+ghost use Rattle.std.specs.Prelude.{◌≡◌, ℕ, List, [], ◌∷◌, codes};
+ghost use Rattle.serde_json.specs.Data.{string, member, no_members};
+ghost use Rattle.swarm_model.specs.declared.reply.Reply.TheVariants.{Blob, No, Skip};
+ghost use Rattle.swarm_model.specs.declared.rule.Rule.TheVariants.{BotUnfit, AttemptOver, OutputGone};
+ghost use Rattle.swarm_model.specs.declared.rule.Unfit.TheVariants.{Dead};
+ghost use Rattle.swarm_model.specs.declared.task_state.TaskState.TheVariants.{Completed};
+ghost use Rattle.reply_bodies.specs.Bodies.{status_of, body_of, content_type_of};
+ghost use Rattle.reply_bodies.specs.Refusals.{status_and_code, refusal_members};
+
+/// A bot that gets no work since it was silent is told so.
+pub fn a_dead_bot_is_told_that_it_is_dead()
+    ensures { refusal_members 0 (BotUnfit Dead) ≡ member (codes "code") (string (codes "bot_unfit")) (member (codes "why") (string (codes "dead")) no_members) }
+{}
+
+/// A report on a run that has ended conflicts with it.
+pub fn a_report_after_the_end_has_status_409()
+    ensures { status_of (No (AttemptOver Completed)) ≡ 409 }
+{}
+
+/// Output whose blob is held no more is gone.
+pub fn output_that_is_held_no_more_has_status_410()
+    ensures { (digest : List ℕ) → status_and_code (OutputGone digest) ≡ (410, codes "output_gone") }
+{}
+
+/// A blob is bytes, and any other reply JSON.
+pub fn a_blob_is_bytes()
+    ensures blob { (digest : List ℕ) → content_type_of (Blob digest 6) ≡ codes "application/octet-stream" }
+    ensures other { content_type_of Skip ≡ codes "application/json" }
+{}
+
+/// The body of a blob is the first piece that was brought for it.
+#[tactic(auto, unfolding(reply_bodies::specs::Bodies::body_of))]
+pub fn the_body_of_a_blob_is_its_piece()
+    ensures { (digest : List ℕ) → body_of 0 (Blob digest 5) (codes "first" ∷ codes "second" ∷ []) ≡ codes "first" }
+{}
