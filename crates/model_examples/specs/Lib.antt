@@ -1,6 +1,10 @@
-pub mod Examples
+pub mod BlobExamples
 pub mod BotExamples
 pub mod EndExamples
+pub mod Examples
+pub mod FitExamples
+pub mod GrantExamples
 pub mod IndexExamples
+pub mod PageExamples
 pub mod RegistryExamples
 pub mod ReuseExamples

@@ -5,9 +5,13 @@
 //! program stands on this one.
 #![tactic(auto)]
 
+pub mod blob_examples;
 pub mod bot_examples;
 pub mod end_examples;
 pub mod examples;
+pub mod fit_examples;
+pub mod grant_examples;
 pub mod index_examples;
+pub mod page_examples;
 pub mod registry_examples;
 pub mod reuse_examples;
