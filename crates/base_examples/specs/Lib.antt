@@ -1,0 +1,2 @@
+pub mod HeadExamples
+pub mod RequestExamples

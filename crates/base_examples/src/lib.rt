@@ -5,3 +5,9 @@
 //! by its definition refuses each body that answers otherwise there. No crate of the program
 //! stands on this one.
 #![tactic(auto)]
+
+pub mod head_examples;
+pub mod keeper_examples;
+pub mod link_examples;
+pub mod request_examples;
+pub mod route_examples;
