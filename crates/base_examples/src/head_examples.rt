@@ -1,7 +1,7 @@
 //! The heads of requests and replies at work: their fields, their numbers and what is due to them
 //! (RFC 9110, RFC 9112).
-ghost use Rattle.std.specs.Prelude.{◌≡◌, ◌∷◌, ◌++◌, [], ℕ, List, true, false, Some, None, codes};
-ghost use Rattle.httparse.specs.Grammar.{RequestHead, status_code};
+ghost use Rattle.std.specs.Prelude.{◌≡◌, ◌<◌, ◌≤◌, ◌∷◌, ◌++◌, [], ℕ, List, true, false, Some, None, length, codes};
+ghost use Rattle.httparse.specs.Grammar.{RequestHead, ResponseHead, ReadsResponse, print_response, status_code};
 ghost use Rattle.head_fields.specs.Fields.{same_name, only, lacks};
 ghost use Rattle.head_fields.specs.Numbers.{number, only_number};
 ghost use Rattle.head_fields.specs.declared.number.Number.TheVariants.{Absent, Told, Broken};
@@ -9,7 +9,7 @@ ghost use Rattle.request_head.specs.declared.method.Method.TheVariants.{Get, Pos
 ghost use Rattle.request_head.specs.declared.after.After.TheVariants as after;
 ghost use Rattle.request_head.specs.Heads.{IsHead, IsNoHead};
 ghost use Rattle.request_head.specs.HeadFields.{limit_at, is_close, closes, after_told, refusal, length_required, too_large};
-ghost use Rattle.reply_reader.specs.Replies.{size_of_fields};
+ghost use Rattle.reply_reader.specs.Replies.{IsReplyHead, HasNoReply, size_of, size_of_fields};
 ghost use Rattle.base_examples.specs.HeadExamples.{reply_of};
 
 /// Names of fields are the same in any case of letters.
@@ -85,4 +85,17 @@ pub fn the_size_of_a_reply_is_told_once_within_its_limit()
     ensures at_the_limit { size_of_fields ((codes "Content-Length", codes "16777216") ∷ []) ≡ Some 16777216 }
     ensures above { size_of_fields ((codes "Content-Length", codes "16777217") ∷ []) ≡ None }
     ensures twice { size_of_fields ((codes "Content-Length", codes "2") ∷ (codes "Content-Length", codes "3") ∷ []) ≡ None }
+{}
+
+/// A reply that ends before the body that its head tells of is none.
+pub fn a_reply_that_is_cut_short_is_none()
+    ensures { (bytes front : List ℕ) (head : ResponseHead) → IsReplyHead bytes head front → size_of head ≡ Some 2 → length front < 2
+        → HasNoReply bytes }
+{}
+
+/// The head of a reply has 64 fields at most.
+pub fn a_reply_has_64_fields_at_most()
+    ensures all { (bytes rest : List ℕ) (head : ResponseHead) → ReadsResponse bytes head rest → length (print_response head) ≤ 16384
+        → length head.fields ≡ 64 → IsReplyHead bytes head rest }
+    ensures one_more { (bytes rest : List ℕ) (head : ResponseHead) → length head.fields ≡ 65 → ¬ (IsReplyHead bytes head rest) }
 {}

@@ -1,8 +1,10 @@
-//! Links, acceptors and files at work: what is read, written and found.
-ghost use Rattle.std.specs.Prelude.{◌≡◌, ◌∷◌, ◌++◌, [], ℕ, List, Some, None, Ok, Vec, ⊤, codes};
+//! Links, acceptors and files at work: what is read, written and found, and which failures count.
+ghost use Rattle.std.specs.Prelude.{◌≡◌, ◌∷◌, ◌++◌, [], ℕ, List, Some, None, Ok, Err, Vec, ⊤, codes};
 ghost use Rattle.std.specs.declared.alloc.Global.{Global};
-ghost use Rattle.sw_base.specs.Link.{LinkState, HasFailed, Reads, Writes, opened};
-ghost use Rattle.sw_base.specs.Acceptors.{AcceptorState, Comes};
+ghost use Rattle.sw_base.specs.Faults.{CountsFault};
+ghost use Rattle.sw_base.specs.Link.{LinkState, HasFailed, IsClean, Reads, Writes, opened};
+ghost use Rattle.sw_base.specs.Acceptors.{AcceptorState, Comes, untouched};
+ghost use Rattle.sw_base.specs.Listeners.{ListenerState, Gives};
 ghost use Rattle.sw_base.specs.Files.{Finds, file_at};
 ghost use Rattle.link_writer.specs.Sends.{Sends};
 ghost use Rattle.link_reader.specs.Heads.{IsHeadEnd};
@@ -12,6 +14,11 @@ ghost use Rattle.link_reader.specs.Bodies.{IsWhole};
 pub fn the_first_link_to_come_is_given()
     ensures { (first second link : LinkState) (before after : AcceptorState) → before.coming ≡ Some (first ∷ second ∷ []) → Comes link before after
         → (link ≡ first) × (after.coming ≡ Some (second ∷ [])) }
+{}
+
+/// As many acceptors are given as there are workers.
+pub fn each_worker_is_given_an_acceptor()
+    ensures { (before after : ListenerState) → ¬ (Gives (λ a. a) (untouched [] ∷ []) (codes "h:80") before after 2) }
 {}
 
 /// Bytes that were read are left no more.
@@ -28,6 +35,19 @@ pub fn bytes_that_a_write_tells_of_were_written()
 pub fn a_text_that_was_sent_is_written_whole_and_in_order()
     ensures { (before after : LinkState) (done : ⊤) → before.written ≡ Some (codes "x") → Sends {E = ⊤} before after (codes "head" ++ codes "body") (Ok done)
         → after.written ≡ Some (codes "xheadbody") }
+{}
+
+/// A link is clean once all that was written is flushed, and not before.
+pub fn a_link_is_clean_once_all_is_flushed()
+    ensures flushed { IsClean (opened None (Some (codes "ab"))) }
+    ensures unflushed { ¬ (IsClean (record (opened None (Some (codes "ab"))) { flushed = Some (codes "a") })) }
+{}
+
+/// A call that is told as done has raised no count, and one that is told as failed has.
+pub fn a_failure_is_told_where_the_count_rose()
+    ensures told { (failed : ⊤) → CountsFault {T = ⊤} {E = ⊤} (Err failed) 3 4 }
+    ensures not_told { (done : ⊤) → ¬ (CountsFault {T = ⊤} {E = ⊤} (Ok done) 3 4) }
+    ensures not_counted { (failed : ⊤) → ¬ (CountsFault {T = ⊤} {E = ⊤} (Err failed) 3 3) }
 {}
 
 /// A link has failed once a read or a write of it has.
