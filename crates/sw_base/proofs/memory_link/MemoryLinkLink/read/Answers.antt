@@ -26,3 +26,6 @@ returns c = record {
   faults = search rules;
   output = search rules;
 }
+
+pub returns-then-is_failing : goal.returns-then-is_failing
+returns-then-is_failing c = search rules
