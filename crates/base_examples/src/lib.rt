@@ -7,3 +7,4 @@
 #![tactic(auto)]
 
 pub mod bot_pair_examples;
+pub mod runner_examples;
