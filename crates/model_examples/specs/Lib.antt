@@ -2,3 +2,4 @@ pub mod Examples
 pub mod BotExamples
 pub mod EndExamples
 pub mod ReuseExamples
+pub mod SummaryExamples

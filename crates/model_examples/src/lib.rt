@@ -8,3 +8,4 @@ pub mod bot_examples;
 pub mod end_examples;
 pub mod examples;
 pub mod reuse_examples;
+pub mod summary_examples;
