@@ -7,4 +7,5 @@
 #![tactic(auto)]
 
 pub mod bot_pair_examples;
+pub mod drill_examples;
 pub mod runner_examples;
