@@ -6,10 +6,12 @@
 //! one.
 #![tactic(auto)]
 
+pub mod bot_pair_examples;
 pub mod cache_examples;
 pub mod canonical_examples;
 pub mod content_examples;
 pub mod dimension_examples;
+pub mod drill_examples;
 pub mod field_examples;
 pub mod head_examples;
 pub mod keeper_examples;
@@ -20,4 +22,5 @@ pub mod place_examples;
 pub mod queue_examples;
 pub mod request_examples;
 pub mod route_examples;
+pub mod runner_examples;
 pub mod task_check_examples;

@@ -8,3 +8,4 @@ pub mod IndexExamples
 pub mod PageExamples
 pub mod RegistryExamples
 pub mod ReuseExamples
+pub mod SummaryExamples

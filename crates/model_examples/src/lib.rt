@@ -15,3 +15,4 @@ pub mod index_examples;
 pub mod page_examples;
 pub mod registry_examples;
 pub mod reuse_examples;
+pub mod summary_examples;
