@@ -1,0 +1,2 @@
+pub mod CanonicalExamples
+pub mod StoreExamples

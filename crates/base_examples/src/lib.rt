@@ -5,3 +5,8 @@
 //! by its definition refuses each body that answers otherwise there. No crate of the program
 //! stands on this one.
 #![tactic(auto)]
+
+pub mod canonical_examples;
+pub mod clock_examples;
+pub mod sorting_examples;
+pub mod store_examples;

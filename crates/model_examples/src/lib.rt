@@ -7,4 +7,6 @@
 pub mod bot_examples;
 pub mod end_examples;
 pub mod examples;
+pub mod grant_examples;
 pub mod reuse_examples;
+pub mod row_examples;
