@@ -1,0 +1,2 @@
+mod CanonicalExamples
+mod StoreExamples

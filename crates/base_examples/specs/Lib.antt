@@ -1,7 +1,9 @@
 pub mod CacheExamples
+pub mod CanonicalExamples
 pub mod ContentExamples
 pub mod HeadExamples
 pub mod ListExamples
 pub mod QueueExamples
 pub mod RequestExamples
+pub mod StoreExamples
 pub mod TaskCheckExamples

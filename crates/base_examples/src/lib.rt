@@ -9,6 +9,7 @@
 pub mod bot_pair_examples;
 pub mod cache_examples;
 pub mod canonical_examples;
+pub mod clock_examples;
 pub mod content_examples;
 pub mod dimension_examples;
 pub mod drill_examples;
@@ -23,4 +24,6 @@ pub mod queue_examples;
 pub mod request_examples;
 pub mod route_examples;
 pub mod runner_examples;
+pub mod sorting_examples;
+pub mod store_examples;
 pub mod task_check_examples;

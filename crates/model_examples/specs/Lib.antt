@@ -8,4 +8,5 @@ pub mod IndexExamples
 pub mod PageExamples
 pub mod RegistryExamples
 pub mod ReuseExamples
+pub mod RowExamples
 pub mod SummaryExamples

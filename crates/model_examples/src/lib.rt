@@ -15,4 +15,5 @@ pub mod index_examples;
 pub mod page_examples;
 pub mod registry_examples;
 pub mod reuse_examples;
+pub mod row_examples;
 pub mod summary_examples;
