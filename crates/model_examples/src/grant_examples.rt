@@ -1,4 +1,3 @@
-<<<<<<< HEAD
 //! The definitions of permissions at work, as facts that the check computes.
 ghost use Rattle.std.specs.Prelude.{◌≡◌, ◌∷◌, [], true, false, codes};
 ghost use Rattle.swarm_model.specs.declared.request.Request.TheVariants as ask;
@@ -36,18 +35,4 @@ pub fn waiting_tasks_are_canceled_by_permission()
         ≡ reply.No (rule.Denied CancelTask (codes "default")) }
     ensures permitted { (answer (from (granting (codes "bob") CancelTask) ((1000, ask.New (small_task 600)) ∷ [])).pool (codes "bob") 1001 0 (ask.Cancel 1 0 false)).reply
         ≡ reply.Canceled true false }
-=======
-//! Who may do what in a pool, as facts that the check computes.
-ghost use Rattle.std.specs.Prelude.{◌≡◌, true, false, codes};
-ghost use Rattle.swarm_model.specs.declared.permission.Permission.TheVariants.{CreateTask, CancelTask, RunBot};
-ghost use Rattle.model_examples.specs.GrantExamples.{may};
-
-/// A caller has what is granted to it and to `*`, and nothing else.
-pub fn grants_of_one_and_of_all()
-    ensures own { may (codes "ana") CancelTask ≡ true }
-    ensures of_all { may (codes "ana") CreateTask ≡ true }
-    ensures another { may (codes "bob") CreateTask ≡ true }
-    ensures of_another { may (codes "bob") CancelTask ≡ false }
-    ensures not_granted { may (codes "ana") RunBot ≡ false }
->>>>>>> 54fbb5b4d0c61826ef554f603e9eb37fc03fbca0
 {}
