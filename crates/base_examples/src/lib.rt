@@ -9,3 +9,4 @@
 pub mod bot_pair_examples;
 pub mod drill_examples;
 pub mod runner_examples;
+pub mod word_examples;
