@@ -5,3 +5,6 @@
 //! by its definition refuses each body that answers otherwise there. No crate of the program
 //! stands on this one.
 #![tactic(auto)]
+
+pub mod bot_request_examples;
+pub mod client_examples;
