@@ -7,3 +7,4 @@ pub mod QueueExamples
 pub mod RequestExamples
 pub mod StoreExamples
 pub mod TaskCheckExamples
+pub mod WordExamples

@@ -27,3 +27,4 @@ pub mod runner_examples;
 pub mod sorting_examples;
 pub mod store_examples;
 pub mod task_check_examples;
+pub mod word_examples;

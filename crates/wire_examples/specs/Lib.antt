@@ -1,2 +1,3 @@
 pub mod BodiesRead
+pub mod BotRequestExamples
 pub mod LineExamples

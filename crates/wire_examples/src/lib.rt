@@ -9,6 +9,8 @@
 pub mod asking_examples;
 pub mod blob_body_examples;
 pub mod bot_body_examples;
+pub mod bot_request_examples;
+pub mod client_examples;
 pub mod line_examples;
 pub mod reply_examples;
 pub mod settings_examples;

@@ -1,0 +1,30 @@
+//! What the words of a command line ask for, as facts that the check computes.
+#![tactic(auto, unfolding(clap::specs::Walk::walked, clap::specs::Walk::bundle_met, clap::specs::Faults::walk_fault, clap::specs::Faults::defaults_fault, clap::specs::Faults::flags_fault))]
+
+ghost use Rattle.std.specs.Prelude.{◌≡◌, ◌++◌, ◌∷◌, [], Some, None, true, false, codes};
+ghost use Rattle.command_words.specs.Commands.{bot, bots, cancel, command_of};
+ghost use Rattle.base_examples.specs.WordExamples.{asked_of, small_bot};
+
+/// A run is to stop only where the flag `--kill` asks for it.
+pub fn a_kill_is_asked_for_by_its_flag()
+    ensures asked { command_of (asked_of (codes "cancel") ++ codes "--kill" ∷ codes "1a0" ∷ []) ≡ Some (cancel (codes "http://h") (codes "ana") true (codes "1a0")) }
+    ensures left_out { command_of (asked_of (codes "cancel") ++ codes "1a0" ∷ []) ≡ Some (cancel (codes "http://h") (codes "ana") false (codes "1a0")) }
+{}
+
+/// At most 200 bots are listed.
+pub fn at_most_200_bots_are_listed()
+    ensures most { command_of (asked_of (codes "bots") ++ codes "--pool" ∷ codes "lab" ∷ codes "--limit" ∷ codes "200" ∷ []) ≡ Some (bots (codes "http://h") (codes "ana") (codes "lab") 200) }
+    ensures more { command_of (asked_of (codes "bots") ++ codes "--pool" ∷ codes "lab" ∷ codes "--limit" ∷ codes "201" ∷ []) ≡ None }
+{}
+
+/// A bot has its caches and their bytes by options of their own, and other options by default.
+pub fn caches_and_their_bytes_are_two_options()
+    ensures { command_of (asked_of (codes "bot") ++ codes "--id" ∷ codes "b1" ∷ codes "--pool" ∷ codes "lab" ∷ codes "--caches" ∷ codes "2" ∷ codes "--cache-bytes" ∷ codes "1000000" ∷ []) ≡ Some (bot small_bot) }
+{}
+
+/// Words that the grammar doesn't take ask for no command.
+pub fn other_words_ask_for_nothing()
+    ensures no_words { command_of [] ≡ None }
+    ensures no_command { command_of (codes "run" ∷ []) ≡ None }
+    ensures no_option { command_of (codes "session" ∷ codes "--speed" ∷ codes "2" ∷ []) ≡ None }
+{}

@@ -1,0 +1,24 @@
+//! What a client makes of replies, as facts that the check computes.
+ghost use Rattle.std.specs.Prelude.{◌≡◌, Some, None, codes};
+ghost use Rattle.sha2.specs.Sha256.{sha256};
+ghost use Rattle.swarm_model.specs.declared.reply.Reply.TheVariants as reply;
+ghost use Rattle.routes.specs.declared.route.Route.TheVariants as route;
+ghost use Rattle.server_calls.specs.declared.told.Told.TheVariants.{Good};
+ghost use Rattle.server_calls.specs.Reading.{told_of};
+ghost use Rattle.swarm_client.specs.Commands.{pieces_of};
+
+/// The bytes of a blob come with status 200 alone. With another status they are no blob.
+pub fn a_blob_comes_with_status_200()
+    ensures good { told_of route.GetBlob 200 (codes "abc") ≡ Some (Good 0 (reply.Blob (sha256 (codes "abc")) 3) (codes "abc")) }
+    ensures other { told_of route.GetBlob 404 (codes "abc") ≡ None }
+{}
+
+/// An output is asked for in pieces of 65536 bytes, and none is asked for behind its end, nor behind
+/// the 67108864 bytes that an output may have.
+pub fn no_piece_is_asked_for_behind_the_end()
+    ensures empty { pieces_of 0 ≡ 0 }
+    ensures whole { pieces_of 65536 ≡ 1 }
+    ensures part { pieces_of 65537 ≡ 2 }
+    ensures longest { pieces_of 67108864 ≡ 1024 }
+    ensures longer { pieces_of 67108865 ≡ 1024 }
+{}
