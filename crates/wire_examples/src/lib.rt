@@ -5,3 +5,5 @@
 //! by its definition refuses each body that answers otherwise there. No crate of the program
 //! stands on this one.
 #![tactic(auto)]
+
+pub mod open_settings_examples;
