@@ -114,6 +114,12 @@ def query(path, words):
                 os.remove(copy + end)
 
 
+def shown_by_sqlite3(path, words):
+    """What Debian's sqlite3 prints of a query."""
+    done = subprocess.run(["sqlite3", path, words], capture_output=True, timeout=60, check=False)
+    return (done.stdout + done.stderr).decode().strip()
+
+
 def lines_of(path):
     """The kept lines, in the order of their numbers, which have to be 1, 2 and so on."""
     rows = query(path, "SELECT no, text FROM lines ORDER BY no")

@@ -1,4 +1,5 @@
 mod cuts;
+mod links_and_clocks;
 mod records;
 mod turns;
 

@@ -1,0 +1,41 @@
+//! What the contracts of a console and of the system's clock can't say.
+
+use std::io::{self, ErrorKind, Write};
+use std::test::Fail;
+use std::time::SystemTime;
+use sw_base::{Clock, ConsoleLink, Failed, Link, SystemClock};
+
+/// A writer that takes all that it is given, and whose flush fails.
+#[derive(Drop)]
+struct NeverFlushed;
+
+impl Write for NeverFlushed {
+    fn write(&mut self, piece: &[u8]) -> io::Result<usize> {
+        Ok(piece.len())
+    }
+
+    fn flush(&mut self) -> io::Result<()> {
+        Err(io::Error::from(ErrorKind::BrokenPipe))
+    }
+}
+
+#[test]
+fn a_flush_of_the_console_reaches_its_writer(rt: HostRuntime) {
+    let input: &[u8] = b"";
+    let mut link = ConsoleLink::new(input, NeverFlushed);
+    assert_eq!(rt; link.write(b"xyz"), Ok(3));
+    assert_eq!(rt; link.flush(), Err(Failed));
+}
+
+#[test]
+fn the_clock_of_the_system_has_its_seconds(rt: HostRuntime) -> Result<(), Fail> {
+    let mut clock = SystemClock::new(&rt);
+    let before = SystemTime::now(&rt)?.duration_since(SystemTime::UNIX_EPOCH)?;
+    let now = clock.now();
+    let after = SystemTime::now(&rt)?.duration_since(SystemTime::UNIX_EPOCH)?;
+    // 2023-11-14T22:13:20Z, long before this test was written.
+    assert!(rt; before.as_secs() > 1_700_000_000);
+    assert!(rt; before.as_secs() <= now);
+    assert!(rt; now <= after.as_secs());
+    Ok(())
+}
