@@ -24,7 +24,6 @@ pub mod queue_examples;
 pub mod request_examples;
 pub mod route_examples;
 pub mod runner_examples;
-pub mod sorting_examples;
 pub mod store_examples;
 pub mod task_check_examples;
 pub mod word_examples;

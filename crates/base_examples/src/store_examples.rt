@@ -1,24 +1,13 @@
-//! Where contents find their place, as facts that the check computes.
+//! A store of contents at work: which names it holds, and which bytes it takes, as facts that the check computes.
 ghost use Rattle.std.specs.Prelude.{◌≡◌, ◌∷◌, [], Some, None, false};
 ghost use Rattle.sha2.specs.Sha256.{sha256};
 ghost use Rattle.region.specs.Extents.{extent_at};
-ghost use Rattle.region.specs.FreeUnits.{least_extent};
 ghost use Rattle.content_store.specs.declared.held.Held.TheVariants.{Placed, Present, NoNames, NoRoom};
 ghost use Rattle.content_store.specs.declared.filled.Filled.TheVariants.{Done, Differs, Unknown};
 ghost use Rattle.content_store.specs.Contents.{is_held, number_of, bytes_of, without_content};
 ghost use Rattle.content_store.specs.Plain.{hold_result, fill_result, held_after_fill};
 ghost use Rattle.content_store.specs.BlobRows.{put, put_result};
 ghost use Rattle.base_examples.specs.StoreExamples.{name, store_of, holds, no_blobs, short, short_digest, long, long_digest, awaited};
-
-/// The least place is taken at which so many units in a row are free.
-pub fn the_least_place_is_taken()
-    ensures too_many { least_extent [] 4 5 ≡ None }
-    ensures first { least_extent [] 4 1 ≡ Some (extent_at 1 0) }
-    ensures behind { least_extent (extent_at 1 0 ∷ []) 4 2 ≡ Some (extent_at 2 1) }
-    ensures no_room { least_extent (extent_at 1 0 ∷ extent_at 2 1 ∷ []) 4 2 ≡ None }
-    ensures last { least_extent (extent_at 1 0 ∷ extent_at 2 1 ∷ []) 4 1 ≡ Some (extent_at 1 3) }
-    ensures full { least_extent (extent_at 1 0 ∷ extent_at 2 1 ∷ extent_at 1 3 ∷ []) 4 1 ≡ None }
-{}
 
 /// A content takes a unit for each 64 bytes that it begins, and one where it has none.
 pub fn contents_take_whole_units()

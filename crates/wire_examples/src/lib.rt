@@ -12,7 +12,6 @@ pub mod bot_body_examples;
 pub mod bot_request_examples;
 pub mod client_examples;
 pub mod line_examples;
-pub mod open_settings_examples;
 pub mod reply_examples;
 pub mod settings_examples;
 pub mod task_body_examples;

@@ -1,18 +1,23 @@
 //! The rules of the settings at work.
-ghost use Rattle.std.specs.Prelude.{◌≡◌, [], ◌∷◌, Some, Ok, Err, codes};
+ghost use Rattle.std.specs.Prelude.{◌≡◌, [], ◌∷◌, Some, Ok, Err, map, true, codes};
 ghost use Rattle.toml.specs.Data.{string, member, no_members};
 ghost use Rattle.swarm_model.specs.declared.permission.Permission.TheVariants.{CreateTask, CancelTask, ListTasks, ListBots, TerminateBot, RunBot, UseBlobs};
 ghost use Rattle.swarm_model.specs.Examples.{settings};
+ghost use Rattle.swarm_model.specs.Settings.{permits};
 ghost use Rattle.swarm_policy.specs.declared.settings_fault.SettingsFault.TheVariants.{Broken};
 ghost use Rattle.swarm_policy.specs.declared.settings_rule.SettingsRule.TheVariants.{Unknown, Grammar, Repeated};
 ghost use Rattle.swarm_policy.specs.Documents.{settings_in};
 ghost use Rattle.swarm_policy.specs.Grants.{permission_of};
-ghost use Rattle.swarm_policy.specs.Open.{open_pool};
+ghost use Rattle.swarm_policy.specs.Open.{open_settings};
 ghost use Rattle.swarm_policy.specs.Pools.{name_in};
 
-/// Without a file of settings every caller has every permission.
-pub fn the_open_pool_lets_everyone_do_everything()
-    ensures { open_pool.grants ≡ (record { caller = codes "*"; permissions = CreateTask ∷ CancelTask ∷ ListTasks ∷ ListBots ∷ TerminateBot ∷ RunBot ∷ UseBlobs ∷ [] }) ∷ [] }
+/// Without a file of settings there is one pool, `default`, of 262144 tasks, in which every caller
+/// has every permission.
+pub fn one_pool_for_everyone()
+    ensures name { map (λ pool. pool.name) open_settings.pools ≡ codes "default" ∷ [] }
+    ensures tasks { map (λ pool. pool.most_tasks) open_settings.pools ≡ 262144 ∷ [] }
+    ensures grants { map (λ pool. pool.grants) open_settings.pools ≡ ((record { caller = codes "*"; permissions = CreateTask ∷ CancelTask ∷ ListTasks ∷ ListBots ∷ TerminateBot ∷ RunBot ∷ UseBlobs ∷ [] }) ∷ []) ∷ [] }
+    ensures everyone { map (λ pool. permits pool (codes "ana") UseBlobs) open_settings.pools ≡ true ∷ [] }
 {}
 
 /// A key that isn't listed is refused, whatever its value.
