@@ -1,9 +1,11 @@
-//! What the contracts of a console and of the system's clock can't say.
+//! What the contracts of a console and of the system's clock can't say, and what only tests ask of a
+//! link in memory.
 
+use std::alloc::AllocError;
 use std::io::{self, ErrorKind, Write};
 use std::test::Fail;
 use std::time::SystemTime;
-use sw_base::{Clock, ConsoleLink, Failed, Link, SystemClock};
+use sw_base::{Clock, ConsoleLink, Failed, Link, MemoryLink, SystemClock};
 
 /// A writer that takes all that it is given, and whose flush fails.
 #[derive(Drop)]
@@ -25,6 +27,17 @@ fn a_flush_of_the_console_reaches_its_writer(rt: HostRuntime) {
     let mut link = ConsoleLink::new(input, NeverFlushed);
     assert_eq!(rt; link.write(b"xyz"), Ok(3));
     assert_eq!(rt; link.flush(), Err(Failed));
+}
+
+#[test]
+fn memory_has_flushed_what_was_written_before(rt: HostRuntime) -> Result<(), AllocError> {
+    let alloc = rt.alloc();
+    let mut link = MemoryLink::new(alloc, Vec::new(alloc), 2, Vec::new(alloc));
+    assert_eq!(rt; link.write(b"xyz"), Ok(2));
+    assert_eq!(rt; link.flushed_output(), b"".as_slice());
+    assert_eq!(rt; link.flush(), Ok(()));
+    assert_eq!(rt; link.flushed_output(), b"xy".as_slice());
+    Ok(())
 }
 
 #[test]
