@@ -1,10 +1,11 @@
 -- The line is the entry's, and the blobs change as those of the machine will.
-use Rattle.std.proofs.Common.{ap, sym, subst, ◌∙◌, Option}
+use Rattle.std.proofs.Common.{arith, ap, sym, subst, ◌∙◌, Option}
+use Rattle.std.proofs.lemmas.Grind.{common_steps}
 use Rattle.std.specs.Option.{option_map}
 use Rattle.entry_lines.specs.Lines.{entry_of_line}
 use Rattle.swarm_keeper.specs.Tables.{Tables}
 use Rattle.swarm_history.specs.Records.{KeepsEntry}
-use Rattle.swarm_history.proofs.Keeping.{content_is, keeps_entry, untold}
+use Rattle.swarm_history.proofs.Keeping.{content_is, keeps_entry}
 use Rattle.swarm_history.proofs.adding.keep.Goals as goal
 
 pub returns-in-Ok-append-clause-keeps : goal.returns-in-Ok-append-clause-keeps
@@ -17,3 +18,6 @@ returns-in-Ok-append-clause-keeps g c =
     (ap entry_of_line c.as_str.ensures ∙ c.in-Ok.ensures.reads_back)
     (content_is c.args.bytes _ c.unwrap_or-content.result c.unwrap_or-content.ensures)
     c.added_digest-added.ensures c.dropped_digest-dropped.ensures)
+
+pub returns-in-Err-Memory-clause-failed : goal.returns-in-Err-Memory-clause-failed
+returns-in-Err-Memory-clause-failed g c = grind (arith, common_steps)
