@@ -1,6 +1,6 @@
-use Rattle.std.proofs.Common.{◌+◌, take, sym, subst}
+use Rattle.std.proofs.Common.{◌+◌, take, sym, subst, arith}
 use Rattle.bot_turns.specs.Outputs.{UploadsOutput, UploadsAll}
-use Rattle.bot_turns.proofs.UploadLemmas.{uploaded_at}
+use Rattle.bot_turns.proofs.UploadLemmas.{uploaded_at, ended_at}
 use Rattle.bot_turns.proofs.outputs.upload_all.Goals as goal
 
 pub loop-path-preserved : goal.loop-path-preserved
@@ -11,3 +11,6 @@ loop-path-preserved g c =
     (g.R.Runner.state c.args.runner.now) (g.R.Runner.state c.loop-path.runner) (g.R.Runner.state c.upload_output.new.runner)
     c.loop-path-test.true c.path-item.is c.loop-path.invariant
     (subst (λ r. UploadsOutput c.args.hands.now c.path-item.result r (g.W.Dialer.state c.loop-path.dialer) (g.W.Dialer.state c.upload_output.new.dialer) (g.R.Runner.state c.loop-path.runner) (g.R.Runner.state c.upload_output.new.runner)) c.in-Ok.is c.in_ok-file.ensures))
+
+pub returns-in-Err : goal.returns-in-Err
+returns-in-Err g c = grind (arith, uploaded_at, ended_at)

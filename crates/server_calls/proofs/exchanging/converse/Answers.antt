@@ -1,4 +1,5 @@
-use Rattle.std.proofs.Common.{◌≡◌, Some, None, [], rules, sym, ◌∙◌}
+use Rattle.std.proofs.Common.{◌≡◌, Some, None, [], rules, sym, ◌∙◌, arith}
+use Rattle.std.proofs.lemmas.Grind.{common_steps}
 use Rattle.server_calls.specs.Reading.{told_of}
 use Rattle.server_calls.proofs.ExchangeLemmas.{talks, told_this, told_nothing, no_reply_tells, one_tells_nothing}
 use Rattle.server_calls.proofs.exchanging.converse.Goals as goal
@@ -33,3 +34,6 @@ returns-in-Ok-NoReply g c =
     let quiet : (g.L.Link.state c.send_flushed.new.link).write_faults ≡ (g.L.Link.state c.args.link.now).write_faults = search rules in
     told_nothing c.args.route (talks k.written all quiet r.takes.moves r.takes.output r.takes.faults)
     (no_reply_tells c.args.route (g.L.Link.state c.receive_reply.new.link).left r.taken h.1)
+
+pub returns-in-Ok-Memory : goal.returns-in-Ok-Memory
+returns-in-Ok-Memory g c = grind (arith, common_steps)
