@@ -1,7 +1,6 @@
 -- A pass at rest, and a pass in its turn, from the view of its seat.
 use Rattle.std.proofs.Common.{◌^◌, map, ◌≡◌, ℕ, ◌+◌, ◌∷◌, ◌++◌, ◌==◌, if◌then◌else◌, length-append, ◌<◌, ◌≤◌, true, false, List, [], length, sym, ap, ◌∙◌, subst, arith}
-use Rattle.atomic_table.specs.Table.{Me, rest}
-use Rattle.turnstile.specs.Lending.{pass_with}
+use Rattle.atomic_table.specs.Table.{Me}
 use Rattle.turnstile.specs.declared.view.View.{View}
 use Rattle.turnstile.specs.declared.pass.Pass.{Pass}
 use Rattle.turnstile.specs.declared.turn.Turn.{Turn}
@@ -92,8 +91,3 @@ module _ {V I F : Type 0} where
 
   pub own_listed : (p : Pass V I F) → Tallies p → 0 < times p.seat.me.0.number p.seat.me.0.numbers
   own_listed p t = subst (λ n. 0 < times n p.seat.me.0.numbers) (sym t.number) t.listed
-
-module _ {V I F : Type 0} where
-  -- a pass through which nothing was written to its value
-  pub with_same : (p : Pass V I F) (x : V) → p.seat.me.1 ≡ (0, x) ∷ [] → pass_with p x ≡ p
-  with_same p x is = ap (λ (cs : List (ℕ × V)). record p { seat = record (p.seat) { me = (p.seat.me.0, cs) } }) (ap (λ (cs : List (ℕ × V)). (0, x) ∷ rest cs) is ∙ sym is)

@@ -72,33 +72,6 @@ module _ {V I F : Type 0} where
     pub first : map fixed p.seat.me.0.first ≡ fixed t.table.shared.key.value ∷ []
     pub tallies : Tallies p
 
-  -- the pass that took the turn
-  abbrev pub pass_of : Turn V I F → Pass V I F
-  pass_of t = t.pass
-
-  -- the log as far as the turn has raised it
-  abbrev pub raised : Turn V I F → List I
-  raised t = seen t.pass
-
-  -- the value that is with the turn
-  abbrev pub Holds : Turn V I F → V → Type 0
-  Holds t x = Carries t.pass x
-
-  -- what f gives of the value that is with the turn
-  abbrev pub of_value : {A : Type 0} → (V → A) → A → Turn V I F → A
-  of_value f other t = first_of f other t.pass.seat.me.1
-
-  -- its pass has the ticket that is served
-  pub record IsTurn (fixed : V → F) (t : Turn V I F) : Type 0 where
-    pub table : IsFrom t.lock.now t.pass
-    pub has_ticket : t.pass.seat.me.0.has_ticket ≡ true
-    pub has_turn : t.pass.seat.me.0.has_turn ≡ true
-    pub no_halves : t.pass.seat.me.0.halves ≡ []
-    pub first : map fixed t.pass.seat.me.0.first ≡ fixed t.lock.now.table.shared.key.value ∷ []
-    pub ticket : t.pass.seat.me.0.ticket ≡ t.ticket
-    pub fits : t.ticket < 2 ^ 46
-    pub tallies : Tallies t.pass
-
   -- the log that the turnstile was made with, where `log` gives a value's log
   abbrev pub opening : (V → List I) → Turnstile V I F → List I
   opening log t = log t.table.shared.key.value
@@ -106,3 +79,38 @@ module _ {V I F : Type 0} where
   -- what never changes of its value, where `fixed` gives that of a value
   abbrev pub fixed_of : (V → F) → Turnstile V I F → F
   fixed_of fixed t = fixed t.table.shared.key.value
+
+  -- the turnstile at which a turn was taken
+  abbrev pub lock_of : Turn V I F → Turnstile V I F
+  lock_of t = t.lock.now
+
+  -- the pass that took it
+  abbrev pub pass_of : Turn V I F → Pass V I F
+  pass_of t = t.pass
+
+  -- the log as far as the turn has raised it
+  abbrev pub raised : Turn V I F → List I
+  raised t = seen (pass_of t)
+
+  -- the value that is with the turn
+  abbrev pub Holds : Turn V I F → V → Type 0
+  Holds t x = Carries (pass_of t) x
+
+  -- what f gives of that value
+  abbrev pub of_value : {A : Type 0} → (V → A) → A → Turn V I F → A
+  of_value f other t = first_of f other t.pass.seat.me.1
+
+  -- nothing of the value's log is left to raise
+  abbrev pub IsRaised : (V → List I) → (V → F) → Turn V I F → Type 0
+  IsRaised log fixed t = (x : V) × Holds t x × (log x ≡ raised t) × (fixed x ≡ fixed_of fixed (lock_of t))
+
+  -- its pass has the ticket that is served
+  pub record IsTurn (fixed : V → F) (t : Turn V I F) : Type 0 where
+    pub table : IsFrom (lock_of t) (pass_of t)
+    pub has_ticket : t.pass.seat.me.0.has_ticket ≡ true
+    pub has_turn : t.pass.seat.me.0.has_turn ≡ true
+    pub no_halves : t.pass.seat.me.0.halves ≡ []
+    pub first : map fixed t.pass.seat.me.0.first ≡ fixed_of fixed (lock_of t) ∷ []
+    pub ticket : t.pass.seat.me.0.ticket ≡ t.ticket
+    pub fits : t.ticket < 2 ^ 46
+    pub tallies : Tallies (pass_of t)

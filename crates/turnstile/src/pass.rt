@@ -26,9 +26,8 @@ impl<V: Counted> Pass<V> {
     ghost use Rattle.turnstile.specs.contracts.pass.Pass.{the_row};
     ghost use Rattle.turnstile.specs.Lending.{pass_with};
 
-    /// The value, while this pass has its turn, as `turn.pass.value(turn.lock)`. An entry that is
-    /// written to its log isn't counted before `Turn::raise`.
-    pub fn value<'b>(&'b mut self, lock: &'b Turnstile<V>) -> &'b mut V
+    /// The value, while this pass has its turn.
+    pub(crate) fn value<'b>(&'b mut self, lock: &'b Turnstile<V>) -> &'b mut V
         requires own { IsFrom lock.now self.old }
         requires value { (x : V) × Carries self.old x }
         ensures* writes_back { sem 𝓛 (follows (the_row V.row V.Item.row V.Fixed.row) V.row self.entry.ghost_name result.ghost_name (pass_with self.old)) }

@@ -11,6 +11,7 @@ use atomic_table::{Refused, Seat, Table};
 use std::alloc::{AllocError, Global};
 use std::array;
 use std::hint::spin_loop;
+use std::marker::PhantomData;
 use std::snapshot::Snapshot;
 use std::sync::Wait;
 use std::thread::Parker;
@@ -37,7 +38,7 @@ impl<V: Counted> Turnstile<V> {
     ghost use mathlib.Core.List.{IsPrefix};
     ghost use Rattle.turnstile.specs.Numbers.{times, once_below, own, Continues, Adds};
     ghost use Rattle.turnstile.specs.Steps.{with_turn, Finds};
-    ghost use Rattle.turnstile.specs.Passes.{IsPassOf, IsTurn, IsAlone, HasNumbersOf, Holds, opening, fixed_of, pass_of, raised, seen, number, numbers, made, told, turns};
+    ghost use Rattle.turnstile.specs.Passes.{IsPassOf, IsTurn, IsRaised, IsAlone, HasNumbersOf, opening, fixed_of, lock_of, pass_of, raised, seen, number, numbers, made, told, turns};
 
     /// A turnstile round the value, and its first pass.
     ///
@@ -118,8 +119,8 @@ impl<V: Counted> Turnstile<V> {
         requires own { IsPassOf V.fixed self.now pass }
         requires turns { turns pass < 2 ^ 40 }
         ensures turn { IsTurn V.fixed result }
-        ensures lock { result.lock.now ≡ self.now }
-        ensures value { (x : V) × Holds result x × (V.log x ≡ raised result) × (V.fixed x ≡ fixed_of V.fixed self.now) }
+        ensures lock { lock_of result ≡ self.now }
+        ensures value { IsRaised V.log V.fixed result }
 
         // All that the pass had seen, and then no entry of its own.
         ensures found { Continues V.by (number pass) (seen pass) (raised result) }
@@ -148,6 +149,7 @@ impl<V: Counted> Turnstile<V> {
             lock: self,
             pass,
             ticket,
+            lends: PhantomData,
         }
     }
 
