@@ -1,8 +1,8 @@
 -- A turn, after a write to the value that is with it.
-use Rattle.std.proofs.Common.{◌≡◌, ℕ, List, [], ◌∷◌, sym, ap, ◌∙◌}
+use Rattle.std.proofs.Common.{◌≡◌, ℕ, List, ◌∷◌, sym, ap, ◌∙◌}
 use Rattle.atomic_table.specs.Table.{rest}
 use Rattle.turnstile.specs.declared.turn.Turn.{Turn}
-use Rattle.turnstile.specs.Lending.{pass_with, turn_with}
+use Rattle.turnstile.specs.Lending.{turn_with}
 use Rattle.turnstile.specs.Passes.{IsTurn, Holds, first_of}
 
 module _ {V I F : Type 0} where

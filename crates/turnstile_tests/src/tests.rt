@@ -1,4 +1,4 @@
-use crate::{Journal, add_in_two};
+use crate::{Journal, add_in_two, write_one};
 use std::test::Fail;
 use turnstile::Turnstile;
 
@@ -27,19 +27,14 @@ fn a_front_waits_for_nobody(rt: HostRuntime) -> Result<(), Fail> {
     let (lock, pass) = Turnstile::new(rt.alloc(), Journal::new(rt.alloc(), 7))?;
     let (mut one, two) = lock.split(pass);
 
-    // While the other has its turn, and before and after it raises an item.
+    // While the other has its turn, before and after it raises an item, and once it has left.
     let mut turn = lock.enter(&rt, two);
     let before = lock.front(&mut one);
-    let number = turn.number();
-    if turn.value().write(number, 0).is_err() {
-        panic!(rt; "there is room")
-    }
-    let unraised = lock.front(&mut one);
-    turn.raise();
+    assert!(rt; write_one(&mut turn, 0).is_ok(), "there is room");
     let raised = lock.front(&mut one);
     let two = turn.leave();
     let left = lock.front(&mut one);
-    assert!(rt; before == 0 && unraised == 0 && raised == 1 && left == 1);
+    assert!(rt; before == 0 && raised == 1 && left == 1);
 
     // The turnstile is closed once the passes are joined, and not before.
     match lock.close(one) {

@@ -1,5 +1,5 @@
 -- The item is written and raised, or the journal stays.
-use Rattle.std.proofs.Common.{[], ◌∷◌, ◌++◌, length, refl, sym, ap, ◌∙◌, arith}
+use Rattle.std.proofs.Common.{[], ◌∷◌, ◌++◌, length, sym, ap, ◌∙◌, arith}
 use Rattle.turnstile.specs.Passes.{fixed_of}
 use Rattle.turnstile.proofs.Lending.{IsTurn-turn_with, Holds-turn_with, Holds-one}
 use Rattle.turnstile_tests.specs.declared.journal.Journal.{Journal}
