@@ -39,9 +39,9 @@ module _ {F : Type 0} where
   one_of f (g ∷ gs) = g
 
   -- a list has one first
-  pub settings : (key : F) (named : List F) → named ≡ key ∷ [] → (y b : F) → y ≡ key → named ≡ b ∷ [] → y ≡ b
+  pub same_first : (key : F) (named : List F) → named ≡ key ∷ [] → (y b : F) → y ≡ key → named ≡ b ∷ [] → y ≡ b
   unfolding one_of
-  settings key named is y b same names = same ∙ ap (one_of y) (sym is ∙ names)
+  same_first key named is y b same names = same ∙ ap (one_of y) (sym is ∙ names)
 
 module _ {V I : Type 0} (log : V → List I) (by : I → ℕ) (Same : V → Type 0) (start : List I) where
   -- a state of these parts

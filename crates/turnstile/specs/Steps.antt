@@ -89,9 +89,13 @@ module _ {V I : Type 0} where
   abbrev pub DrawsTicket : Step V → Me V (View V I) → ℕ → Me V (View V I) → Type 0
   DrawsTicket st m r m' = (m' ≡ (with_ticket r m.0, m.1)) × (r < 2 ^ 46)
 
-  -- where its own ticket is served, the value is with it
+  -- the value is with the view, which sees its whole log
+  abbrev pub GetsTurn : {F : Type 0} → (V → List I) → (I → ℕ) → (V → F) → Me V (View V I) → Me V (View V I) → Type 0
+  GetsTurn {F = F} log by fixed m m' = (x : V) × (m' ≡ (with_turn (log x) m.0, (0, x) ∷ m.1)) × Finds by m.0 (log x) × ((b : F) → map fixed m.0.first ≡ b ∷ [] → fixed x ≡ b)
+
+  -- it does where its own ticket is served, and else nothing changes
   abbrev pub LooksForTurn : {F : Type 0} → (V → List I) → (I → ℕ) → (V → F) → Step V → Me V (View V I) → ℕ → Me V (View V I) → Type 0
-  LooksForTurn {F = F} log by fixed st m r m' = (r ≡ m.0.ticket → (x : V) × (m' ≡ (with_turn (log x) m.0, (0, x) ∷ m.1)) × Finds by m.0 (log x) × ((b : F) → map fixed m.0.first ≡ b ∷ [] → fixed x ≡ b)) × (r ≢ m.0.ticket → m' ≡ m)
+  LooksForTurn log by fixed st m r m' = (r ≡ m.0.ticket → GetsTurn log by fixed m m') × (r ≢ m.0.ticket → m' ≡ m)
 
   -- the view sees the log of the value that is with it
   abbrev pub RaisesCount : (V → List I) → Step V → Me V (View V I) → ℕ → Me V (View V I) → Type 0
