@@ -32,6 +32,15 @@ pub entry_carried : (s : PoolState) (who : List ℕ) (moment pass : ℕ) (reques
 entry_carried s who moment pass request bytes entry is carries =
     of_kind moment pass bytes entry (decide s who moment request).entry (λ k adds. brings_carried s who moment request bytes k adds carries) is
 
+pass_of_kind : (moment pass : ℕ) (entry : Entry) (o : Option EntryKind) → option_map (entry_at moment pass) o ≡ Some entry → entry.pass ≡ pass
+pass_of_kind moment pass entry None is = absurd (cc (is))
+pass_of_kind moment pass entry (Some k) is = sym (ap (λ (e : Entry). e.pass) (same_Some _ _ is))
+
+-- an answer's entry bears the number of the pass that asked
+pub answer_bears : (s : PoolState) (who : List ℕ) (moment pass : ℕ) (request : Request) (entry : Entry)
+    → (answer s who moment pass request).entry ≡ Some entry → entry.pass ≡ pass
+answer_bears s who moment pass request entry is = pass_of_kind moment pass entry (decide s who moment request).entry is
+
 -- an entry that places no blob needs no bytes
 pub none_new : {P : Type 0} (s : PoolState) (k : EntryKind) → new_digest s k ≡ None → IsTrue (is_some (new_digest s k)) → P
 none_new s k none new = absurd (false≢true (sym (ap is_some none) ∙ new))

@@ -2,13 +2,13 @@
 use Rattle.std.proofs.Common.{◌≡◌, ◌++◌, ℕ, ◌+◌, ◌==◌, not, Bool, true, false, cond, List, [], ◌∷◌, map, filter, Option, None, Some, IsTrue, is_some, is_none, refl, ap, sym, subst, ◌∙◌}
 use Rattle.std.specs.List.{All, find}
 use Rattle.std.specs.Option.{option_map, option_and_then}
-use Rattle.std.proofs.lemmas.Bool.{both_ways, not-true, false≢true, true≢false}
+use Rattle.std.proofs.lemmas.Bool.{not-true, false≢true, true≢false}
 use Rattle.std.proofs.lemmas.List.Sums.{fold-append}
 use Rattle.std.proofs.lemmas.List.Elements.{All-push, All-filter, All-weaker}
 use Rattle.dimensions.specs.Alike.{same}
 use Rattle.dimensions.specs.Choosing.{when}
 use Rattle.content_store.specs.declared.blob_row.BlobRow.{BlobRow}
-use Rattle.content_store.specs.BlobRows.{has_digest, is_blob, is_other as is_other_row, renewed, renewed_until, longer_kept, new_blob, place_for}
+use Rattle.content_store.specs.BlobRows.{has_digest, is_blob, is_other as is_other_row, renewed, new_blob, place_for}
 use Rattle.swarm_keeper.specs.Tables.{Tables, is_other, without, with_blob, appended}
 use Rattle.swarm_laws.proofs.Alike.{same_is, is_same, same_self}
 use Rattle.swarm_laws.proofs.BlobChanges.{after_place, after_put, has_place, update_takes}

@@ -95,6 +95,7 @@ fn keep<M: Machine, K: Keeper>(
     ensures not_full { IfErr result (λ f. is_log_full f ≡ false) }
     ensures grows { K.faults keeper.old ≤ K.faults keeper.new }
     ensures failed { IsErrOf result CallFault.Keeper → Rose (K.faults keeper.old) (K.faults keeper.new) }
+    ensures sure { IsTrue K.SURE → ¬ IsErrOf result CallFault.Keeper }
 {
     if K::SURE {
         return Ok(());
@@ -114,7 +115,7 @@ fn keep<M: Machine, K: Keeper>(
 
 /// Adds an entry, with the bytes that it brings, once its line is kept. Where it stops, the log and
 /// the records stay.
-pub(crate) fn add<M: Machine, K: Keeper>(
+pub fn add_entry<M: Machine, K: Keeper>(
     alloc: Global,
     machine: &mut M,
     keeper: &mut K,
@@ -135,6 +136,7 @@ pub(crate) fn add<M: Machine, K: Keeper>(
     ensures full { IsErrOf result CallFault.LogFull ↔ (has_room (M.kept machine.old).pool.settings (M.kept machine.old).log entry ≡ false) }
     ensures grows { K.faults keeper.old ≤ K.faults keeper.new }
     ensures failed { IsErrOf result CallFault.Keeper → Rose (K.faults keeper.old) (K.faults keeper.new) }
+    ensures sure { IsTrue K.SURE → ¬ IsErrOf result CallFault.Keeper }
 {
     match machine.reserve(&entry) {
         Ok(()) => {}

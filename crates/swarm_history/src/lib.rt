@@ -8,6 +8,9 @@
 //! keeper tells its records, their lines are those of the log, and the blobs of the pool have their
 //! bytes in them (`specs/Records.antt`).
 //!
+//! What a call does at its point stands in [`serve`], over a [`Desk`]: settling, answering, and keeping
+//! what is added. A door whose machines are shared with others has a desk of its own.
+//!
 //! The door holds the bytes of each blob of its pools: those of a request are handed on with the
 //! entry that brings them, and those of the blobs that a reply names are copied before the answer's
 //! entry is added. The crate is generic over [`Machine`](swarm_model::Machine) and
@@ -15,12 +18,18 @@
 #![tactic(auto)]
 
 mod adding;
+mod desk;
 mod load_fault;
 mod loading;
 mod pieces;
+mod plain_desk;
 mod plain_door;
 mod serving;
 mod settling;
 
+pub use adding::add_entry;
+pub use desk::Desk;
 pub use load_fault::LoadFault;
+pub use pieces::pieces_of;
 pub use plain_door::PlainDoor;
+pub use serving::serve;

@@ -40,7 +40,7 @@ fn pieces_of_parts<M: Machine>(
 }
 
 /// Copies of the blobs that a reply names, in their order.
-pub(crate) fn pieces_of<M: Machine>(
+pub fn pieces_of<M: Machine>(
     alloc: Global,
     machine: &M,
     reply: &Reply,

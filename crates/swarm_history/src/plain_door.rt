@@ -13,6 +13,7 @@ ghost use Rattle.swarm_history.specs.OneProof.{are_records_one};
 
 use crate::LoadFault;
 use crate::loading::load_machines;
+use crate::plain_desk::PlainDesk;
 use crate::serving::serve;
 use dimensions::{Text, TryCopy};
 use std::alloc::Global;
@@ -61,9 +62,13 @@ fn call_machine<M: Machine, K: Keeper>(
     ensures grows { K.faults keeper.old ≤ K.faults keeper.new }
     ensures failed { CountsKeeper result (K.faults keeper.old) (K.faults keeper.new) }
 {
-    serve(
-        alloc, machine, keeper, 0, moment, after, who, request, bytes,
-    )
+    let mut desk = PlainDesk { machine, keeper };
+    let result = serve(alloc, &mut desk, moment, after, who, request, bytes);
+    let PlainDesk {
+        machine: _,
+        keeper: _,
+    } = desk;
+    result
 }
 
 impl<M: Machine + Drop, K: Keeper + Drop> PlainDoor<M, K> {

@@ -2,44 +2,35 @@ ghost use Rattle.std.specs.Prelude.{◌≡◌, ◌≤◌, ◌^◌, None, OnOk, I
 ghost use Rattle.std.specs.Bool.{OnTrue};
 ghost use Rattle.sw_base.specs.Faults.{Rose};
 ghost use Rattle.swarm_model.specs.Deadlines.{due_entry};
-ghost use Rattle.swarm_model.specs.MachineState.{IsHistory, AreHeld};
+ghost use Rattle.swarm_model.specs.MachineState.{IsHistory};
 ghost use Rattle.swarm_model.specs.Points.{LacksRoom};
 ghost use Rattle.swarm_door.specs.Doors.{is_log_full};
-ghost use Rattle.swarm_history.specs.Records.{AreTold, HoldsNoOthers};
+ghost use Rattle.swarm_history.specs.Records.{HoldsNoOthers};
 ghost use Rattle.swarm_history.specs.Settling.{Settles};
 
-use crate::adding::add;
-use pool_loading::due_uncounted;
+use crate::desk::Desk;
 use std::alloc::Global;
 use swarm_door::CallFault;
-use swarm_keeper::Keeper;
-use swarm_model::Machine;
 
 /// Adds the entry of each deadline that has come by the moment, one after another. Where it
 /// stops, those that were added stay.
-pub(crate) fn settle<M: Machine, K: Keeper>(
-    alloc: Global,
-    machine: &mut M,
-    keeper: &mut K,
-    pass: u32,
-    moment: u64,
-) -> Result<(), CallFault>
-    requires history { IsHistory (M.kept machine.old) }
-    requires held { AreHeld (M.kept machine.old) }
-    requires records { AreTold (K.tables keeper.old) (M.kept machine.old) }
-    requires not_before { (M.kept machine.old).pool.last ≤ moment }
+pub(crate) fn settle<D: Desk>(alloc: Global, desk: &mut D, moment: u64) -> Result<(), CallFault>
+    requires ready { D.ready desk.old }
+    requires history { IsHistory (D.kept desk.old) }
+    requires not_before { (D.kept desk.old).pool.last ≤ moment }
     requires not_late { moment ≤ 2 ^ 40 }
-    ensures held { AreHeld (M.kept machine.new) }
-    ensures records { AreTold (K.tables keeper.new) (M.kept machine.new) }
-    ensures no_other_blobs { HoldsNoOthers (K.tables keeper.old) (M.kept machine.old) → HoldsNoOthers (K.tables keeper.new) (M.kept machine.new) }
-    ensures settles { Settles pass moment (M.kept machine.old) (M.kept machine.new) }
-    ensures nothing_due { OnOk result (due_entry (M.kept machine.new).pool moment pass ≡ None) }
-    ensures full { IfErr result (λ f. OnTrue (is_log_full f) (LacksRoom (M.kept machine.new).pool (M.kept machine.new).log (due_entry (M.kept machine.new).pool moment pass))) }
-    ensures grows { K.faults keeper.old ≤ K.faults keeper.new }
-    ensures failed { IsErrOf result CallFault.Keeper → Rose (K.faults keeper.old) (K.faults keeper.new) }
+    ensures ready { D.ready desk.new }
+    ensures no_other_blobs { HoldsNoOthers (D.records desk.old) (D.kept desk.old) → HoldsNoOthers (D.records desk.new) (D.kept desk.new) }
+    ensures settles { Settles (D.number desk.old) moment (D.kept desk.old) (D.kept desk.new) }
+    ensures nothing_due { OnOk result (due_entry (D.kept desk.new).pool moment (D.number desk.old) ≡ None) }
+    ensures full { IfErr result (λ f. OnTrue (is_log_full f) (LacksRoom (D.kept desk.new).pool (D.kept desk.new).log (due_entry (D.kept desk.new).pool moment (D.number desk.old)))) }
+    ensures grows { D.faults desk.old ≤ D.faults desk.new }
+    ensures failed { IsErrOf result CallFault.Keeper → Rose (D.faults desk.old) (D.faults desk.new) }
+    ensures number { D.number desk.new ≡ D.number desk.old }
+    ensures rest { D.rest desk.new ≡ D.rest desk.old }
 {
-    while let Some(entry) = due_uncounted(machine, moment, pass) {
-        add(alloc, machine, keeper, entry, None)?;
+    while let Some(entry) = desk.due(moment) {
+        desk.add(alloc, entry, None)?;
     }
     Ok(())
 }

@@ -1,9 +1,8 @@
 -- The line is the entry's, and the blobs change as those of the machine will.
-use Rattle.std.proofs.Common.{arith, ap, sym, subst, ◌∙◌, Option}
+use Rattle.std.proofs.Common.{arith, ap, sym, subst, ◌∙◌}
 use Rattle.std.proofs.lemmas.Grind.{common_steps}
 use Rattle.std.specs.Option.{option_map}
 use Rattle.entry_lines.specs.Lines.{entry_of_line}
-use Rattle.swarm_keeper.specs.Tables.{Tables}
 use Rattle.swarm_history.specs.Records.{KeepsEntry}
 use Rattle.swarm_history.proofs.Keeping.{content_is, keeps_entry}
 use Rattle.swarm_history.proofs.adding.keep.Goals as goal

@@ -2,7 +2,7 @@
 use Rattle.swarm_history.proofs.Additions.{adds_from, adds_held, adds_records, adds_no_others}
 use Rattle.swarm_history.proofs.OwnPoints.{sound_history}
 use Rattle.swarm_history.proofs.Bringing.{still_some}
-use Rattle.swarm_history.proofs.adding.add.Goals as goal
+use Rattle.swarm_history.proofs.adding.add_entry.Goals as goal
 
 pub returns-clause-added : goal.returns-clause-added
 returns-clause-added g c = adds_from _ _ _ _ _ c.in-Ok.ensures.ok c.commit.ensures.added c.length-length.ensures.history

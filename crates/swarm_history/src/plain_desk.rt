@@ -1,0 +1,59 @@
+use crate::adding::add_entry;
+use crate::desk::Desk;
+use crate::pieces::pieces_of;
+use dimensions::{Seq, Text};
+use pool_loading::{answer_uncounted, due_uncounted};
+use std::alloc::{AllocError, Global};
+use swarm_door::CallFault;
+use swarm_keeper::Keeper;
+use swarm_model::{Answer, Entry, Machine, Reply, Request};
+
+/// A machine and a keeper that no other writes to. Its entries bear the number 0.
+pub(crate) struct PlainDesk<'a, M: Machine, K: Keeper> {
+    pub(crate) machine: &'a mut M,
+    pub(crate) keeper: &'a mut K,
+}
+
+impl<'a, M: Machine, K: Keeper> Desk for PlainDesk<'a, M, K> {
+    ghost use Rattle.swarm_model.specs.MachineState.{AreHeld};
+    ghost use Rattle.swarm_history.specs.Records.{AreTold};
+
+    /// The names of the two references.
+    type Rest = (u64, u64);
+
+    ghost ready = { λ d. AreHeld (M.kept d.machine.now) × AreTold (K.tables d.keeper.now) (M.kept d.machine.now) };
+
+    ghost kept = { λ d. M.kept d.machine.now };
+
+    ghost records = { λ d. K.tables d.keeper.now };
+
+    ghost faults = { λ d. K.faults d.keeper.now };
+
+    ghost number = { λ d. 0 };
+
+    ghost rest = { λ d. (d.machine.ghost_name, d.keeper.ghost_name) };
+
+    fn length(&mut self) -> u64 {
+        self.machine.length()
+    }
+
+    fn last(&mut self) -> u64 {
+        self.machine.last()
+    }
+
+    fn due(&mut self, moment: u64) -> Option<Entry> {
+        due_uncounted(self.machine, moment, 0)
+    }
+
+    fn answer(&mut self, who: &Text, moment: u64, request: &Request) -> Result<Answer, AllocError> {
+        answer_uncounted(self.machine, who, moment, 0, request)
+    }
+
+    fn pieces(&mut self, alloc: Global, reply: &Reply) -> Result<Seq<Seq<u8>>, AllocError> {
+        pieces_of(alloc, self.machine, reply)
+    }
+
+    fn add(&mut self, alloc: Global, entry: Entry, bytes: Option<&[u8]>) -> Result<(), CallFault> {
+        add_entry(alloc, self.machine, self.keeper, entry, bytes)
+    }
+}
