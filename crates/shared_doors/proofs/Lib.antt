@@ -1,0 +1,4 @@
+pub mod ByPlace
+pub mod Joining
+pub mod LastPools
+pub mod OpenPools

@@ -1,0 +1,4 @@
+pub mod Lasting
+pub mod Views
+pub mod Joined
+pub mod Opened
