@@ -11,7 +11,7 @@ use Rattle.shared_doors.specs.Joined.{by, Joins, Splits}
 use Rattle.shared_doors.specs.Views.{look}
 
 -- what a pass with these knows
-abbrev known : ℕ → ℕ → List ℕ → ℕ → ℕ → List Entry → PoolView
+abbrev pub known : ℕ → ℕ → List ℕ → ℕ → ℕ → List Entry → PoolView
 known n t ns m f s = record { number = n; turns = t; numbers = ns; made = m; told = f; seen = s }
 
 pub known_same : (n n' t t' : ℕ) (ns ns' : List ℕ) (m m' f f' : ℕ) (s s' : List Entry) → n' ≡ n → t' ≡ t → ns' ≡ ns → m' ≡ m → f' ≡ f → s' ≡ s → known n' t' ns' m' f' s' ≡ known n t ns m f s

@@ -2,3 +2,6 @@ pub mod Lasting
 pub mod Views
 pub mod Joined
 pub mod Opened
+pub mod Desks
+pub mod SharedDoors
+pub mod OneProof

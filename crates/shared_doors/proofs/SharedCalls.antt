@@ -1,0 +1,144 @@
+-- A call of one pass among several.
+use Rattle.std.proofs.Common.{◌≡◌, ℕ, zero, suc, ◌+◌, ◌<◌, ◌≤◌, false, List, [], ◌∷◌, map, length, get_or, set, refl, arith, ap, sym, subst, ◌∙◌, Option, Some, None, Result, Ok, Err, IsTrue}
+use Rattle.std.specs.Prelude.{IfSome, IsSomeAnd, IsErrOf, slice_get}
+use Rattle.std.specs.List.{All}
+use Rattle.std.proofs.lemmas.List.{get_or-map, length-map}
+use Rattle.std.proofs.Math.Seq.{map-set_same}
+use Rattle.swarm_keeper.specs.Tables.{Tables}
+use Rattle.swarm_model.specs.declared.entry.Entry.{Entry}
+use Rattle.swarm_model.specs.declared.pool_settings.PoolSettings.{PoolSettings}
+use Rattle.swarm_model.specs.declared.request.Request.{Request}
+use Rattle.swarm_model.specs.Fits.{fits}
+use Rattle.swarm_model.specs.Points.{Call, Growth}
+use Rattle.swarm_door.specs.declared.door.Answered.{Answered}
+use Rattle.swarm_door.specs.declared.door.CallFault.{CallFault}
+use Rattle.swarm_door.specs.declared.door.CallFault.TheVariants as fault
+use Rattle.swarm_door.specs.Doors.{CountsKeeper, HasNoOthers, HasNoOthersAt, IsPoolCall, IsCall, Logs, Writer}
+use Rattle.turnstile.specs.declared.pass.Pass.{Pass}
+use Rattle.turnstile.specs.declared.turnstile.Turnstile.{Turnstile}
+use Rattle.turnstile.specs.Passes.{fixed_of, number, seen, told, turns}
+use Rattle.shared_doors.specs.declared.view.Lasting.{Lasting}
+use Rattle.shared_doors.specs.declared.view.PoolView.{PoolView}
+use Rattle.shared_doors.specs.Lasting.{IsStanding}
+use Rattle.shared_doors.specs.SharedDoors.{IsTurnCall, most_of, pools_of, shared_door}
+use Rattle.shared_doors.specs.Views.{AreOf, look, nothing, view_at, view_or, views}
+use Rattle.shared_doors.proofs.ByPlace.{changed_at, seen_at, stays_at, views_back}
+
+most_at : (vs : List PoolView) (place : ℕ) → place < length vs → (view_at vs place).turns ≤ most_of (map (λ (v : PoolView). v.turns) vs)
+most_at [] place low = absurd (omega arith)
+most_at (v ∷ vs) zero low = omega arith
+most_at (v ∷ vs) (suc place) low = let rest = most_at vs place (omega (arith, low)) in omega (arith, rest)
+
+-- one turn more at a place is at most one more in all
+most_set : (vs : List PoolView) (place : ℕ) (w : PoolView) → w.turns ≡ (view_at vs place).turns + 1
+    → most_of (map (λ (v : PoolView). v.turns) (set vs place w)) ≤ most_of (map (λ (v : PoolView). v.turns) vs) + 1
+most_set [] place w more = omega arith
+most_set (v ∷ vs) zero w more = omega (arith, more)
+most_set (v ∷ vs) (suc place) w more = let rest = most_set vs place w more in omega (arith, rest)
+
+-- what holds of the pool at a place
+and_at : (Q : PoolSettings → Type 0) (pools : List PoolSettings) (place : ℕ) (pool : PoolSettings) → place < length pools → get_or pools place pool ≡ pool → Q pool
+    → IsSomeAnd (slice_get pools place) Q
+and_at Q [] place pool low at holds = absurd (omega arith)
+and_at Q (p ∷ pools) zero pool low at holds = subst Q (sym at) holds
+and_at Q (p ∷ pools) (suc place) pool low at holds = and_at Q pools place pool (omega (arith, low)) at holds
+
+from_at : (Q : PoolSettings → Type 0) (pools : List PoolSettings) (place : ℕ) (pool : PoolSettings) → get_or pools place pool ≡ pool → IsSomeAnd (slice_get pools place) Q → Q pool
+from_at Q [] place pool at holds = absurd holds
+from_at Q (p ∷ pools) zero pool at holds = subst Q at holds
+from_at Q (p ∷ pools) (suc place) pool at holds = from_at Q pools place pool at holds
+
+abbrev untold : PoolSettings → Option Tables
+untold pool = None
+
+none_at : (P : Option Tables → Type 0) (all : List PoolSettings) (p : ℕ) → P None → IfSome (slice_get (map untold all) p) P
+none_at P [] p holds = tt
+none_at P (pool ∷ all) zero holds = holds
+none_at P (pool ∷ all) (suc p) holds = none_at P all p holds
+
+none_of : (o : Option PoolSettings) (all : List PoolSettings) (logs : Logs) (p : ℕ) → IfSome o (λ pool. IfSome (slice_get (map untold all) p) (λ told. HasNoOthers pool told (logs p)))
+none_of None all logs p = tt
+none_of (Some pool) all logs p = none_at (λ told. HasNoOthers pool told (logs p)) all p tt
+
+-- keepers that tell nothing have no other blobs
+none_told : (pools : List PoolSettings) (logs : Logs) (p : ℕ) → HasNoOthersAt pools (map untold pools) logs p
+none_told pools logs p = none_of (slice_get pools p) pools logs p
+
+never_keeper : (result : Result Answered CallFault) (before now : ℕ) → ¬ IsErrOf result fault.Keeper → CountsKeeper result before now
+never_keeper (Ok answered) before now never = tt
+never_keeper (Err fault.Memory) before now never = tt
+never_keeper (Err fault.LogFull) before now never = tt
+never_keeper (Err fault.Keeper) before now never = absurd (never refl)
+
+abbrev numbered : List ℕ → Writer
+numbered ns = record { numbers = λ p. get_or ns p 0; alone = false }
+
+called : (store : Option (List ℕ)) (pools : List PoolSettings) (vs : List PoolView) (place : ℕ) (call : Call) (result : Result Answered CallFault) (pool : PoolSettings) (w : PoolView)
+    → place < length pools → place < length vs → get_or pools place pool ≡ pool
+    → w ≡ record (view_at vs place) { turns = (view_at vs place).turns + 1; seen = w.seen } → ¬ IsErrOf result fault.Keeper
+    → (growth : Growth) → IsPoolCall pool false call (view_at vs place).seen w.seen growth result
+    → IsCall (shared_door store pools vs) (shared_door store pools (set vs place w)) place call result
+called store pools vs place call result pool w low low_view at next never growth did = record {
+  growth = growth;
+  done = and_at (λ (pool : PoolSettings). IsPoolCall pool false call (view_at vs place).seen (view_at (set vs place w) place).seen growth result) pools place pool low at
+      (subst (λ (v : PoolView). IsPoolCall pool false call (view_at vs place).seen v.seen growth result) (sym (changed_at vs (set vs place w) place w low_view refl)) did);
+  elsewhere = λ p other. ap (λ (v : PoolView). v.seen) (stays_at vs (set vs place w) place w refl p other);
+  no_other_blobs = λ p has. none_told pools (λ q. (view_at (set vs place w) q).seen) p;
+  settings = refl;
+  writer = ap numbered (map-set_same (λ (v : PoolView). v.number) vs place w nothing (ap (λ (v : PoolView). v.number) next));
+  faults = omega arith;
+  keeper = never_keeper result 0 0 never;
+  calls = most_set vs place w (ap (λ (v : PoolView). v.turns) next);
+}
+
+-- the place of a pool is that of its turnstile
+pub low_at : {V : Type 0} (fixed : V → Lasting) (ts : List (Turnstile V Entry Lasting)) (place : ℕ)
+    → place < length (pools_of fixed ts) → place < length ts
+low_at {V = V} fixed ts place low = omega (arith, low, length-map ts (λ (u : Turnstile V Entry Lasting). (fixed_of fixed u).settings))
+
+-- the pass at a place, and its turnstile
+module _ {V : Type 0} (fixed : V → Lasting) (ts : List (Turnstile V Entry Lasting)) (items : List (Option (Pass V Entry Lasting))) (place : ℕ) (t : Turnstile V Entry Lasting)
+    (own : AreOf fixed ts items) (low : place < length ts) (at : t ≡ get_or ts place t) where
+  pool_at : get_or (pools_of fixed ts) place (fixed_of fixed t).settings ≡ (fixed_of fixed t).settings
+  pool_at = get_or-map (λ (u : Turnstile V Entry Lasting). (fixed_of fixed u).settings) ts place t (fixed_of fixed t).settings low ∙ ap (λ (u : Turnstile V Entry Lasting). (fixed_of fixed u).settings) (sym at)
+
+  low_pools : place < length (pools_of fixed ts)
+  low_pools = omega (arith, low, length-map ts (λ (u : Turnstile V Entry Lasting). (fixed_of fixed u).settings))
+
+  low_view : place < length (views items)
+  low_view = omega (arith, low, own.count, length-map items view_or)
+
+  pub fits_at : (request : Request) → IsSomeAnd (slice_get (pools_of fixed ts) place) (λ pool. IsTrue (fits pool request)) → IsTrue (fits (fixed_of fixed t).settings request)
+  fits_at request fit = from_at (λ pool. IsTrue (fits pool request)) (pools_of fixed ts) place (fixed_of fixed t).settings pool_at fit
+
+  pub standing_at : All (λ (u : Turnstile V Entry Lasting). IsStanding (fixed_of fixed u)) ts → IsStanding (fixed_of fixed t)
+  standing_at all = subst (λ (u : Turnstile V Entry Lasting). IsStanding (fixed_of fixed u)) (sym at) (all place t low)
+
+  -- it is the pass that was taken out
+  module _ (pass : Pass V Entry Lasting) (is : get_or items place None ≡ Some pass) where
+    here : view_at (views items) place ≡ look pass
+    here = seen_at fixed ts items place pass own low is
+
+    pub turns_at : (most : ℕ) → most_of (map (λ (v : PoolView). v.turns) (views items)) < most → turns pass < most
+    turns_at most few =
+        let one = most_at (views items) place low_view in
+        let same = ap (λ (v : PoolView). v.turns) here in
+        omega (arith, one, same, few)
+
+    number_at : get_or (map (λ (v : PoolView). v.number) (views items)) place 0 ≡ number pass
+    number_at = get_or-map (λ (v : PoolView). v.number) (views items) place nothing 0 low_view ∙ ap (λ (v : PoolView). v.number) here
+
+    pub door_call : (store : Option (List ℕ)) (who : List ℕ) (moment : ℕ) (front : Option ℕ) (request : Request) (result : Result Answered CallFault) (next : Pass V Entry Lasting)
+        → look next ≡ record (look pass) { turns = turns pass + 1; seen = seen next } → ¬ IsErrOf result fault.Keeper
+        → IsTurnCall (fixed_of fixed t).settings (record { pass = number pass; caller = who; moment = moment; after = front; request = request }) (seen pass) (seen next) (told pass) result
+        → IsCall (shared_door store (pools_of fixed ts) (views items)) (shared_door store (pools_of fixed ts) (views (set (set items place None) place (Some next)))) place
+        (record { pass = get_or (map (λ (v : PoolView). v.number) (views items)) place 0; caller = who; moment = moment; after = front; request = request }) result
+    door_call store who moment front request result next rest never did =
+        let the_call : ℕ → Call = λ n. record { pass = n; caller = who; moment = moment; after = front; request = request } in
+        let pool : PoolSettings = (fixed_of fixed t).settings in
+        let old : List PoolView = views items in
+        subst (λ n. IsCall (shared_door store (pools_of fixed ts) old) (shared_door store (pools_of fixed ts) (views (set (set items place None) place (Some next)))) place (the_call n) result) (sym number_at)
+        (subst (λ vs. IsCall (shared_door store (pools_of fixed ts) old) (shared_door store (pools_of fixed ts) vs) place (the_call (number pass)) result) (sym (views_back fixed ts items place None next))
+        (called store (pools_of fixed ts) old place (the_call (number pass)) result pool (look next) low_pools low_view pool_at
+        (subst (λ (v : PoolView). look next ≡ record v { turns = v.turns + 1; seen = seen next }) (sym here) rest) never did.growth
+        (subst (λ (v : PoolView). IsPoolCall pool false (the_call (number pass)) v.seen (seen next) did.growth result) (sym here) did.done)))

@@ -1,0 +1,41 @@
+-- A door to logs to which others write as well.
+use Rattle.std.specs.Prelude.{◌≤◌, ℕ, false, List, [], ◌∷◌, ◌++◌, length, map, max, slice_index_or, Option, None, Result}
+use Rattle.swarm_model.specs.declared.entry.Entry.{Entry}
+use Rattle.swarm_model.specs.declared.pool_settings.PoolSettings.{PoolSettings}
+use Rattle.swarm_model.specs.Points.{Call, Growth}
+use Rattle.swarm_door.specs.declared.door.Answered.{Answered}
+use Rattle.swarm_door.specs.declared.door.CallFault.{CallFault}
+use Rattle.swarm_door.specs.Doors.{DoorState, IsPoolCall}
+use Rattle.turnstile.specs.declared.turnstile.Turnstile.{Turnstile}
+use Rattle.turnstile.specs.Passes.{fixed_of}
+use Rattle.shared_doors.specs.declared.view.Lasting.{Lasting}
+use Rattle.shared_doors.specs.declared.view.PoolView.{PoolView}
+use Rattle.shared_doors.specs.Views.{view_at}
+
+-- the settings of the pools of these turnstiles
+abbrev pub pools_of : {V : Type 0} → (V → Lasting) → List (Turnstile V Entry Lasting) → List PoolSettings
+pools_of {V = V} fixed turnstiles = map (λ (t : Turnstile V Entry Lasting). (fixed_of fixed t).settings) turnstiles
+
+-- the greatest number of a list
+abbrev pub most_of : List ℕ → ℕ
+most_of [] = 0
+most_of (n ∷ ns) = max n (most_of ns)
+
+-- A door to pools with these settings, whose passes know this. Its keepers tell nothing and never fail, and others write to its
+-- logs too.
+abbrev pub shared_door : Option (List ℕ) → List PoolSettings → List PoolView → DoorState
+shared_door store pools views = record {
+  settings = record { store = store; pools = pools };
+  seen = λ p. (view_at views p).seen;
+  records = map (λ pool. None) pools;
+  writer = record { numbers = λ p. slice_index_or (map (λ v. v.number) views) p 0; alone = false };
+  faults = 0;
+  calls = most_of (map (λ v. v.turns) views);
+}
+
+-- One call in a turn of a pass, which had seen the old log and was told a front. The turn finds the old log with entries of others
+-- behind it, and no fewer entries than the front.
+pub record IsTurnCall (pool : PoolSettings) (call : Call) (old new : List Entry) (told : ℕ) (result : Result Answered CallFault) : Type 0 where
+  pub growth : Growth
+  pub done : IsPoolCall pool false call old new growth result
+  pub fresh : told ≤ length (old ++ growth.others)
