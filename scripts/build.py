@@ -369,7 +369,7 @@ class Builder:
         if told != self.told or time.monotonic() > self.told_at + SILENCE:
             self.told, self.told_at = told, time.monotonic()
             now = f"; now {', '.join(told[0])}" if told[0] else ""
-            left = f", about {self.minutes_left():.0f} min left" if self.left or self.running else ""
+            left = f", about {max(self.minutes_left(), 1):.0f} min left" if self.left or self.running else ""
             say(f"{told[1]} of {len(self.crates)} crates proved ({minutes_since(self.start)}{left}){now}")
 
 
