@@ -1,5 +1,5 @@
--- What a load of a file answers, and what it does to the files.
-use Rattle.std.specs.Prelude.{◌≡◌, ℕ, ◌<◌, ◌≤◌, List, [], ◌∷◌, length, Option, Some, None, option_map, Result, Ok, Err, IfOk, IfSome, IsSomeAnd, if◌then◌else◌, ⊤, Vec, String, string_bytes, vec_items, bytes_eq}
+-- What loads and saves of files answer, and what they do to the files.
+use Rattle.std.specs.Prelude.{◌≡◌, ℕ, ◌<◌, ◌≤◌, List, [], ◌∷◌, length, Option, Some, None, option_map, Result, Ok, Err, IfOk, OnOk, OnErr, IfSome, IsSomeAnd, ◌≢◌, if◌then◌else◌, ⊤, Vec, String, string_bytes, vec_items, bytes_eq}
 use Rattle.std.specs.declared.alloc.Global.{Global}
 use Rattle.sw_base.specs.Faults.{Rose}
 use Rattle.sw_base.specs.declared.file_fault.FileFault.{FileFault}
@@ -38,5 +38,17 @@ pub record Loads (before after : FilesState) (path : List ℕ) (most : ℕ) (res
   pub held : after.held ≡ before.held
   pub found : IfSome before.held (λ held. Finds (held path) most result)
   pub bound : IfOk result (λ found. IfSome found (λ bytes. length (vec_items bytes) ≤ most))
+  pub faults : CountsFailed result before.faults after.faults
+  pub never_falls : before.faults ≤ after.faults
+
+-- the files with these bytes at a path, and what they had at every other
+abbrev pub with_file : List ℕ → List ℕ → (List ℕ → Option (List ℕ)) → List ℕ → Option (List ℕ)
+with_file path bytes held other = if bytes_eq path other then Some bytes else held other
+
+-- at an Ok the files that are told have these bytes at the path and are else as before, and at an error they stay as they are; no file is too long to be saved
+pub record Saves {T : Type 0} (before after : FilesState) (path bytes : List ℕ) (result : Result T FileFault) : Type 0 where
+  pub saved : OnOk result (after.held ≡ option_map (with_file path bytes) before.held)
+  pub kept : OnErr result (after.held ≡ before.held)
+  pub not_too_long : result ≢ Err fault.TooLong
   pub faults : CountsFailed result before.faults after.faults
   pub never_falls : before.faults ≤ after.faults

@@ -1,4 +1,4 @@
-ghost use Rattle.std.specs.Prelude.{◌≡◌, ℕ, List, [], ◌∷◌, Option};
+ghost use Rattle.std.specs.Prelude.{◌≡◌, ℕ, List, [], ◌∷◌, Option, option_map};
 ghost use Rattle.sw_base.specs.Clock.{HandsIn, Waits};
 
 /// A source of moments, in whole seconds since 1970, at which a caller can also wait. Neither can
@@ -22,4 +22,12 @@ pub trait Clock {
     /// no room for them. The sum stays at 2^64 - 1 once it has come there.
     fn wait(&mut self, secs: u64)
         ensures waited { Waits (waited self.old) (waited self.new) secs };
+
+    /// A clock for another worker: it has the same moments ahead, whatever is asked of this one
+    /// afterwards, and nothing was waited at it.
+    fn twin(&self) -> Self
+    where
+        Self: Sized,
+        ensures ahead { ahead result ≡ ahead self.now }
+        ensures waited { waited result ≡ option_map (λ _. 0) (waited self.now) };
 }

@@ -1,6 +1,6 @@
 use std::alloc::AllocError;
 
-/// Why a file is not loaded.
+/// Why a file is not loaded or saved.
 #[derive(Clone, Copy, Debug, PartialEq, Eq)]
 pub enum FileFault {
     Memory,

@@ -31,4 +31,12 @@ impl<'a> Clock for ListClock<'a> {
     {
         self.waited = self.waited.saturating_add(secs);
     }
+
+    fn twin(&self) -> ListClock<'a> {
+        ListClock {
+            moments: self.moments,
+            asked: self.asked,
+            waited: 0,
+        }
+    }
 }

@@ -5,11 +5,11 @@ use crate::failing::is_failing;
 use crate::{FileFault, Files};
 use std::alloc::Global;
 
-/// Files in memory, which tell all. Loads of them can be made to fail.
+/// Files in memory, which tell all. Calls of them can be made to fail.
 #[derive(Drop)]
 pub struct MemoryFiles {
     files: Vec<(String, Vec<u8>)>,
-    loads: u64,
+    calls: u64,
     fails: Vec<u64>,
     faults: u64,
 }
@@ -17,14 +17,14 @@ pub struct MemoryFiles {
 impl MemoryFiles {
     ghost use Rattle.sw_base.specs.Files.{new_files};
 
-    /// Files by their paths, of which the first file of a path counts. The loads that fail are
-    /// those whose number stands in `fails`: they are counted from 0.
+    /// Files by their paths, of which the first file of a path counts. The calls that fail are
+    /// those whose number stands in `fails`: loads and saves are counted together, from 0.
     pub fn new(files: Vec<(String, Vec<u8>)>, fails: Vec<u64>) -> MemoryFiles
         ensures held { ⟦<MemoryFiles as Files>⟧.state result ≡ new_files (Some (file_at files.items)) }
     {
         MemoryFiles {
             files,
-            loads: 0,
+            calls: 0,
             fails,
             faults: 0,
         }
@@ -49,7 +49,7 @@ impl Files for MemoryFiles {
     } };
 
     fn load(&mut self, alloc: Global, path: &str, most: u64) -> Result<Option<Vec<u8>>, FileFault> {
-        if is_failing(&mut self.loads, &self.fails) {
+        if is_failing(&mut self.calls, &self.fails) {
             self.faults = self.faults.saturating_add(1);
             return Err(FileFault::Failed);
         }
@@ -60,5 +60,19 @@ impl Files for MemoryFiles {
             return Err(FileFault::TooLong);
         }
         Ok(Some(Vec::from_slice(alloc, bytes)?))
+    }
+
+    fn save(&mut self, alloc: Global, path: &str, bytes: &[u8]) -> Result<(), FileFault> {
+        if is_failing(&mut self.calls, &self.fails) {
+            self.faults = self.faults.saturating_add(1);
+            return Err(FileFault::Failed);
+        }
+        let name = String::from_str(alloc, path)?;
+        let file = (name, Vec::from_slice(alloc, bytes)?);
+        // The first file of a path counts.
+        if self.files.insert(0, file).is_err() {
+            return Err(FileFault::Memory);
+        }
+        Ok(())
     }
 }

@@ -33,4 +33,12 @@ impl Clock for StepClock {
         self.at = self.at.saturating_add(secs);
         self.waited = self.waited.saturating_add(secs);
     }
+
+    fn twin(&self) -> StepClock {
+        StepClock {
+            at: self.at,
+            step: self.step,
+            waited: 0,
+        }
+    }
 }

@@ -40,4 +40,11 @@ impl<'a, T: rt::Clock> Clock for SystemClock<'a, T> {
     fn wait(&mut self, secs: u64) {
         thread::sleep(self.time, Duration::from_secs(secs));
     }
+
+    fn twin(&self) -> SystemClock<'a, T> {
+        SystemClock {
+            time: self.time,
+            last: self.last,
+        }
+    }
 }
