@@ -32,7 +32,7 @@ HEADLINE = [
     ("Rattle.sw_base.specs.Acceptors", "AcceptorState Accepts Ends"),
     ("Rattle.sw_base.specs.Listeners", "ListenerState Gives FailsToListen Shuts"),
     ("Rattle.sw_base.specs.Dialers", "DialerState Dials Declines Hangs"),
-    ("Rattle.sw_base.specs.Files", "FilesState Loads"),
+    ("Rattle.sw_base.specs.Files", "FilesState Loads Saves"),
     ("Rattle.runners.specs.Calls", "RunnerState Performs Signals Looks CollectsFile Cleans"),
     ("Rattle.swarm_keeper.specs.Stores", "StoreState HasPlace PlacesStay IsAttached NotAttached Detaches"),
     ("Rattle.swarm_keeper.specs.Tables", "Tables Counts appended bytes_of"),

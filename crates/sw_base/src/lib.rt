@@ -13,10 +13,12 @@
 //! that the next ones give, and the links that ended, as they ended. How many were given that haven't
 //! ended is counted, so that an end always finds its room and can't fail.
 //! A [`Clock`] answers moments, and where it tells them, the next ones are known before. A caller can
-//! wait at it, and the seconds that were waited are told as one sum.
-//! [`Files`] are loaded whole, by their paths. Their state is what they hold at each path, which may
-//! be untold as the bytes of a link, and how often a call failed. An answer of a load is what is
-//! held, and [`FileFault::Failed`] comes only from a call in which that count rose.
+//! wait at it, and the seconds that were waited are told as one sum. A twin of it, for another
+//! worker, has the same moments ahead.
+//! [`Files`] are loaded and saved whole, by their paths. Their state is what they hold at each path,
+//! which may be untold as the bytes of a link, and how often a call failed. An answer of a load is
+//! what is held, a save changes what is held at its path alone, and [`FileFault::Failed`] comes only
+//! from a call in which that count rose.
 //! [`StartFault`] is why what must stand before the first request could not be reached.
 //! [`MemoryLink`], [`MemoryAcceptor`], [`MemoryListener`], [`MemoryDialer`], [`StepClock`],
 //! [`ListClock`] and [`MemoryFiles`] tell all; [`ConsoleLink`] tells what its reader and writer do;
