@@ -80,8 +80,8 @@ UNITS, MOST_UNITS = 1048576, 4194304
 WEEK = 604800
 # The shortest life of a blob.
 LIFE = 60
-# A connection of the server has at most so many requests, and ends where nothing comes for 10 seconds.
-MOST_REQUESTS, MOST_SILENCE = 65536, 5
+# A connection of the server has at most so many requests, and ends where nothing comes for a second.
+MOST_REQUESTS, MOST_SILENCE = 65536, 0.5
 STATUS, GOOD = b"HTTP/1.1 ", b"HTTP/1.1 200 OK\r\n"
 # How many requests are in one write: those that fill a pool, and those that are measured.
 FILLING, BATCH = 1000, 100

@@ -70,6 +70,7 @@ EDGE = [
     "crates/tcp_links/src/tcp_all.rt",
     "crates/tcp_links/src/closing.rt",
     "crates/tcp_links/src/limits.rt",
+    "crates/tcp_links/src/limited_stream.rt",
     "crates/shell_runner/src/shell_runner.rt",
     "crates/shell_runner/src/child_run.rt",
     "crates/run_folders/src/work_folder.rt",

@@ -12,8 +12,11 @@ import time
 import records
 
 HOST = "127.0.0.1"
-# The limits of time of a connection, in seconds (docs/limits.md).
-IDLE_SECONDS = 10
+# The limits of time of a connection, in seconds (docs/limits.md): before a request, with one worker and
+# with more; of another call; and of a request.
+IDLE_SECONDS = 1
+SHARED_IDLE_SECONDS = 10
+CALL_SECONDS = 10
 REQUEST_SECONDS = 60
 STATES = ("PENDING", "RUNNING", "EXPIRED", "TIMED_OUT", "BOT_DIED", "CANCELED", "COMPLETED", "KILLED", "NO_RESOURCE")
 
@@ -42,19 +45,21 @@ def wait_until_listening(port, process, seconds=20):
 
 
 class Server:
-    """`swarm serve` on a free port, for so many connections; or by words of one's own, on their port.
+    """`swarm serve` on a free port, for so many connections and with so many workers; or by words of one's
+    own, on their port.
 
     `front` stands before its words. It has to listen within so many seconds; one with large records takes
     longer than others.
     """
 
-    def __init__(self, connections, settings=None, words=None, port=None, front=(), seconds=20):
+    def __init__(self, connections, settings=None, words=None, port=None, front=(), seconds=20, workers=1):
         self.port = port or free_port()
         self.url = f"http://{HOST}:{self.port}"
         if not words:
             words = [*front, records.built_program(), "serve", "--address", f"{HOST}:{self.port}"]
             words += ["--connections", str(connections)]
             words += ["--settings", settings] if settings else []
+            words += ["--workers", str(workers)] if workers > 1 else []
         self.connections, self.made = connections, 0
         self.process = subprocess.Popen(words, stdin=subprocess.DEVNULL, stdout=subprocess.PIPE, stderr=subprocess.PIPE)
         try:
@@ -76,7 +81,7 @@ class Server:
 
     def connect(self, seconds=30):
         self.made += 1
-        return socket.create_connection((HOST, self.port), seconds)
+        return connect(self.port, seconds)
 
     def ask(self, *requests, seconds=30):
         """The replies to requests over a connection of their own."""
@@ -120,6 +125,11 @@ class Server:
                 time.sleep(0.01)
             else:
                 return count
+
+
+def connect(port, seconds=30):
+    """A connection to a server of this machine, each call of which may take so many seconds."""
+    return socket.create_connection((HOST, port), seconds)
 
 
 def read_replies(it, count):

@@ -1,3 +1,5 @@
+ghost use Rattle.std.specs.Prelude.{⊤};
+
 use crate::fault::Fault;
 use crate::playing::play;
 use crate::reading::read_courses;
@@ -22,6 +24,8 @@ fn tell_fault<R: Print + Eprint + AllocGlobal>(
 pub(crate) struct CourseRows;
 
 impl TextTest for CourseRows {
+    ghost ready = { ⊤ };
+
     fn ending(&self) -> &str {
         ".rows"
     }

@@ -53,7 +53,7 @@ serve_some : (rows : List Row) → Leaves (leaf serve_app).rules rows → is_som
 serve_some rows l =
     let c = (leaf serve_app).rules in
     map_some _ _ (both_some _ _ (text_some c rows l.goods (codes "address") _ refl (l.defaults.1.0 refl))
-    (both_some _ _ (number_some c rows l.goods (codes "workers") _ 1 1 refl refl (l.defaults.1.1.0 refl))
+    (both_some _ _ (number_some c rows l.goods (codes "workers") _ 1 32 refl refl (l.defaults.1.1.0 refl))
     (number_some c rows l.goods (codes "connections") _ 1 1000000 refl refl (l.defaults.1.1.1.0 refl))))
 
 serve_own : Each (Own (leaf serve_app).rules) (leaf serve_app).rules

@@ -1,5 +1,5 @@
 -- What the words of a command line ask for.
-use Rattle.std.specs.Prelude.{◌≡◌, ◌==◌, ◌≤◌, ◌^◌, ◌&&◌, ⊤, nat_le, ℕ, Bool, List, [], codes, length, Option, Some, None, if◌then◌else◌, option_map, option_and_then, string_bytes, unwrap_or}
+use Rattle.std.specs.Prelude.{◌==◌, ◌≤◌, ◌^◌, ◌&&◌, ⊤, nat_le, ℕ, Bool, List, [], codes, length, Option, Some, None, if◌then◌else◌, option_map, option_and_then, string_bytes, unwrap_or}
 use Rattle.std.specs.Str.{bytes_eq}
 use Rattle.std.specs.Str.Parse.{digits_value, without_leading_plus}
 use Rattle.clap.specs.ValueTests.{is_unsigned_in}
@@ -78,7 +78,7 @@ pub record BotRanges (b : BotOptions) : Type 0 where
 -- each number lies in its range
 abbrev pub HasRanges : CommandValue → Type 0
 HasRanges (session settings) = ⊤
-HasRanges (serve settings address workers connections) = (workers ≡ 1) × (1 ≤ connections) × (connections ≤ 1000000)
+HasRanges (serve settings address workers connections) = (1 ≤ workers) × (workers ≤ 32) × (1 ≤ connections) × (connections ≤ 1000000)
 HasRanges (bot b) = BotRanges b
 HasRanges (trigger server caller file) = ⊤
 HasRanges (collect server caller polls every id) = (1 ≤ polls) × (polls ≤ 100000) × (every ≤ 60)
@@ -118,7 +118,7 @@ session_in rows = Some (session (first_of (codes "settings") rows))
 abbrev pub serve_in : List Row → Option CommandValue
 serve_in rows = option_map (λ p. serve (first_of (codes "settings") rows) p.0 p.1.0 p.1.1)
     (both_of (first_of (codes "address") rows)
-    (both_of (number_at (codes "workers") 1 1 rows) (number_at (codes "connections") 1 1000000 rows)))
+    (both_of (number_at (codes "workers") 1 32 rows) (number_at (codes "connections") 1 1000000 rows)))
 
 -- the id of a bot and its pool
 abbrev pub place_in : List Row → Option (Text × Text)

@@ -41,7 +41,7 @@ abbrev pub serve_app : App
 serve_app = with_rule (with_rule (with_rule (with_rule (new_app (codes "serve"))
     (text_rule (codes "settings")))
     (default_rule (codes "address") (codes "127.0.0.1:8080")))
-    (number_rule (codes "workers") 1 1 (codes "1")))
+    (number_rule (codes "workers") 1 32 (codes "1")))
     (number_rule (codes "connections") 1 1000000 (codes "1000000"))
 
 -- a bot before its limits

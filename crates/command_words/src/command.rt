@@ -14,9 +14,9 @@ pub struct Serve {
     pub settings: Option<String>,
     /// The address to listen at, a host and a port with `:` between them.
     pub address: String,
-    /// How many connections are served at once: 1.
+    /// How many workers serve, each one connection at a time: 1 to 32.
     pub workers: u32,
-    /// How many connections are served until the server ends: 1 to 1000000.
+    /// How many connections each worker serves until it ends: 1 to 1000000.
     pub connections: u32,
 }
 

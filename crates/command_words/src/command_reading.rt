@@ -22,7 +22,7 @@ fn serve(alloc: Global, found: &ArgMatches<'_>) -> Result<Option<Command>, Alloc
     ensures value { IfOk result (λ c. option_map value_of c ≡ serve_in (rows_of (found_of found.now))) }
     ensures ranges { IfOk result (λ c. IfSome c (λ c. HasRanges (value_of c))) }
 {
-    let Some(workers) = number(found, "workers", 1, 1) else {
+    let Some(workers) = number(found, "workers", 1, 32) else {
         return Ok(None);
     };
     let Some(connections) = number(found, "connections", 1, 1000000) else {

@@ -59,9 +59,9 @@ pub(crate) fn serve<'a>(alloc: Global) -> Result<Command<'a>, AllocError>
             alloc,
             "workers",
             1,
-            1,
+            32,
             "1",
-            "How many connections are served at once: 1",
+            "How many workers serve, each one connection at a time: 1 to 32. With a `store` in the settings there is one worker only",
         ),
     )?;
     add(
@@ -72,7 +72,7 @@ pub(crate) fn serve<'a>(alloc: Global) -> Result<Command<'a>, AllocError>
             1,
             1000000,
             "1000000",
-            "How many connections are served before the server ends: 1 to 1000000",
+            "How many connections each worker serves before it ends: 1 to 1000000",
         ),
     )
 }

@@ -1,10 +1,10 @@
-ghost use Rattle.std.specs.Prelude.{IsTrue};
+ghost use Rattle.std.specs.Prelude.{IsTrue, ⊤};
 ghost use Rattle.swarm_model.specs.Settings.{are_settings};
 
 use crate::SessionSettings;
 use std::alloc::{AllocError, Global};
 use std::marker::PhantomData;
-use sw_base::{Clock, MemoryLink};
+use sw_base::{Clock, ListClock, MemoryLink, StepClock};
 use swarm_http::Ended;
 use swarm_model::{Machine, Settings};
 use test_sessions::serve_new;
@@ -40,6 +40,19 @@ fn check_session<M: Machine + Drop, C: Clock>(
     compare_status(transcript, transcript.status, exit_status(ended))
 }
 
+/// The same under the settings of the transcript, where it has some.
+fn check_settings<M: Machine + Drop, S: SessionSettings, C: Clock>(
+    alloc: Global,
+    transcript: &Transcript,
+    piece: usize,
+    clock: &mut C,
+) -> Result<(), TranscriptError> {
+    match S::settings_of(alloc, transcript)? {
+        Some(settings) => check_session::<M, C>(alloc, &settings, transcript, piece, clock),
+        None => Ok(()),
+    }
+}
+
 /// The word `session` over machines of one kind, of which nothing is kept.
 #[derive(Drop)]
 struct SessionProgram<M, S> {
@@ -48,21 +61,30 @@ struct SessionProgram<M, S> {
 }
 
 impl<M: Machine + Drop, S: SessionSettings> TestedProgram for SessionProgram<M, S> {
+    ghost ready = { ⊤ };
+
     fn renew_store(&mut self, _alloc: Global, _first: &Transcript) -> Result<(), AllocError> {
         Ok(())
     }
 
-    fn check_run<C: Clock>(
+    fn check_listed(
         &mut self,
         alloc: Global,
         transcript: &Transcript,
         piece: usize,
-        clock: &mut C,
+        clock: &mut ListClock<'_>,
     ) -> Result<(), TranscriptError> {
-        match S::settings_of(alloc, transcript)? {
-            Some(settings) => check_session::<M, C>(alloc, &settings, transcript, piece, clock),
-            None => Ok(()),
-        }
+        check_settings::<M, S, ListClock<'_>>(alloc, transcript, piece, clock)
+    }
+
+    fn check_stepped(
+        &mut self,
+        alloc: Global,
+        transcript: &Transcript,
+        piece: usize,
+        clock: &mut StepClock,
+    ) -> Result<(), TranscriptError> {
+        check_settings::<M, S, StepClock>(alloc, transcript, piece, clock)
     }
 }
 

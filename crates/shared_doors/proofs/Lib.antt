@@ -3,6 +3,7 @@ pub mod Desks
 pub mod Joining
 pub mod LastPools
 pub mod OpenPools
+pub mod SameServer
 pub mod SharedCalls
 pub mod SharedPoints
 pub mod Standing

@@ -20,7 +20,7 @@ use Rattle.turnstile.specs.Passes.{fixed_of, number, seen, told, turns}
 use Rattle.shared_doors.specs.declared.view.Lasting.{Lasting}
 use Rattle.shared_doors.specs.declared.view.PoolView.{PoolView}
 use Rattle.shared_doors.specs.Lasting.{IsStanding}
-use Rattle.shared_doors.specs.SharedDoors.{IsTurnCall, most_of, pools_of, shared_door}
+use Rattle.shared_doors.specs.SharedDoors.{IsTurnCall, identities_of, most_of, pools_of, shared_door}
 use Rattle.shared_doors.specs.Views.{AreOf, look, nothing, view_at, view_or, views}
 use Rattle.shared_doors.proofs.ByPlace.{changed_at, seen_at, stays_at, views_back}
 
@@ -70,22 +70,44 @@ never_keeper (Err fault.Memory) before now never = tt
 never_keeper (Err fault.LogFull) before now never = tt
 never_keeper (Err fault.Keeper) before now never = absurd (never refl)
 
-abbrev numbered : List ℕ → Writer
-numbered ns = record { numbers = λ p. get_or ns p 0; alone = false }
+abbrev numbered : (ℕ → List ℕ) → List ℕ → (ℕ → List ℕ) → (ℕ → ℕ) → Writer
+numbered logs ns joined made = record { numbers = λ p. get_or ns p 0; alone = false; logs = logs; joined = joined; made = made }
 
-called : (store : Option (List ℕ)) (pools : List PoolSettings) (vs : List PoolView) (place : ℕ) (call : Call) (result : Result Answered CallFault) (pool : PoolSettings) (w : PoolView)
+-- what a pass keeps is kept at each place
+kept_at : {A : Type 0} (f : PoolView → A) (vs : List PoolView) (place : ℕ) (w : PoolView) → f w ≡ f (view_at vs place)
+    → (p : ℕ) → f (view_at (set vs place w) p) ≡ f (view_at vs p)
+kept_at f [] place w same p = refl
+kept_at f (v ∷ vs) zero w same zero = same
+kept_at f (v ∷ vs) zero w same (suc p) = refl
+kept_at f (v ∷ vs) (suc place) w same zero = refl
+kept_at f (v ∷ vs) (suc place) w same (suc p) = kept_at f vs place w same p
+
+-- a pass that keeps its numbers leaves how the door writes
+same_writer : (store : Option (List ℕ)) (pools : List PoolSettings) (logs : ℕ → List ℕ) (vs : List PoolView) (place : ℕ) (w : PoolView)
+    → w.number ≡ (view_at vs place).number → w.numbers ≡ (view_at vs place).numbers → w.made ≡ (view_at vs place).made
+    → (shared_door store pools logs (set vs place w)).writer ≡ (shared_door store pools logs vs).writer
+same_writer store pools logs vs place w number numbers made =
+    let joined_now : ℕ → List ℕ = λ p. (view_at (set vs place w) p).numbers in
+    let joined_same : joined_now ≡ (λ p. (view_at vs p).numbers) = λ i p. kept_at (λ (v : PoolView). v.numbers) vs place w numbers p i in
+    let made_now : ℕ → ℕ = λ p. (view_at (set vs place w) p).made in
+    let made_same : made_now ≡ (λ p. (view_at vs p).made) = λ i p. kept_at (λ (v : PoolView). v.made) vs place w made p i in
+    ap (λ (l : List ℕ). numbered logs l joined_now made_now) (map-set_same (λ (v : PoolView). v.number) vs place w nothing number)
+    ∙ ap (λ (f : ℕ → List ℕ). numbered logs (map (λ (v : PoolView). v.number) vs) f made_now) joined_same
+    ∙ ap (λ (f : ℕ → ℕ). numbered logs (map (λ (v : PoolView). v.number) vs) (λ p. (view_at vs p).numbers) f) made_same
+
+called : (store : Option (List ℕ)) (pools : List PoolSettings) (logs : ℕ → List ℕ) (vs : List PoolView) (place : ℕ) (call : Call) (result : Result Answered CallFault) (pool : PoolSettings) (w : PoolView)
     → place < length pools → place < length vs → get_or pools place pool ≡ pool
     → w ≡ record (view_at vs place) { turns = (view_at vs place).turns + 1; seen = w.seen } → ¬ IsErrOf result fault.Keeper
     → (growth : Growth) → IsPoolCall pool false call (view_at vs place).seen w.seen growth result
-    → IsCall (shared_door store pools vs) (shared_door store pools (set vs place w)) place call result
-called store pools vs place call result pool w low low_view at next never growth did = record {
+    → IsCall (shared_door store pools logs vs) (shared_door store pools logs (set vs place w)) place call result
+called store pools logs vs place call result pool w low low_view at next never growth did = record {
   growth = growth;
   done = and_at (λ (pool : PoolSettings). IsPoolCall pool false call (view_at vs place).seen (view_at (set vs place w) place).seen growth result) pools place pool low at
       (subst (λ (v : PoolView). IsPoolCall pool false call (view_at vs place).seen v.seen growth result) (sym (changed_at vs (set vs place w) place w low_view refl)) did);
   elsewhere = λ p other. ap (λ (v : PoolView). v.seen) (stays_at vs (set vs place w) place w refl p other);
   no_other_blobs = λ p has. none_told pools (λ q. (view_at (set vs place w) q).seen) p;
   settings = refl;
-  writer = ap numbered (map-set_same (λ (v : PoolView). v.number) vs place w nothing (ap (λ (v : PoolView). v.number) next));
+  writer = same_writer store pools logs vs place w (ap (λ (v : PoolView). v.number) next) (ap (λ (v : PoolView). v.numbers) next) (ap (λ (v : PoolView). v.made) next);
   faults = omega arith;
   keeper = never_keeper result 0 0 never;
   calls = most_set vs place w (ap (λ (v : PoolView). v.turns) next);
@@ -131,14 +153,14 @@ module _ {V : Type 0} (fixed : V → Lasting) (ts : List (Turnstile V Entry Last
     pub door_call : (store : Option (List ℕ)) (who : List ℕ) (moment : ℕ) (front : Option ℕ) (request : Request) (result : Result Answered CallFault) (next : Pass V Entry Lasting)
         → look next ≡ record (look pass) { turns = turns pass + 1; seen = seen next } → ¬ IsErrOf result fault.Keeper
         → IsTurnCall (fixed_of fixed t).settings (record { pass = number pass; caller = who; moment = moment; after = front; request = request }) (seen pass) (seen next) (told pass) result
-        → IsCall (shared_door store (pools_of fixed ts) (views items)) (shared_door store (pools_of fixed ts) (views (set (set items place None) place (Some next)))) place
+        → IsCall (shared_door store (pools_of fixed ts) (identities_of ts) (views items)) (shared_door store (pools_of fixed ts) (identities_of ts) (views (set (set items place None) place (Some next)))) place
         (record { pass = get_or (map (λ (v : PoolView). v.number) (views items)) place 0; caller = who; moment = moment; after = front; request = request }) result
     door_call store who moment front request result next rest never did =
         let the_call : ℕ → Call = λ n. record { pass = n; caller = who; moment = moment; after = front; request = request } in
         let pool : PoolSettings = (fixed_of fixed t).settings in
         let old : List PoolView = views items in
-        subst (λ n. IsCall (shared_door store (pools_of fixed ts) old) (shared_door store (pools_of fixed ts) (views (set (set items place None) place (Some next)))) place (the_call n) result) (sym number_at)
-        (subst (λ vs. IsCall (shared_door store (pools_of fixed ts) old) (shared_door store (pools_of fixed ts) vs) place (the_call (number pass)) result) (sym (views_back fixed ts items place None next))
-        (called store (pools_of fixed ts) old place (the_call (number pass)) result pool (look next) low_pools low_view pool_at
+        subst (λ n. IsCall (shared_door store (pools_of fixed ts) (identities_of ts) old) (shared_door store (pools_of fixed ts) (identities_of ts) (views (set (set items place None) place (Some next)))) place (the_call n) result) (sym number_at)
+        (subst (λ vs. IsCall (shared_door store (pools_of fixed ts) (identities_of ts) old) (shared_door store (pools_of fixed ts) (identities_of ts) vs) place (the_call (number pass)) result) (sym (views_back fixed ts items place None next))
+        (called store (pools_of fixed ts) (identities_of ts) old place (the_call (number pass)) result pool (look next) low_pools low_view pool_at
         (subst (λ (v : PoolView). look next ≡ record v { turns = v.turns + 1; seen = seen next }) (sym here) rest) never did.growth
         (subst (λ (v : PoolView). IsPoolCall pool false (the_call (number pass)) v.seen (seen next) did.growth result) (sym here) did.done)))

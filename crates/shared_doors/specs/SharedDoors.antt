@@ -7,7 +7,7 @@ use Rattle.swarm_door.specs.declared.door.Answered.{Answered}
 use Rattle.swarm_door.specs.declared.door.CallFault.{CallFault}
 use Rattle.swarm_door.specs.Doors.{DoorState, IsPoolCall}
 use Rattle.turnstile.specs.declared.turnstile.Turnstile.{Turnstile}
-use Rattle.turnstile.specs.Passes.{fixed_of}
+use Rattle.turnstile.specs.Passes.{fixed_of, identity_of}
 use Rattle.shared_doors.specs.declared.view.Lasting.{Lasting}
 use Rattle.shared_doors.specs.declared.view.PoolView.{PoolView}
 use Rattle.shared_doors.specs.Views.{view_at}
@@ -16,19 +16,29 @@ use Rattle.shared_doors.specs.Views.{view_at}
 abbrev pub pools_of : {V : Type 0} → (V → Lasting) → List (Turnstile V Entry Lasting) → List PoolSettings
 pools_of {V = V} fixed turnstiles = map (λ (t : Turnstile V Entry Lasting). (fixed_of fixed t).settings) turnstiles
 
+-- which turnstile is at each place, [] where there is none
+abbrev pub identities_of : {V : Type 0} → List (Turnstile V Entry Lasting) → ℕ → List ℕ
+identities_of {V = V} turnstiles place = slice_index_or (map (λ (t : Turnstile V Entry Lasting). identity_of t) turnstiles) place []
+
 -- the greatest number of a list
 abbrev pub most_of : List ℕ → ℕ
 most_of [] = 0
 most_of (n ∷ ns) = max n (most_of ns)
 
--- A door to pools with these settings, whose passes know this. Its keepers tell nothing and never fail, and others write to its
--- logs too.
-abbrev pub shared_door : Option (List ℕ) → List PoolSettings → List PoolView → DoorState
-shared_door store pools views = record {
+-- A door to pools with these settings and these identities of their logs, whose passes know this. Its keepers tell nothing and never
+-- fail, and others write to its logs too.
+abbrev pub shared_door : Option (List ℕ) → List PoolSettings → (ℕ → List ℕ) → List PoolView → DoorState
+shared_door store pools logs views = record {
   settings = record { store = store; pools = pools };
   seen = λ p. (view_at views p).seen;
   records = map (λ pool. None) pools;
-  writer = record { numbers = λ p. slice_index_or (map (λ v. v.number) views) p 0; alone = false };
+  writer = record {
+    numbers = λ p. slice_index_or (map (λ v. v.number) views) p 0;
+    alone = false;
+    logs = logs;
+    joined = λ p. (view_at views p).numbers;
+    made = λ p. (view_at views p).made;
+  };
   faults = 0;
   calls = most_of (map (λ v. v.turns) views);
 }

@@ -26,12 +26,8 @@ where
     pub(crate) alloc: Global,
     pub store: Option<Text>,
     pub turnstiles: Vec<Turnstile<Kept<M, K>>>,
-    /// Room for the machines, which come out in the end.
-    pub(crate) room: Vec<M>,
     ghost standing: { All (λ t. IsStanding (fixed_of (λ k. lasting_of (M.kept k.machine)) t)) turnstiles.items },
     ghost sure: { IsTrue K.SURE },
-    ghost has_room: { vec_len room + length turnstiles.items ≤ vec_capacity room },
-    ghost empty: { vec_len room ≡ 0 },
 }
 
 /// A pass for each pool of a server, in the order of the pools.
@@ -67,13 +63,11 @@ impl<M: Machine + Drop, K: Keeper + Drop> Server<M, K> {
         ensures fresh { IfOk result (λ r. (p : ℕ) → p < length r.0.turnstiles.items → view_at (views r.1.passes.items) p ≡ first_view) }
     {
         let store = settings.store.try_copy(alloc)?;
-        let room = Vec::with_capacity(alloc, settings.pools.as_slice().len())?;
         let (turnstiles, passes) = open_all(alloc, settings, keepers)?;
         let server = Server {
             alloc,
             store,
             turnstiles,
-            room,
         };
         Ok((server, passes))
     }
@@ -150,13 +144,20 @@ impl<M: Machine + Drop, K: Keeper + Drop> Server<M, K> {
         true
     }
 
-    /// The machines, in the order of the pools, once all passes are joined. It takes no memory.
+    /// The machines, in the order of the pools, once all passes are joined. They come out in the
+    /// room that it is given, so it takes no memory.
     ///
     /// # Errors
     ///
-    /// At some place another pass is out. Nothing is closed.
-    pub fn close(self, passes: Passes<M, K>) -> Result<Vec<M>, (Server<M, K>, Passes<M, K>)>
+    /// At some place another pass is out. Nothing is closed, and the room is dropped.
+    pub fn close(
+        self,
+        passes: Passes<M, K>,
+        room: Vec<M>,
+    ) -> Result<Vec<M>, (Server<M, K>, Passes<M, K>)>
         requires own { AreOf (λ k. lasting_of (M.kept k.machine)) self.turnstiles.items passes.passes.items }
+        requires empty { vec_len room ≡ 0 }
+        requires room { length self.turnstiles.items ≤ vec_capacity room }
         ensures alone { OnOk result ((p : ℕ) → p < length self.turnstiles.items → IsAloneView (view_at (views passes.passes.items) p)) }
         ensures refused { IfErr result (λ r. (r.0 ≡ self) × (r.1 ≡ passes) × ((p : ℕ) × (p < length self.turnstiles.items) × ¬ IsAloneView (view_at (views passes.passes.items) p))) }
         ensures closed { IfOk result (λ machines. AreClosed (λ k. lasting_of (M.kept k.machine)) (λ k. (M.kept k.machine).log) self.turnstiles.items (views passes.passes.items) (map M.kept machines.items)) }
@@ -168,7 +169,6 @@ impl<M: Machine + Drop, K: Keeper + Drop> Server<M, K> {
             alloc: _,
             store: _,
             turnstiles,
-            room,
         } = self;
         let Passes { passes } = passes;
         Ok(close_all(turnstiles, passes, room))

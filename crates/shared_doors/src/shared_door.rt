@@ -1,7 +1,7 @@
 ghost use Rattle.std.specs.Prelude.{◌≡◌};
 ghost use Rattle.shared_doors.specs.Lasting.{lasting_of};
 ghost use Rattle.shared_doors.specs.OneProof.{are_of_one};
-ghost use Rattle.shared_doors.specs.SharedDoors.{pools_of, shared_door};
+ghost use Rattle.shared_doors.specs.SharedDoors.{identities_of, pools_of, shared_door};
 ghost use Rattle.shared_doors.specs.Views.{AreOf, views};
 
 use crate::kept::Kept;
@@ -18,6 +18,7 @@ use turnstile::{Counted, Pass};
 
 /// A door to the pools of a server, to which others write as well. A call waits for the turn of its
 /// pool, and takes one turn. It counts as many calls as the pass with the most turns took turns.
+#[derive(Drop)]
 pub struct SharedDoor<'a, M: Machine + Drop, K: Keeper + Drop, R: Wait>
 where
     Kept<M, K>: Counted<Item = Entry, Fixed = Lasting>,
@@ -34,16 +35,19 @@ impl<'a, M: Machine + Drop, K: Keeper + Drop, R: Wait> SharedDoor<'a, M, K, R> {
     pub fn new(rt: &'a R, server: &'a Server<M, K>, passes: Passes<M, K>) -> SharedDoor<'a, M, K, R>
         requires own { AreOf (λ k. lasting_of (M.kept k.machine)) server.now.turnstiles.items passes.passes.items }
         ensures server { result.server.now ≡ server.now }
-        ensures state { ⟦<SharedDoor<'a, M, K, R> as Door>⟧.state result ≡ shared_door server.now.store (pools_of (λ k. lasting_of (M.kept k.machine)) server.now.turnstiles.items) (views passes.passes.items) }
+        ensures state { ⟦<SharedDoor<'a, M, K, R> as Door>⟧.state result ≡ shared_door server.now.store (pools_of (λ k. lasting_of (M.kept k.machine)) server.now.turnstiles.items) (identities_of server.now.turnstiles.items) (views passes.passes.items) }
     {
         let Passes { passes } = passes;
         SharedDoor { rt, server, passes }
     }
 
-    /// The passes, which know what the door had seen.
-    pub fn end(self) -> Passes<M, K>
-        ensures own { AreOf (λ k. lasting_of (M.kept k.machine)) self.entry.server.now.turnstiles.items result.passes.items }
-        ensures state { ⟦<SharedDoor<'a, M, K, R> as Door>⟧.state self.entry ≡ shared_door self.entry.server.now.store (pools_of (λ k. lasting_of (M.kept k.machine)) self.entry.server.now.turnstiles.items) (views result.passes.items) }
+    /// The passes, which know what the door had seen. The server is the one with which the door was
+    /// made: what the door tells of its logs and settings is what the server has.
+    pub fn end(self, server: &Server<M, K>) -> Passes<M, K>
+        requires logs { (⟦<SharedDoor<'a, M, K, R> as Door>⟧.state self).writer.logs ≡ identities_of server.now.turnstiles.items }
+        requires settings { (⟦<SharedDoor<'a, M, K, R> as Door>⟧.state self).settings ≡ record { store = server.now.store; pools = pools_of (λ k. lasting_of (M.kept k.machine)) server.now.turnstiles.items } }
+        ensures own { AreOf (λ k. lasting_of (M.kept k.machine)) server.now.turnstiles.items result.passes.items }
+        ensures state { ⟦<SharedDoor<'a, M, K, R> as Door>⟧.state self.entry ≡ shared_door server.now.store (pools_of (λ k. lasting_of (M.kept k.machine)) server.now.turnstiles.items) (identities_of server.now.turnstiles.items) (views result.passes.items) }
     {
         let SharedDoor {
             rt: _,
@@ -55,7 +59,7 @@ impl<'a, M: Machine + Drop, K: Keeper + Drop, R: Wait> SharedDoor<'a, M, K, R> {
 }
 
 impl<'a, M: Machine + Drop, K: Keeper + Drop, R: Wait> Door for SharedDoor<'a, M, K, R> {
-    ghost state = { λ d. shared_door d.server.now.store (pools_of (λ k. lasting_of (M.kept k.machine)) d.server.now.turnstiles.items) (views d.passes.items) };
+    ghost state = { λ d. shared_door d.server.now.store (pools_of (λ k. lasting_of (M.kept k.machine)) d.server.now.turnstiles.items) (identities_of d.server.now.turnstiles.items) (views d.passes.items) };
 
     fn call(
         &mut self,

@@ -1,6 +1,6 @@
-//! The program `swarm`: it hands the words of the command line, the console, the system's clock, the
-//! disk, the store of records, the system's sockets and its shell to `swarm_cli`, and ends with its
-//! answer.
+//! The program `swarm`: it hands the runtime, the words of the command line, the console, the system's
+//! clock, the disk, the store of records, the system's sockets and its shell to `swarm_cli`, and ends
+//! with its answer.
 #![tactic(auto)]
 
 use shell_runner::ShellRunner;
@@ -9,7 +9,7 @@ use std::env;
 use std::process::ExitCode;
 use sw_base::{ConsoleLink, DiskFiles, SystemClock};
 use swarm_cli::run;
-use tcp_links::{Limits, TcpAll};
+use tcp_links::TcpAll;
 
 fn main(rt: HostRuntime) -> ExitCode {
     let alloc = rt.alloc();
@@ -26,10 +26,11 @@ fn main(rt: HostRuntime) -> ExitCode {
     let mut clock = SystemClock::new(&rt);
     let mut files = DiskFiles::new(&rt);
     let mut store = SqliteStore::new(&rt);
-    let mut listener = TcpAll::new(alloc, &rt, &rt, Limits::of_server());
-    let mut dialer = TcpAll::new(alloc, &rt, &rt, Limits::of_client());
+    let mut listener = TcpAll::new(alloc, &rt, &rt);
+    let mut dialer = TcpAll::new(alloc, &rt, &rt);
     let mut runner = ShellRunner::new(&rt);
     ExitCode::from(run(
+        &rt,
         alloc,
         &words,
         &mut console,

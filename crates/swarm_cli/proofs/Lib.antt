@@ -9,4 +9,3 @@ pub mod Doing
 pub mod KeptSessions
 pub mod Misfits
 pub mod Drilling
-pub mod Working

@@ -1,5 +1,5 @@
 -- What is done with a door.
-use Rattle.std.specs.Prelude.{◌≡◌, ℕ, List, [], ◌∷◌, ◌++◌, Option}
+use Rattle.std.specs.Prelude.{◌≡◌, ◌==◌, if◌then◌else◌, ℕ, List, [], ◌∷◌, ◌++◌, Option}
 use Rattle.std.specs.List.{flat_map}
 use Rattle.sw_base.specs.Acceptors.{AcceptorState}
 use Rattle.sw_base.specs.Listeners.{ListenerState, Gives, FailsToListen, Shuts}
@@ -11,16 +11,25 @@ use Rattle.swarm_http.specs.declared.ended.Ended.TheVariants.{Closed, LastAsked,
 use Rattle.swarm_http.specs.Exchange.{entries_of}
 use Rattle.swarm_http.specs.Answered.{IsAnswered}
 use Rattle.pool_summaries.specs.Summaries.{summary_of}
-use Rattle.swarm_cli.specs.declared.worked.Worked.{Worked}
-use Rattle.swarm_cli.specs.declared.worked.WorkStop.{WorkStop}
-use Rattle.swarm_cli.specs.declared.worked.WorkStop.TheVariants as stop
+use Rattle.swarm_workers.specs.declared.worked.Worked.{Worked}
+use Rattle.swarm_workers.specs.declared.worked.WorkStop.{WorkStop}
+use Rattle.swarm_workers.specs.declared.worked.WorkStop.TheVariants as stop
 use Rattle.swarm_cli.specs.Outside.{Outside, PrintsMade}
-use Rattle.swarm_cli.specs.Works.{IsWorked}
+use Rattle.swarm_workers.specs.Works.{IsWorked}
 
 -- one connection over the console is served, or those that come at an address, at most so many
 pub data Deed : Type 0 where
   session : Deed
   serve : List ℕ → ℕ → Deed
+
+-- that is done over one door, or several workers serve the connections that come at an address: so many workers, each at most so many
+pub data Service : Type 0 where
+  by_one : Deed → Service
+  by_several : List ℕ → ℕ → ℕ → Service
+
+-- one worker serves over a door of its own
+abbrev pub serving : List ℕ → ℕ → ℕ → Service
+serving address workers connections = if workers == 1 then by_one (serve address connections) else by_several address workers connections
 
 -- ---- a session
 

@@ -1,13 +1,16 @@
 -- The parts of what is done with a door.
-use Rattle.std.specs.Prelude.{◌≡◌, ⊤, ℕ, ◌≤◌, List, string_bytes}
+use Rattle.std.specs.Prelude.{◌≡◌, ⊤, ℕ, ◌<◌, ◌≤◌, List, string_bytes}
 use Rattle.sw_base.specs.Link.{LinkState}
 use Rattle.swarm_door.specs.Doors.{DoorState}
 use Rattle.swarm_cli.specs.declared.door_command.DoorCommand.{DoorCommand}
 use Rattle.swarm_cli.specs.declared.door_command.DoorCommand.TheVariants as command
+use Rattle.swarm_cli.specs.declared.door_command.Service.{Service}
+use Rattle.swarm_cli.specs.declared.door_command.Service.TheVariants as service
 use Rattle.swarm_cli.specs.declared.serving.Used.{Used}
 use Rattle.swarm_cli.specs.declared.serving.Used.TheVariants as used
 use Rattle.swarm_cli.specs.Outside.{Outside, PrintsMade}
-use Rattle.swarm_cli.specs.Deeds.{Deed, session, serve, ServesListener, ServesConsole, ServesNothing, work_status}
+use Rattle.swarm_cli.specs.Deeds as deeds
+use Rattle.swarm_cli.specs.Deeds.{Deed, session, serve, by_one, by_several, ServesListener, ServesConsole, ServesNothing, work_status}
 
 abbrev pub deed_of : DoorCommand → Deed
 deed_of command.Session = session
@@ -17,6 +20,16 @@ deed_of (command.Serve address connections) = serve (string_bytes address) conne
 abbrev pub HasRange : DoorCommand → Type 0
 HasRange command.Session = ⊤
 HasRange (command.Serve address connections) = connections ≤ 1000000
+
+-- by whom it is done
+abbrev pub service_of : Service → deeds.Service
+service_of (service.ByOne command) = by_one (deed_of command)
+service_of (service.BySeveral address workers connections) = by_several (string_bytes address) workers connections
+
+-- more than one worker, and at most 32, serve so many connections each at most
+abbrev pub HasRanges : Service → Type 0
+HasRanges (service.ByOne command) = HasRange command
+HasRanges (service.BySeveral address workers connections) = (1 < workers) × (workers ≤ 32) × (connections ≤ 1000000)
 
 -- what is done before the door is ended
 abbrev pub IsUsed : DoorCommand → DoorState → DoorState → Outside → Outside → Used → Type 0

@@ -5,21 +5,21 @@ use Rattle.swarm_policy.specs.Open.{open_settings}
 use Rattle.command_words.specs.Commands.{CommandValue, session, serve, bot, trigger, collect, cancel, tasks, bots, drill}
 use Rattle.swarm_cli.specs.BotCommands.{RunsBotCommand}
 use Rattle.swarm_cli.specs.Clients.{RunsTrigger, RunsCollect, RunsCancel, RunsTasks, RunsBots}
-use Rattle.swarm_cli.specs.Deeds.{Deed}
+use Rattle.swarm_cli.specs.Deeds.{Service, by_one, serving}
 use Rattle.swarm_cli.specs.Deeds as deed
 use Rattle.swarm_cli.specs.Drills.{Drills}
-use Rattle.swarm_cli.specs.SettingsFile.{RunsNew, RunsFile}
+use Rattle.swarm_cli.specs.SettingsFile.{RunsUnder, RunsFile}
 use Rattle.swarm_cli.specs.Surroundings.{Surroundings, OnlyConsole}
 
--- a command over a door, under the settings of a file, or the open ones where no file is named
-abbrev pub RunsBy : Deed → Option (List ℕ) → Surroundings → Surroundings → ℕ → Type 0
-RunsBy what None x y status = RunsNew what open_settings x.outside y.outside status × (y.files ≡ x.files) × (y.store ≡ x.store) × (y.dialer ≡ x.dialer) × (y.runner ≡ x.runner)
+-- a command over the pools, under the settings of a file, or the open ones where no file is named
+abbrev pub RunsBy : Service → Option (List ℕ) → Surroundings → Surroundings → ℕ → Type 0
+RunsBy what None x y status = RunsUnder what None open_settings x.store y.store x.outside y.outside status × (y.files ≡ x.files) × (y.dialer ≡ x.dialer) × (y.runner ≡ x.runner)
 RunsBy what (Some path) x y status = RunsFile what path x.files y.files x.store y.store x.outside y.outside status × (y.dialer ≡ x.dialer) × (y.runner ≡ x.runner)
 
 -- a command was carried out
 abbrev pub CarriesOut : CommandValue → Surroundings → Surroundings → ℕ → Type 0
-CarriesOut (session settings) x y status = RunsBy deed.session settings x y status
-CarriesOut (serve settings address workers connections) x y status = RunsBy (deed.serve address connections) settings x y status
+CarriesOut (session settings) x y status = RunsBy (by_one deed.session) settings x y status
+CarriesOut (serve settings address workers connections) x y status = RunsBy (serving address workers connections) settings x y status
 CarriesOut (bot options) x y status = RunsBotCommand options x y status
 CarriesOut (drill cycles start) x y status = Drills start cycles x.outside.console y.outside.console status × OnlyConsole x y
 CarriesOut (trigger server caller file) x y status = RunsTrigger server caller file x y status

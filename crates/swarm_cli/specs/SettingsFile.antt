@@ -13,7 +13,8 @@ use Rattle.swarm_policy.specs.Documents.{settings_of}
 use Rattle.link_writer.specs.Printing.{Prints}
 use Rattle.swarm_door.specs.Doors.{DoorState, IsFreshDoor}
 use Rattle.swarm_cli.specs.Outside.{Outside, SameButConsole}
-use Rattle.swarm_cli.specs.Deeds.{Deed, Does}
+use Rattle.swarm_cli.specs.Deeds.{Deed, Does, Service, by_one, by_several}
+use Rattle.swarm_cli.specs.Sharing.{RunsShared}
 use Rattle.swarm_cli.specs.KeptRecords.{RunsKept}
 
 -- the line for settings that are refused
@@ -53,30 +54,33 @@ pub data RunsNew (deed : Deed) (settings : Settings) (o u : Outside) (status : �
   done : DoesNew deed settings o u status → RunsNew deed settings o u status
   no_memory : status ≡ 5 → u ≡ o → RunsNew deed settings o u status
 
--- a command under the settings: over new logs, which leaves the store as it was, or over the records in their folder
-abbrev pub RunsUnder : Deed → Option (List ℕ) → Settings → StoreState → StoreState → Outside → Outside → ℕ → Type 0
-RunsUnder deed None settings p q o u status = RunsNew deed settings o u status × (q ≡ p)
-RunsUnder deed (Some folder) settings p q o u status = RunsKept deed settings folder p q o u status
+-- A command under the settings: over new logs, which leaves the store as it was, or over the records in their folder. Those are
+-- for one worker.
+abbrev pub RunsUnder : Service → Option (List ℕ) → Settings → StoreState → StoreState → Outside → Outside → ℕ → Type 0
+RunsUnder (by_one deed) None settings p q o u status = RunsNew deed settings o u status × (q ≡ p)
+RunsUnder (by_one deed) (Some folder) settings p q o u status = RunsKept deed settings folder p q o u status
+RunsUnder (by_several address workers connections) None settings p q o u status = RunsShared address workers connections settings o u status × (q ≡ p)
+RunsUnder (by_several address workers connections) (Some folder) settings p q o u status = Refuses (settings_line (codes "store") (codes "workers")) p q o u status
 
 -- a command under the settings that a text gives, or what is wrong with them
-abbrev pub Follows : Deed → Result Settings SettingsFault → StoreState → StoreState → Outside → Outside → ℕ → Type 0
-Follows deed (Ok settings) p q o u status = RunsUnder deed settings.store settings p q o u status
-Follows deed (Err why) p q o u status = Refuses (fault_line why) p q o u status
+abbrev pub Follows : Service → Result Settings SettingsFault → StoreState → StoreState → Outside → Outside → ℕ → Type 0
+Follows service (Ok settings) p q o u status = RunsUnder service settings.store settings p q o u status
+Follows service (Err why) p q o u status = Refuses (fault_line why) p q o u status
 
 -- what the text of a file comes to, unless there is no memory to read it
-abbrev pub RunsText : Deed → List ℕ → StoreState → StoreState → Outside → Outside → ℕ → Type 0
-RunsText deed text p q o u status = Follows deed (settings_of text) p q o u status ⊎ Stops 5 p q o u status
+abbrev pub RunsText : Service → List ℕ → StoreState → StoreState → Outside → Outside → ℕ → Type 0
+RunsText service text p q o u status = Follows service (settings_of text) p q o u status ⊎ Stops 5 p q o u status
 
 -- what comes of a load: a text, no file at the path, or one that is too long
-abbrev pub RunsLoaded : Deed → List ℕ → Result (Option (Vec ℕ Global)) FileFault → StoreState → StoreState → Outside → Outside → ℕ → Type 0
-RunsLoaded deed path (Ok (Some text)) p q o u status = RunsText deed (vec_items text) p q o u status
-RunsLoaded deed path (Ok None) p q o u status = Refuses (settings_line path (codes "absent")) p q o u status
-RunsLoaded deed path (Err file_fault.TooLong) p q o u status = Refuses (settings_line path (codes "count")) p q o u status
-RunsLoaded deed path (Err file_fault.Failed) p q o u status = Stops 4 p q o u status
-RunsLoaded deed path (Err file_fault.Memory) p q o u status = Stops 5 p q o u status
+abbrev pub RunsLoaded : Service → List ℕ → Result (Option (Vec ℕ Global)) FileFault → StoreState → StoreState → Outside → Outside → ℕ → Type 0
+RunsLoaded service path (Ok (Some text)) p q o u status = RunsText service (vec_items text) p q o u status
+RunsLoaded service path (Ok None) p q o u status = Refuses (settings_line path (codes "absent")) p q o u status
+RunsLoaded service path (Err file_fault.TooLong) p q o u status = Refuses (settings_line path (codes "count")) p q o u status
+RunsLoaded service path (Err file_fault.Failed) p q o u status = Stops 4 p q o u status
+RunsLoaded service path (Err file_fault.Memory) p q o u status = Stops 5 p q o u status
 
 -- a file of at most 1048576 bytes is loaded, once, and what it comes to is done
-pub record RunsFile (deed : Deed) (path : List ℕ) (f g : FilesState) (p q : StoreState) (o u : Outside) (status : ℕ) : Type 0 where
+pub record RunsFile (service : Service) (path : List ℕ) (f g : FilesState) (p q : StoreState) (o u : Outside) (status : ℕ) : Type 0 where
   pub loaded : Result (Option (Vec ℕ Global)) FileFault
   pub loads : Loads f g path 1048576 loaded
-  pub runs : RunsLoaded deed path loaded p q o u status
+  pub runs : RunsLoaded service path loaded p q o u status

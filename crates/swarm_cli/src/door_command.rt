@@ -1,8 +1,20 @@
-/// What is done with a door.
+/// What is done over a door of one's own.
 #[derive(Drop)]
 pub(crate) enum DoorCommand {
     /// One connection over the console is served.
     Session,
     /// The connections that come at an address are served, at most so many.
     Serve { address: String, connections: u32 },
+}
+
+/// By whom the pools are used.
+#[derive(Drop)]
+pub(crate) enum Service {
+    ByOne(DoorCommand),
+    /// Several workers serve the connections that come at an address, each at most so many.
+    BySeveral {
+        address: String,
+        workers: u32,
+        connections: u32,
+    },
 }

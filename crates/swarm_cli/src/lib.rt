@@ -4,8 +4,9 @@
 //! [`run`] reads the words of the command line by `command_words` and carries them out. The words
 //! `session` and `serve` are carried out over a door of their own: `session` serves one connection
 //! over the console, by `swarm_http`'s `session`, and `serve` those that come at an address, by
-//! [`work`]; `Does` of `specs/Deeds.antt` says what each does to the door and to the outside, and
-//! `IsWorked` of `specs/Works.antt` what a worker does. Their settings are the open ones, or with
+//! `swarm_workers`' `work`; `Does` of `specs/Deeds.antt` says what each does to the door and to the
+//! outside. With several workers `serve` is `swarm_workers`' `serve_shared`; `RunsShared` of
+//! `specs/Sharing.antt` says what comes of it. Their settings are the open ones, or with
 //! `--settings FILE` those of a file; `RunsFile` of `specs/SettingsFile.antt` says what a file comes
 //! to. Where the settings name a folder, the door is made of the records that the store has of each
 //! pool there, and the records grow with the logs; `RunsKept` of `specs/KeptRecords.antt` is that
@@ -31,9 +32,6 @@ mod printing;
 mod program;
 mod serving;
 mod settings_file;
-mod worked;
-mod worker;
+mod sharing;
 
 pub use program::run;
-pub use worked::{WorkStop, Worked};
-pub use worker::work;

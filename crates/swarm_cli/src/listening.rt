@@ -4,11 +4,11 @@ ghost use Rattle.swarm_model.specs.Settings.{are_settings};
 ghost use Rattle.swarm_http.specs.Answered.{KeepsDoor};
 ghost use Rattle.swarm_cli.specs.Deeds.{ServesListener, CannotListen};
 
-use crate::{WorkStop, work};
 use std::alloc::Global;
 use sw_base::{Listener, StartFault};
 use swarm_http::{Clock, Door};
 use swarm_model::Settings;
+use swarm_workers::{WorkStop, work};
 
 /// Has one worker serve the links that come at the address, at most so many, and tells why it
 /// stopped.

@@ -1,33 +1,45 @@
 //! The words of the command line, carried out.
-ghost use Rattle.std.specs.Prelude.{◌≡◌, map, option_map, string_bytes};
+ghost use Rattle.std.specs.Prelude.{◌≡◌, ◌≤◌, map, option_map, string_bytes};
 ghost use Rattle.sw_base.specs.Dialers.{DialerState};
 ghost use Rattle.sw_base.specs.Link.{IsClean};
 ghost use Rattle.runners.specs.Calls.{RunnerState};
-ghost use Rattle.command_words.specs.Commands.{HasRanges, command_of, value_of};
-ghost use Rattle.swarm_cli.specs.Handling.{HasRange, deed_of};
+ghost use Rattle.command_words.specs.Commands.{command_of, value_of};
+ghost use Rattle.command_words.specs.Commands as words;
+ghost use Rattle.swarm_cli.specs.Deeds.{serving};
+ghost use Rattle.swarm_cli.specs.Handling.{HasRanges, service_of};
 ghost use Rattle.swarm_cli.specs.Run.{CarriesOut, Runs, RunsBy};
 
 use crate::bot_command::run_bot_command;
 use crate::clients::{run_bots, run_cancel, run_collect, run_tasks, run_trigger};
-use crate::door_command::DoorCommand;
+use crate::door_command::{DoorCommand, Service};
 use crate::drill::run_drill;
-use crate::serving::run_new;
-use crate::settings_file::run_file;
+use crate::settings_file::{run_file, run_unkept};
 use command_words::{Command, Words, read_words};
 use link_writer::print;
 use runners::Runner;
 use std::alloc::Global;
-use sw_base::{Dialer, Files, Listener};
+use std::marker::Send;
+use std::sync::Wait;
+use std::thread::Threads;
+use sw_base::{Acceptor, Dialer, Files, Listener};
 use swarm_http::{Clock, Link};
 use swarm_keeper::Store;
 use swarm_policy::open_settings;
 
-/// Carries a command out over a door, under the settings of a file, or the open ones where no file
+/// Carries a command out over the pools, under the settings of a file, or the open ones where no file
 /// is named.
-fn run_door<L: Link, C: Clock, F: Files, P: Store, N: Listener>(
+fn run_service<
+    T: Threads + Wait + Sync,
+    L: Link,
+    C: Clock + Drop + Send,
+    F: Files,
+    P: Store,
+    N: Listener,
+>(
+    rt: &T,
     alloc: Global,
     settings: &Option<String>,
-    command: &DoorCommand,
+    service: &Service,
     console: &mut L,
     clock: &mut C,
     files: &mut F,
@@ -36,21 +48,23 @@ fn run_door<L: Link, C: Clock, F: Files, P: Store, N: Listener>(
 ) -> u8
 where
     P::Keeper: Drop,
+    <N::Acceptor as Acceptor>::Link: Send,
     requires clean { IsClean (L.state console.old) }
-    requires range { HasRange command.now }
-    ensures { (dialer : DialerState) (runner : RunnerState) → RunsBy (deed_of command.now) (option_map string_bytes settings.now)
+    requires range { HasRanges service.now }
+    ensures { (dialer : DialerState) (runner : RunnerState) → RunsBy (service_of service.now) (option_map string_bytes settings.now)
         (record { files = F.state files.old; store = P.state store.old; outside = record { console = L.state console.old; clock = C.ahead clock.old; listener = N.state listener.old }; dialer = dialer; waited = C.waited clock.old; runner = runner })
         (record { files = F.state files.new; store = P.state store.new; outside = record { console = L.state console.new; clock = C.ahead clock.new; listener = N.state listener.new }; dialer = dialer; waited = C.waited clock.new; runner = runner }) result }
 {
     match settings {
         None => match open_settings(alloc) {
-            Ok(settings) => run_new(alloc, &settings, command, console, clock, listener),
+            Ok(settings) => run_unkept(rt, alloc, &settings, service, console, clock, listener),
             Err(_) => 5,
         },
         Some(path) => run_file(
+            rt,
             alloc,
             path.as_str(),
-            command,
+            service,
             console,
             clock,
             files,
@@ -60,7 +74,37 @@ where
     }
 }
 
-fn carry_out<L: Link, C: Clock, F: Files, P: Store, N: Listener, W: Dialer, R: Runner>(
+/// One worker serves over a door of its own, several share the pools.
+fn service_by(address: String, workers: u32, connections: u32) -> Service
+    requires workers { (1 ≤ workers) × (workers ≤ 32) }
+    requires number { connections ≤ 1000000 }
+    ensures service { service_of result ≡ serving (string_bytes address) workers connections }
+    ensures range { HasRanges result }
+{
+    if workers == 1 {
+        return Service::ByOne(DoorCommand::Serve {
+            address,
+            connections,
+        });
+    }
+    Service::BySeveral {
+        address,
+        workers,
+        connections,
+    }
+}
+
+fn carry_out<
+    T: Threads + Wait + Sync,
+    L: Link,
+    C: Clock + Drop + Send,
+    F: Files,
+    P: Store,
+    N: Listener,
+    W: Dialer,
+    R: Runner,
+>(
+    rt: &T,
     alloc: Global,
     command: Command,
     console: &mut L,
@@ -73,17 +117,19 @@ fn carry_out<L: Link, C: Clock, F: Files, P: Store, N: Listener, W: Dialer, R: R
 ) -> u8
 where
     P::Keeper: Drop,
+    <N::Acceptor as Acceptor>::Link: Send,
     requires clean { IsClean (L.state console.old) }
-    requires ranges { HasRanges (value_of command) }
+    requires ranges { words.HasRanges (value_of command) }
     ensures { CarriesOut (value_of command)
         (record { files = F.state files.old; store = P.state store.old; outside = record { console = L.state console.old; clock = C.ahead clock.old; listener = N.state listener.old }; dialer = W.state dialer.old; waited = C.waited clock.old; runner = R.state runner.old })
         (record { files = F.state files.new; store = P.state store.new; outside = record { console = L.state console.new; clock = C.ahead clock.new; listener = N.state listener.new }; dialer = W.state dialer.new; waited = C.waited clock.new; runner = R.state runner.new }) result }
 {
     match command {
-        Command::Session(session) => run_door(
+        Command::Session(session) => run_service(
+            rt,
             alloc,
             &session.settings,
-            &DoorCommand::Session,
+            &Service::ByOne(DoorCommand::Session),
             console,
             clock,
             files,
@@ -91,14 +137,12 @@ where
             listener,
         ),
         Command::Serve(serve) => {
-            let command = DoorCommand::Serve {
-                address: serve.address,
-                connections: serve.connections,
-            };
-            run_door(
+            let service = service_by(serve.address, serve.workers, serve.connections);
+            run_service(
+                rt,
                 alloc,
                 &serve.settings,
-                &command,
+                &service,
                 console,
                 clock,
                 files,
@@ -126,14 +170,24 @@ where
 /// |---|---|
 /// | 0 | the command did its whole work: `bot` ran as many tasks as it may, or was told to end; the input of `session` ended between requests, its last request asked to close, or 65536 were answered; `serve` served as many connections as it may, or no more came; `drill` printed its counts |
 /// | 2 | the words are no command, or ask for help; the text that says so is printed |
-/// | 3 | the settings are refused, and `settings PLACE RULE` is printed; or the records of a pool are, and `store PLACE AT` is printed; or an option of a client's command or of `bot` is out of its grammar, and `settings OPTION grammar` is printed; or the file of `trigger` is not there or too long |
+/// | 3 | the settings are refused, and `settings PLACE RULE` is printed, for `serve` with several workers also where they name a folder for the records; or the records of a pool are, and `store PLACE AT` is printed; or an option of a client's command or of `bot` is out of its grammar, and `settings OPTION grammar` is printed; or the file of `trigger` is not there or too long |
 /// | 4 | a read, a write or a flush on the console failed, the file or the records could not be read, no connection could be accepted, the server could not be reached by a client's command, or the folder of `bot` could not be made |
 /// | 5 | there was no memory |
 /// | 6 | the server refused the request of a client's command, and the refusal's code is printed; or `bot` was refused for good |
 /// | 7 | the input of `session` ended inside a request, or a head was refused |
 /// | 8 | `collect` asked as often as it may, and the task has not ended; or `bot` used up its polls or its steps |
 /// | 9 | what the server sent is no reply |
-pub fn run<L: Link, C: Clock, F: Files, P: Store, N: Listener, W: Dialer, R: Runner>(
+pub fn run<
+    T: Threads + Wait + Sync,
+    L: Link,
+    C: Clock + Drop + Send,
+    F: Files,
+    P: Store,
+    N: Listener,
+    W: Dialer,
+    R: Runner,
+>(
+    rt: &T,
     alloc: Global,
     words: &[String],
     console: &mut L,
@@ -146,6 +200,7 @@ pub fn run<L: Link, C: Clock, F: Files, P: Store, N: Listener, W: Dialer, R: Run
 ) -> u8
 where
     P::Keeper: Drop,
+    <N::Acceptor as Acceptor>::Link: Send,
     requires { IsClean (L.state console.old) }
     ensures { Runs (command_of (map string_bytes words.now))
         (record { files = F.state files.old; store = P.state store.old; outside = record { console = L.state console.old; clock = C.ahead clock.old; listener = N.state listener.old }; dialer = W.state dialer.old; waited = C.waited clock.old; runner = R.state runner.old })
@@ -153,7 +208,7 @@ where
 {
     match read_words(alloc, words) {
         Ok(Words::Command(command)) => carry_out(
-            alloc, command, console, clock, files, store, listener, dialer, runner,
+            rt, alloc, command, console, clock, files, store, listener, dialer, runner,
         ),
         Ok(Words::Refused { text }) => print(console, text.as_bytes(), 2),
         Err(_) => 5,

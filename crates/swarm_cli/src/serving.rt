@@ -12,7 +12,6 @@ ghost use Rattle.swarm_cli.specs.Handling.{IsUsed, IsConcluded, deed_of, HasRang
 ghost use Rattle.swarm_cli.specs.KeptRecords.{RunsOver, TellsFault};
 ghost use Rattle.swarm_cli.specs.SettingsFile.{RunsNew};
 
-use crate::WorkStop;
 use crate::door_command::DoorCommand;
 use crate::listening::serve_listener;
 use crate::printing::print_bad_store;
@@ -25,6 +24,7 @@ use swarm_http::{Clock, Door, Ended, Link, session};
 use swarm_keeper::{Keeper, NoKeeper};
 use swarm_machine::Pool;
 use swarm_model::{Machine, PoolSettings, Settings};
+use swarm_workers::WorkStop;
 
 /// What comes of the use of a door.
 #[derive(Clone, Copy, Debug, PartialEq, Eq)]
@@ -46,7 +46,7 @@ fn exit_status(ended: Ended) -> u8
     }
 }
 
-fn work_status(stop: WorkStop) -> u8
+pub(crate) fn work_status(stop: WorkStop) -> u8
     ensures { result ≡ work_status stop }
 {
     match stop {

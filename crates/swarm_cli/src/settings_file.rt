@@ -1,19 +1,23 @@
 //! A command with the settings of a file.
-ghost use Rattle.std.specs.Prelude.{ℕ, IsTrue, List, Option};
+ghost use Rattle.std.specs.Prelude.{ℕ, IsTrue, List, Option, None};
 ghost use Rattle.sw_base.specs.Link.{IsClean};
 ghost use Rattle.sw_base.specs.Listeners.{ListenerState};
 ghost use Rattle.swarm_keeper.specs.Stores.{StoreState};
 ghost use Rattle.swarm_model.specs.Settings.{are_settings};
 ghost use Rattle.swarm_policy.specs.Pools.{have_own_names};
-ghost use Rattle.swarm_cli.specs.Handling.{deed_of, HasRange};
+ghost use Rattle.swarm_cli.specs.Handling.{service_of, HasRanges};
 ghost use Rattle.swarm_cli.specs.SettingsFile.{PrintsFault, RunsUnder, RunsText, RunsFile};
 
-use crate::door_command::DoorCommand;
+use crate::door_command::Service;
 use crate::kept_records::run_kept;
 use crate::printing::print_refusal;
 use crate::serving::run_new;
+use crate::sharing::run_shared;
 use std::alloc::Global;
-use sw_base::{FileFault, Files, Listener};
+use std::marker::Send;
+use std::sync::Wait;
+use std::thread::Threads;
+use sw_base::{Acceptor, FileFault, Files, Listener};
 use swarm_http::{Clock, Link};
 use swarm_keeper::Store;
 use swarm_model::Settings;
@@ -22,10 +26,50 @@ use swarm_policy::{SettingsFault, read_settings};
 /// The most bytes of a file with settings.
 const SETTINGS_SIZE: u64 = 1_048_576;
 
-fn run_accepted<L: Link, C: Clock, P: Store, N: Listener>(
+/// Carries a command out over new logs, of which nothing is kept.
+pub(crate) fn run_unkept<T: Threads + Wait + Sync, L: Link, C: Clock + Drop + Send, N: Listener>(
+    rt: &T,
     alloc: Global,
     settings: &Settings,
-    command: &DoorCommand,
+    service: &Service,
+    console: &mut L,
+    clock: &mut C,
+    listener: &mut N,
+) -> u8
+where
+    <N::Acceptor as Acceptor>::Link: Send,
+    requires rules { IsTrue (are_settings settings.now) }
+    requires clean { IsClean (L.state console.old) }
+    requires range { HasRanges service.now }
+    ensures { (store : StoreState) → RunsUnder (service_of service.now) None settings.now store store
+        (record { console = L.state console.old; clock = C.ahead clock.old; listener = N.state listener.old })
+        (record { console = L.state console.new; clock = C.ahead clock.new; listener = N.state listener.new }) result }
+{
+    match service {
+        Service::ByOne(command) => run_new(alloc, settings, command, console, clock, listener),
+        Service::BySeveral {
+            address,
+            workers,
+            connections,
+        } => run_shared(
+            rt,
+            alloc,
+            settings,
+            address.as_str(),
+            *workers,
+            *connections,
+            console,
+            &*clock,
+            listener,
+        ),
+    }
+}
+
+fn run_accepted<T: Threads + Wait + Sync, L: Link, C: Clock + Drop + Send, P: Store, N: Listener>(
+    rt: &T,
+    alloc: Global,
+    settings: &Settings,
+    service: &Service,
     console: &mut L,
     clock: &mut C,
     store: &mut P,
@@ -33,26 +77,30 @@ fn run_accepted<L: Link, C: Clock, P: Store, N: Listener>(
 ) -> u8
 where
     P::Keeper: Drop,
+    <N::Acceptor as Acceptor>::Link: Send,
     requires rules { IsTrue (are_settings settings.now) }
     requires own_names { IsTrue (have_own_names settings.now.pools) }
     requires clean { IsClean (L.state console.old) }
-    requires range { HasRange command.now }
-    ensures { RunsUnder (deed_of command.now) settings.now.store settings.now (P.state store.old) (P.state store.new)
+    requires range { HasRanges service.now }
+    ensures { RunsUnder (service_of service.now) settings.now.store settings.now (P.state store.old) (P.state store.new)
         (record { console = L.state console.old; clock = C.ahead clock.old; listener = N.state listener.old })
         (record { console = L.state console.new; clock = C.ahead clock.new; listener = N.state listener.new }) result }
 {
     match &settings.store {
-        None => run_new(alloc, settings, command, console, clock, listener),
-        Some(folder) => run_kept(
-            alloc,
-            settings,
-            folder.as_str(),
-            command,
-            console,
-            clock,
-            store,
-            listener,
-        ),
+        None => run_unkept(rt, alloc, settings, service, console, clock, listener),
+        Some(folder) => match service {
+            Service::ByOne(command) => run_kept(
+                alloc,
+                settings,
+                folder.as_str(),
+                command,
+                console,
+                clock,
+                store,
+                listener,
+            ),
+            Service::BySeveral { .. } => print_refusal(alloc, console, "store", "workers"),
+        },
     }
 }
 
@@ -69,10 +117,11 @@ fn print_fault<L: Link>(alloc: Global, console: &mut L, fault: &SettingsFault) -
     }
 }
 
-fn run_text<L: Link, C: Clock, P: Store, N: Listener>(
+fn run_text<T: Threads + Wait + Sync, L: Link, C: Clock + Drop + Send, P: Store, N: Listener>(
+    rt: &T,
     alloc: Global,
     text: &[u8],
-    command: &DoorCommand,
+    service: &Service,
     console: &mut L,
     clock: &mut C,
     store: &mut P,
@@ -80,24 +129,35 @@ fn run_text<L: Link, C: Clock, P: Store, N: Listener>(
 ) -> u8
 where
     P::Keeper: Drop,
+    <N::Acceptor as Acceptor>::Link: Send,
     requires clean { IsClean (L.state console.old) }
-    requires range { HasRange command.now }
-    ensures { RunsText (deed_of command.now) text.now (P.state store.old) (P.state store.new)
+    requires range { HasRanges service.now }
+    ensures { RunsText (service_of service.now) text.now (P.state store.old) (P.state store.new)
         (record { console = L.state console.old; clock = C.ahead clock.old; listener = N.state listener.old })
         (record { console = L.state console.new; clock = C.ahead clock.new; listener = N.state listener.new }) result }
 {
     match read_settings(alloc, text) {
-        Ok(settings) => run_accepted(alloc, &settings, command, console, clock, store, listener),
+        Ok(settings) => run_accepted(
+            rt, alloc, &settings, service, console, clock, store, listener,
+        ),
         Err(fault) => print_fault(alloc, console, &fault),
     }
 }
 
 /// Carries a command out under the settings of the file at a path, or prints what is wrong with
 /// them.
-pub(crate) fn run_file<L: Link, C: Clock, F: Files, P: Store, N: Listener>(
+pub(crate) fn run_file<
+    T: Threads + Wait + Sync,
+    L: Link,
+    C: Clock + Drop + Send,
+    F: Files,
+    P: Store,
+    N: Listener,
+>(
+    rt: &T,
     alloc: Global,
     path: &str,
-    command: &DoorCommand,
+    service: &Service,
     console: &mut L,
     clock: &mut C,
     files: &mut F,
@@ -106,14 +166,15 @@ pub(crate) fn run_file<L: Link, C: Clock, F: Files, P: Store, N: Listener>(
 ) -> u8
 where
     P::Keeper: Drop,
+    <N::Acceptor as Acceptor>::Link: Send,
     requires clean { IsClean (L.state console.old) }
-    requires range { HasRange command.now }
-    ensures { RunsFile (deed_of command.now) path.now (F.state files.old) (F.state files.new) (P.state store.old) (P.state store.new)
+    requires range { HasRanges service.now }
+    ensures { RunsFile (service_of service.now) path.now (F.state files.old) (F.state files.new) (P.state store.old) (P.state store.new)
         (record { console = L.state console.old; clock = C.ahead clock.old; listener = N.state listener.old })
         (record { console = L.state console.new; clock = C.ahead clock.new; listener = N.state listener.new }) result }
 {
     match files.load(alloc, path, SETTINGS_SIZE) {
-        Ok(Some(text)) => run_text(alloc, &text, command, console, clock, store, listener),
+        Ok(Some(text)) => run_text(rt, alloc, &text, service, console, clock, store, listener),
         Ok(None) => print_refusal(alloc, console, path, "absent"),
         Err(FileFault::TooLong) => print_refusal(alloc, console, path, "count"),
         Err(FileFault::Failed) => 4,

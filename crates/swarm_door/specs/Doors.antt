@@ -23,10 +23,15 @@ use Rattle.swarm_door.specs.declared.door.Answered.{Answered}
 abbrev pub Logs : Type 0
 Logs = ℕ → List Entry
 
--- how a door writes: the number that its entries bear at each place, and whether it writes to the logs alone
+-- How a door writes: the number that its entries bear at each place, and whether it writes to the logs alone. And of the log at each
+-- place an identity, the numbers that were joined in the door's pass, and how many passes were made, where that pass has the number 0:
+-- doors with one identity at a place write to one log. A door that writes alone tells none of that, [], [] and 0.
 pub record Writer : Type 0 where
   pub numbers : ℕ → ℕ
   pub alone : Bool
+  pub logs : ℕ → List ℕ
+  pub joined : ℕ → List ℕ
+  pub made : ℕ → ℕ
 
 -- The settings with which the door was made, the entries that it has seen of each pool, what its keepers
 -- tell of each pool's records, in the order of the pools, how it writes, how often its keepers failed,

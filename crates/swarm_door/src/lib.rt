@@ -3,8 +3,10 @@
 //! A [`Door`] answers one request at one point of the log of its pool, after what is due by the
 //! call's moment was settled, and tells the list of the entries that it has seen of each pool.
 //! `IsCall` of `specs/Doors.antt` says what a call may do; its points are those of `swarm_model`'s
-//! `Points`. A fresh door (`IsFreshDoor`) has seen the logs that it was made with, and was not
-//! called. The crate stands on `swarm_model` and `sw_base`.
+//! `Points`. What a door tells of the logs that it writes to (`Writer`) stays with each call: the
+//! numbers that its entries bear, whether it writes alone, and which logs they are. A fresh door
+//! (`IsFreshDoor`) has seen the logs that it was made with, and was not called. The crate stands on
+//! `swarm_model` and `sw_base`.
 #![tactic(auto)]
 
 mod door;

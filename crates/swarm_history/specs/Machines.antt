@@ -19,7 +19,7 @@ own_door store machines records faults calls = record {
   settings = record { store = store; pools = pools_of machines };
   seen = logs_of machines;
   records = records;
-  writer = record { numbers = λ p. 0; alone = true };
+  writer = record { numbers = λ p. 0; alone = true; logs = λ p. []; joined = λ p. []; made = λ p. 0 };
   faults = faults;
   calls = calls;
 }

@@ -10,3 +10,4 @@ mod Counts
 mod Committing
 mod UsesChange
 mod UsesFollow
+pub mod Sending

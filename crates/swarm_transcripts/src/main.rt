@@ -12,7 +12,8 @@ use transcript_runs::ProgramRuns;
 fn main(rt: HostRuntime) -> io::Result<ExitCode> {
     let word = env::args(&rt)?.nth(1);
     let folder = word.as_ref().map_or(".", |it| it.as_str());
-    Ok(if run_folder(&rt, folder, &ProgramRuns)? {
+    let programs = ProgramRuns { rt: &rt };
+    Ok(if run_folder(&rt, folder, &programs)? {
         ExitCode::SUCCESS
     } else {
         ExitCode::FAILURE

@@ -1,37 +1,46 @@
 ghost use Rattle.std.specs.Prelude.{◌≡◌, ◌+◌};
 
-use crate::HasFailed;
+use crate::{HasFailed, LimitedReads, Limits};
 use std::rt;
 use std::time::{Duration, Instant};
 use sw_base::{Failed, Link};
 
 /// A link each of whose requests has a limit of time, from its first byte to the flush of its reply.
 /// A request begins with the first read that ends, or the first write that begins, after the last
-/// flush. A read or write that begins past the limit fails, and moves nothing.
+/// flush. So bytes of it that came along with the request before don't begin it. A read or write that
+/// begins past the limit fails, and moves nothing.
+///
+/// A read waits for `idle` of its limits at most where no request has begun, and for `call` within
+/// one. Which of the two holds is set on the link in it as a read begins, and only where it isn't
+/// set already: a request that comes in one piece costs no call of the system for it.
 ///
 /// What the link tells is what the link in it tells, and its counts are that one's with its own late
-/// calls. Where the clock can't be read, no call is late.
+/// calls, among which is a read whose limit can't be set. Where the clock can't be read, no request
+/// begins and no call is late.
 #[derive(Drop)]
-pub struct DeadlineLink<'a, L: Link + Drop, T: rt::Clock> {
+pub struct DeadlineLink<'a, L: LimitedReads + Drop, T: rt::Clock> {
     link: L,
     time: &'a T,
-    limit: Duration,
+    limits: Limits,
     // When the request began, if it did.
     begun: Option<Instant>,
+    // How long a read may wait, once it was set.
+    wait: Option<Duration>,
     late_reads: u64,
     late_writes: u64,
 }
 
-impl<'a, L: Link + Drop, T: rt::Clock> DeadlineLink<'a, L, T> {
+impl<'a, L: LimitedReads + Drop, T: rt::Clock> DeadlineLink<'a, L, T> {
     /// A link whose first request has not begun.
-    pub fn new(link: L, time: &'a T, limit: Duration) -> Self
+    pub fn new(link: L, time: &'a T, limits: Limits) -> Self
         ensures { ⟦<DeadlineLink<'a, L, T> as Link>⟧.state result ≡ L.state link }
     {
         DeadlineLink {
             link,
             time,
-            limit,
+            limits,
             begun: None,
+            wait: None,
             late_reads: 0,
             late_writes: 0,
         }
@@ -49,11 +58,36 @@ impl<'a, L: Link + Drop, T: rt::Clock> DeadlineLink<'a, L, T> {
     fn is_late(&self) -> bool {
         match self.begun {
             Some(begun) => match begun.elapsed(self.time) {
-                Ok(since) => since > self.limit,
+                Ok(since) => since > self.limits.request,
                 Err(_) => false,
             },
             None => false,
         }
+    }
+
+    // How long a read that begins now may wait.
+    fn wait_now(&self) -> Duration {
+        match self.begun {
+            Some(_) => self.limits.call,
+            None => self.limits.idle,
+        }
+    }
+
+    // Has a read that begins now wait as long as it may. Says whether that is set.
+    fn limit_read(&mut self) -> bool
+        ensures link { L.state self.new.link ≡ L.state self.old.link }
+        ensures reads { self.new.late_reads ≡ self.old.late_reads }
+        ensures writes { self.new.late_writes ≡ self.old.late_writes }
+    {
+        let wait = self.wait_now();
+        if self.wait == Some(wait) {
+            return true;
+        }
+        if !self.link.limit_reads(wait) {
+            return false;
+        }
+        self.wait = Some(wait);
+        true
     }
 }
 
@@ -65,20 +99,20 @@ fn begin<T: rt::Clock>(begun: Option<Instant>, time: &T) -> Option<Instant> {
     }
 }
 
-impl<'a, L: HasFailed + Drop, T: rt::Clock> HasFailed for DeadlineLink<'a, L, T> {
+impl<'a, L: LimitedReads + Drop, T: rt::Clock> HasFailed for DeadlineLink<'a, L, T> {
     fn has_failed(&self) -> bool {
         self.late_reads > 0 || self.late_writes > 0 || self.link.has_failed()
     }
 }
 
-impl<'a, L: Link + Drop, T: rt::Clock> Link for DeadlineLink<'a, L, T> {
+impl<'a, L: LimitedReads + Drop, T: rt::Clock> Link for DeadlineLink<'a, L, T> {
     ghost state = { λ d. record (L.state d.link) {
       read_faults = (L.state d.link).read_faults + d.late_reads;
       write_faults = (L.state d.link).write_faults + d.late_writes;
     } };
 
     fn read(&mut self, into: &mut [u8]) -> Result<usize, Failed> {
-        if self.is_late() {
+        if self.is_late() || !self.limit_read() {
             self.late_reads = self.late_reads.saturating_add(1);
             return Err(Failed);
         }

@@ -69,7 +69,7 @@ fn is_passing(kind: ErrorKind) -> bool {
     )
 }
 
-// The next stream, with the limit of a call set on it. One on which it can't be set is gone, and is
+// The next stream, with the limit of a write set on it. One on which it can't be set is gone, and is
 // passed over.
 fn next_stream(listener: &TcpListener, limits: Limits) -> Option<TcpStream> {
     for _ in 0..u64::MAX {
@@ -99,7 +99,7 @@ impl<'a, T: rt::Clock + Sync> Acceptor for TcpAcceptor<'a, T> {
             Some(stream) => Ok(Some(DeadlineLink::new(
                 TcpLink::new(stream),
                 self.time,
-                self.limits.request,
+                self.limits,
             ))),
             None => {
                 self.faults = self.faults.saturating_add(1);

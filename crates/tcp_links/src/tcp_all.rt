@@ -9,20 +9,22 @@ use std::rt;
 use sw_base::{Dialer, Listener, StartFault};
 
 /// The system's sockets, as a listener and a dialer with one count of faults. It tells nothing else.
+///
+/// A link that comes to it has the limits of a server with as many workers as it listens for, and one
+/// that it dials has those of a client.
 #[derive(Drop)]
 pub struct TcpAll<'a, N: Net<Listener = TcpListener, Stream = TcpStream>, T: rt::Clock + Sync> {
     alloc: Global,
     net: &'a N,
     time: &'a T,
-    limits: Limits,
     faults: u64,
 }
 
 impl<'a, N: Net<Listener = TcpListener, Stream = TcpStream>, T: rt::Clock + Sync> TcpAll<'a, N, T> {
     ghost use Rattle.tcp_links.specs.Untold.{untold_listener, untold_dialer};
 
-    /// Sockets that have no fault yet. `limits` are those of each link that comes from them.
-    pub fn new(alloc: Global, net: &'a N, time: &'a T, limits: Limits) -> Self
+    /// Sockets that have no fault yet.
+    pub fn new(alloc: Global, net: &'a N, time: &'a T) -> Self
         ensures listener { ⟦<TcpAll<'a, N, T> as Listener>⟧.state result ≡ untold_listener }
         ensures dialer { ⟦<TcpAll<'a, N, T> as Dialer>⟧.state result ≡ untold_dialer }
     {
@@ -30,7 +32,6 @@ impl<'a, N: Net<Listener = TcpListener, Stream = TcpStream>, T: rt::Clock + Sync
             alloc,
             net,
             time,
-            limits,
             faults: 0,
         }
     }
@@ -51,7 +52,8 @@ impl<'a, N: Net<Listener = TcpListener, Stream = TcpStream>, T: rt::Clock + Sync
             self.faults = self.faults.saturating_add(1);
             return Err(StartFault::Failed);
         };
-        match acceptors(self.alloc, &listener, self.time, self.limits, workers) {
+        let limits = Limits::of_server(workers);
+        match acceptors(self.alloc, &listener, self.time, limits, workers) {
             Ok(given) => Ok(given),
             Err(StartFault::Memory) => Err(StartFault::Memory),
             Err(StartFault::Failed) => {
@@ -68,8 +70,8 @@ impl<'a, N: Net<Listener = TcpListener, Stream = TcpStream>, T: rt::Clock + Sync
     }
 }
 
-// A stream to the first of the address's places that answers, with the limit of a call set on it.
-// Each place has that limit to answer.
+// A stream to the first of the address's places that answers, with the limit of a write set on it.
+// Each place has the limit of a call to answer.
 fn connect<N: Net<Stream = TcpStream>>(
     net: &N,
     address: &str,
@@ -95,12 +97,9 @@ impl<'a, N: Net<Listener = TcpListener, Stream = TcpStream>, T: rt::Clock + Sync
         &mut self,
         address: &str,
     ) -> Result<DeadlineLink<'a, TcpLink<TcpStream>, T>, StartFault> {
-        match connect(self.net, address, self.limits) {
-            Some(stream) => Ok(DeadlineLink::new(
-                TcpLink::new(stream),
-                self.time,
-                self.limits.request,
-            )),
+        let limits = Limits::of_client();
+        match connect(self.net, address, limits) {
+            Some(stream) => Ok(DeadlineLink::new(TcpLink::new(stream), self.time, limits)),
             None => {
                 self.faults = self.faults.saturating_add(1);
                 Err(StartFault::Failed)

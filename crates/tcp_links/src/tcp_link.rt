@@ -1,15 +1,22 @@
-ghost use Rattle.std.specs.Prelude.{◌≡◌, ◌≤◌, ◌<◌, IfSome, length, None};
+ghost use Rattle.std.specs.Prelude.{◌≡◌, ◌≢◌, ◌≤◌, ◌<◌, ◌↔◌, ◌⊎◌, ◌∷◌, [], IfSome, IsTrue, length, take, None};
 ghost use Rattle.sw_base.specs.Link.{LinkState, opened};
 
-use crate::HasFailed;
+use crate::{HasFailed, LimitedReads, LimitedStream};
 use std::io::{ErrorKind, Read, Write};
+use std::time::Duration;
 use sw_base::{Failed, Link};
 
+// The first byte of a hello of TLS: the type of a record that is a handshake (RFC 8446, section 5.1).
+const TLS_HANDSHAKE: u8 = 0x16;
+
 /// A stream as a link. It tells no bytes. A write of 0 bytes counts as a failed one, and a call that
-/// a signal interrupts is made again.
+/// a signal interrupts is made again. A first read whose first byte begins a hello of TLS fails:
+/// whoever sends it awaits an answer in TLS, and would send nothing more.
 #[derive(Drop)]
 pub struct TcpLink<S: Read + Write + Drop> {
     stream: S,
+    // Whether bytes have come.
+    has_begun: bool,
     // Whether a read found the end of the input.
     at_end: bool,
     read_faults: u64,
@@ -23,10 +30,27 @@ impl<S: Read + Write + Drop> TcpLink<S> {
     {
         TcpLink {
             stream,
+            has_begun: false,
             at_end: false,
             read_faults: 0,
             write_faults: 0,
         }
+    }
+
+    // Reads once, unless the stream's first bytes begin a hello of TLS.
+    fn read_plain(&mut self, into: &mut [u8]) -> Option<usize>
+        ensures bound { IfSome result (λ n. n ≤ length into.new) }
+        ensures plain { IsTrue self.old.has_begun ⊎ IfSome result (λ n. take 1 (take n into.new) ≢ 0x16 ∷ []) }
+        ensures reads { self.new.read_faults ≡ self.old.read_faults }
+        ensures writes { self.new.write_faults ≡ self.old.write_faults }
+    {
+        let n = read_again(&mut self.stream, into)?;
+        let has_begun = self.has_begun;
+        self.has_begun = true;
+        if !has_begun && is_hello(&into[..n]) {
+            return None;
+        }
+        Some(n)
     }
 
     // The stream, where its peer may have sent more than was read and still awaits the last reply.
@@ -41,6 +65,12 @@ impl<S: Read + Write + Drop> TcpLink<S> {
 impl<S: Read + Write + Drop> HasFailed for TcpLink<S> {
     fn has_failed(&self) -> bool {
         self.read_faults > 0 || self.write_faults > 0
+    }
+}
+
+impl<S: Read + Write + LimitedStream + Drop> LimitedReads for TcpLink<S> {
+    fn limit_reads(&mut self, limit: Duration) -> bool {
+        self.stream.limit_reads(limit)
     }
 }
 
@@ -59,6 +89,13 @@ fn read_again<S: Read>(stream: &mut S, into: &mut [u8]) -> Option<usize>
         }
     }
     None
+}
+
+// Whether the first bytes of a stream begin a hello of TLS.
+fn is_hello(bytes: &[u8]) -> bool
+    ensures { IsTrue result ↔ (take 1 bytes.now ≡ 0x16 ∷ []) }
+{
+    bytes.first() == Some(&TLS_HANDSHAKE)
 }
 
 // Writes once, and again where a signal interrupted that: 1 byte at least.
@@ -89,7 +126,7 @@ impl<S: Read + Write + Drop> Link for TcpLink<S> {
     } };
 
     fn read(&mut self, into: &mut [u8]) -> Result<usize, Failed> {
-        match read_again(&mut self.stream, into) {
+        match self.read_plain(into) {
             Some(n) => {
                 self.at_end = n == 0;
                 Ok(n)

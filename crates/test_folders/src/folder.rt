@@ -8,7 +8,9 @@ fn check_file<R: Files + Print + Eprint + AllocGlobal, T: TextTest>(
     folder: &str,
     file: &str,
     test: &T,
-) -> io::Result<bool> {
+) -> io::Result<bool>
+    requires { T.ready }
+{
     let alloc = rt.alloc();
     let ending = test.ending();
     if !file.ends_with(ending) {
@@ -51,7 +53,9 @@ pub fn check_folder<R: Files + Print + Eprint + AllocGlobal + Clone + Drop, T: T
     rt: &R,
     folder: &str,
     test: &T,
-) -> io::Result<bool> {
+) -> io::Result<bool>
+    requires { T.ready }
+{
     let mut have_passed = true;
     for name in names_of(rt, folder)?.iter() {
         have_passed = check_file(rt, folder, name.as_str(), test)? && have_passed;

@@ -2,6 +2,9 @@ use std::io;
 
 /// A test whose rows are a text.
 pub trait TextTest {
+    // What a check asks for, as that threads may share the runtime of a program that is tested.
+    ghost ready: { Type 0 };
+
     /// The end of the name of each of its files, as `.rows`.
     fn ending(&self) -> &str;
 
@@ -16,5 +19,6 @@ pub trait TextTest {
         rt: &R,
         file: &str,
         text: &str,
-    ) -> io::Result<bool>;
+    ) -> io::Result<bool>
+        requires { ready };
 }

@@ -48,7 +48,9 @@ fn run_whole<R: Print + Eprint + AllocGlobal, T: TranscriptTest>(
     transcript: &Transcript,
     runs: &[Transcript],
     test: &T,
-) -> io::Result<bool> {
+) -> io::Result<bool>
+    requires { T.ready }
+{
     let alloc = rt.alloc();
     match test.check(alloc, runs) {
         Ok(true) => Ok(true),
@@ -71,7 +73,9 @@ fn run_transcript<R: Print + Eprint + AllocGlobal, T: TranscriptTest>(
     transcript: &Transcript,
     runs: &[Transcript],
     test: &T,
-) -> io::Result<Outcome> {
+) -> io::Result<Outcome>
+    requires { T.ready }
+{
     let has_passed = run_whole(rt, file, transcript, runs, test)?;
     match test.check_over_lists(rt.alloc(), runs) {
         Ok(is_over_lists) => Ok(Outcome {
@@ -91,7 +95,9 @@ fn run_text<R: Print + Eprint + AllocGlobal, T: TranscriptTest>(
     file: &str,
     transcripts: &[Transcript],
     test: &T,
-) -> io::Result<bool> {
+) -> io::Result<bool>
+    requires { T.ready }
+{
     let mut has_passed = true;
     let mut count = 0usize;
     let mut replies = 0usize;
@@ -121,6 +127,8 @@ struct TranscriptTexts<'a, T> {
 }
 
 impl<'a, T: TranscriptTest> TextTest for TranscriptTexts<'a, T> {
+    ghost ready = { T.ready };
+
     fn ending(&self) -> &str {
         ".transcript"
     }
@@ -155,6 +163,8 @@ pub fn run_folder<R: Files + Print + Eprint + AllocGlobal + Clone + Drop, T: Tra
     rt: &R,
     folder: &str,
     test: &T,
-) -> io::Result<bool> {
+) -> io::Result<bool>
+    requires { T.ready }
+{
     check_folder(rt, folder, &TranscriptTexts { test })
 }

@@ -1,9 +1,12 @@
 use std::alloc::{AllocError, Global};
-use sw_base::{Clock, ListClock, StepClock};
+use sw_base::{ListClock, StepClock};
 use transcript::{Transcript, TranscriptError, compare_moments, compare_waits};
 
 /// A program that transcripts test, with all that stands around it but the clock.
 pub trait TestedProgram {
+    // What a run asks for, as that threads may share the runtime of a program that starts some.
+    ghost ready: { Type 0 };
+
     /// Gives it a new store, as this transcript says, for this one and those that go on with it.
     ///
     /// # Errors
@@ -11,19 +14,34 @@ pub trait TestedProgram {
     /// Want of memory.
     fn renew_store(&mut self, alloc: Global, first: &Transcript) -> Result<(), AllocError>;
 
-    /// Runs it by a transcript over this clock, its bytes in pieces of this size, and compares what
-    /// it wrote and its status.
+    /// Runs it by a transcript over a clock of its moments, its bytes in pieces of this size, and
+    /// compares what it wrote and its status.
     ///
     /// # Errors
     ///
     /// The first thing that differs, and want of memory.
-    fn check_run<C: Clock>(
+    fn check_listed(
         &mut self,
         alloc: Global,
         transcript: &Transcript,
         piece: usize,
-        clock: &mut C,
-    ) -> Result<(), TranscriptError>;
+        clock: &mut ListClock<'_>,
+    ) -> Result<(), TranscriptError>
+        requires { ready };
+
+    /// The same over a clock that goes on by a step.
+    ///
+    /// # Errors
+    ///
+    /// As `check_listed`.
+    fn check_stepped(
+        &mut self,
+        alloc: Global,
+        transcript: &Transcript,
+        piece: usize,
+        clock: &mut StepClock,
+    ) -> Result<(), TranscriptError>
+        requires { ready };
 }
 
 /// Runs transcripts one after the other over one store and their moments, each of which has to be
@@ -33,14 +51,16 @@ fn check_moments<P: TestedProgram>(
     runs: &[Transcript],
     piece: usize,
     program: &mut P,
-) -> Result<(), TranscriptError> {
+) -> Result<(), TranscriptError>
+    requires { P.ready }
+{
     for transcript in runs {
         let mut clock = ListClock {
             moments: transcript.moments.as_slice(),
             asked: 0,
             waited: 0,
         };
-        program.check_run(alloc, transcript, piece, &mut clock)?;
+        program.check_listed(alloc, transcript, piece, &mut clock)?;
         compare_moments(transcript, clock.asked)?;
         compare_waits(transcript, clock.waited)?;
     }
@@ -55,7 +75,9 @@ fn check_step<P: TestedProgram>(
     piece: usize,
     step: u64,
     program: &mut P,
-) -> Result<(), TranscriptError> {
+) -> Result<(), TranscriptError>
+    requires { P.ready }
+{
     for transcript in runs {
         let at = transcript.moments.first().copied().unwrap_or(0);
         let mut clock = StepClock {
@@ -63,7 +85,7 @@ fn check_step<P: TestedProgram>(
             step,
             waited: 0,
         };
-        program.check_run(alloc, transcript, piece, &mut clock)?;
+        program.check_stepped(alloc, transcript, piece, &mut clock)?;
     }
     Ok(())
 }
@@ -75,7 +97,9 @@ fn check_sizes<P: TestedProgram>(
     first: &Transcript,
     runs: &[Transcript],
     program: &mut P,
-) -> Result<(), TranscriptError> {
+) -> Result<(), TranscriptError>
+    requires { P.ready }
+{
     for piece in first.pieces.first..=first.pieces.last {
         program.renew_store(alloc, first)?;
         check_moments(alloc, runs, piece, program)?;
@@ -99,7 +123,9 @@ pub fn check_runs<P: TestedProgram>(
     alloc: Global,
     runs: &[Transcript],
     program: &mut P,
-) -> Result<(), TranscriptError> {
+) -> Result<(), TranscriptError>
+    requires { P.ready }
+{
     match runs.first() {
         Some(first) => check_sizes(alloc, first, runs, program),
         None => Ok(()),

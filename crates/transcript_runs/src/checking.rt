@@ -1,9 +1,14 @@
+ghost use Rattle.std.specs.Thread.{IsSync};
+
 use crate::links::{compare_dialed, compare_served, dialer_of, listener_of};
 use dimensions::TryCopy;
 use runners::MemoryRunner;
 use std::alloc::{AllocError, Global};
 use std::collections::VecDeque;
-use sw_base::{Clock, MemoryDialer, MemoryFiles, MemoryLink, StepClock};
+use std::marker::Send;
+use std::sync::Wait;
+use std::thread::Threads;
+use sw_base::{Clock, ListClock, MemoryDialer, MemoryFiles, MemoryLink, StepClock};
 use swarm_cli::run;
 use swarm_keeper::MemoryStore;
 use tested_programs::{TestedProgram, check_runs};
@@ -43,7 +48,8 @@ fn runner_of(alloc: Global, transcript: &Transcript) -> Result<MemoryRunner, All
 
 /// Runs a transcript over a clock, a store, a dialer and a runner, its bytes in pieces of this size,
 /// and answers what it wrote to the console and its status, once the links that came are compared.
-fn run_over<C: Clock>(
+fn run_over<T: Threads + Wait + Sync, C: Clock + Drop + Send>(
+    rt: &T,
     alloc: Global,
     transcript: &Transcript,
     piece: usize,
@@ -58,6 +64,7 @@ fn run_over<C: Clock>(
     let mut files = files_of(alloc, transcript)?;
     let mut listener = listener_of(alloc, transcript, piece)?;
     let status = run(
+        rt,
         alloc,
         transcript.words.as_slice(),
         &mut link,
@@ -74,7 +81,8 @@ fn run_over<C: Clock>(
 
 /// Runs a transcript over a clock and a store, its bytes in pieces of this size, and compares what
 /// was written, what is left of the runner's answers, and the status.
-fn check_over<C: Clock>(
+fn check_over<T: Threads + Wait + Sync, C: Clock + Drop + Send>(
+    rt: &T,
     alloc: Global,
     transcript: &Transcript,
     piece: usize,
@@ -84,6 +92,7 @@ fn check_over<C: Clock>(
     let mut dialer = dialer_of(alloc, transcript, piece, None)?;
     let mut runner = runner_of(alloc, transcript)?;
     let (link, status) = run_over(
+        rt,
         alloc,
         transcript,
         piece,
@@ -100,7 +109,8 @@ fn check_over<C: Clock>(
 
 /// Runs a transcript with what its last dialed link gives cut at a place: nothing is printed, and
 /// the status is this one.
-fn check_cut(
+fn check_cut<T: Threads + Wait + Sync>(
+    rt: &T,
     alloc: Global,
     transcript: &Transcript,
     most: usize,
@@ -115,6 +125,7 @@ fn check_cut(
     let mut dialer = dialer_of(alloc, transcript, most.max(1), Some(most))?;
     let mut runner = runner_of(alloc, transcript)?;
     let (link, status) = run_over(
+        rt,
         alloc,
         transcript,
         1000,
@@ -128,7 +139,8 @@ fn check_cut(
 }
 
 /// Runs a transcript with what its last dialed link gives cut at each place.
-fn check_cuts(
+fn check_cuts<T: Threads + Wait + Sync>(
+    rt: &T,
     alloc: Global,
     transcript: &Transcript,
     store: &mut MemoryStore,
@@ -137,31 +149,44 @@ fn check_cuts(
         return Ok(());
     };
     for most in 0..last.input.len() {
-        check_cut(alloc, transcript, most, wanted, store)?;
+        check_cut(rt, alloc, transcript, most, wanted, store)?;
     }
     Ok(())
 }
 
 /// The program by its words, over a store in memory.
 #[derive(Drop)]
-struct WholeProgram {
+struct WholeProgram<'a, T> {
+    rt: &'a T,
     store: MemoryStore,
 }
 
-impl TestedProgram for WholeProgram {
+impl<'a, T: Threads + Wait + Sync> TestedProgram for WholeProgram<'a, T> {
+    ghost ready = { IsSync T.row };
+
     fn renew_store(&mut self, alloc: Global, first: &Transcript) -> Result<(), AllocError> {
         self.store = store_of(alloc, first)?;
         Ok(())
     }
 
-    fn check_run<C: Clock>(
+    fn check_listed(
         &mut self,
         alloc: Global,
         transcript: &Transcript,
         piece: usize,
-        clock: &mut C,
+        clock: &mut ListClock<'_>,
     ) -> Result<(), TranscriptError> {
-        check_over(alloc, transcript, piece, clock, &mut self.store)
+        check_over(self.rt, alloc, transcript, piece, clock, &mut self.store)
+    }
+
+    fn check_stepped(
+        &mut self,
+        alloc: Global,
+        transcript: &Transcript,
+        piece: usize,
+        clock: &mut StepClock,
+    ) -> Result<(), TranscriptError> {
+        check_over(self.rt, alloc, transcript, piece, clock, &mut self.store)
     }
 }
 
@@ -173,11 +198,15 @@ impl TestedProgram for WholeProgram {
 ///
 /// The first run that writes other bytes, ends with another status, leaves answers of its runner,
 /// or asks for more moments or waits for more seconds or for fewer, and want of memory.
-pub fn check(alloc: Global, runs: &[Transcript]) -> Result<(), TranscriptError> {
+pub fn check<T: Threads + Wait + Sync>(
+    rt: &T,
+    alloc: Global,
+    runs: &[Transcript],
+) -> Result<(), TranscriptError> {
     let Some(first) = runs.first() else {
         return Ok(());
     };
     let store = store_of(alloc, first)?;
-    check_runs(alloc, runs, &mut WholeProgram { store })?;
-    check_cuts(alloc, first, &mut store_of(alloc, first)?)
+    check_runs(alloc, runs, &mut WholeProgram { rt, store })?;
+    check_cuts(rt, alloc, first, &mut store_of(alloc, first)?)
 }

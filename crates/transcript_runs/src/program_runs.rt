@@ -1,18 +1,26 @@
+ghost use Rattle.std.specs.Thread.{IsSync};
+
 use crate::check;
 use session_runs::{FileSettings, check_sessions};
 use std::alloc::Global;
+use std::sync::Wait;
+use std::thread::Threads;
 use swarm_plain::ListPool;
 use tested_programs::TranscriptTest;
 use transcript::{Transcript, TranscriptError};
 
 /// Transcripts through the program, and those that need no more than `session` over machines that scan
-/// lists too.
-#[derive(Clone, Copy)]
-pub struct ProgramRuns;
+/// lists too. The threads of a program with several workers are those of the handle.
+#[derive(Drop)]
+pub struct ProgramRuns<'a, T> {
+    pub rt: &'a T,
+}
 
-impl TranscriptTest for ProgramRuns {
+impl<'a, T: Threads + Wait + Sync> TranscriptTest for ProgramRuns<'a, T> {
+    ghost ready = { IsSync T.row };
+
     fn check(&self, alloc: Global, runs: &[Transcript]) -> Result<bool, TranscriptError> {
-        check(alloc, runs)?;
+        check(self.rt, alloc, runs)?;
         Ok(true)
     }
 

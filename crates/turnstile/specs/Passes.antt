@@ -43,6 +43,12 @@ module _ {V I F : Type 0} where
   abbrev pub IsFrom : Turnstile V I F → Pass V I F → Type 0
   IsFrom t p = p.seat.table_id ≡ t.table.shared.table_id
 
+  -- which turnstile it is: a pass that was made by one was made by each of its identity
+  abbrev pub identity_of : Turnstile V I F → List ℕ
+  identity_of t =
+      let id = t.table.shared.table_id in
+      id.words ∷ id.slots ∷ id.views_name ∷ id.atom ∷ id.block ∷ id.offset ∷ id.slot_names
+
   -- x is the value, and with the pass
   abbrev pub Carries : Pass V I F → V → Type 0
   Carries p x = p.seat.me.1 ≡ (0, x) ∷ []

@@ -10,8 +10,8 @@ use Rattle.swarm_door.specs.Doors.{DoorState}
 use Rattle.swarm_http.specs.declared.ended.Ended.{Ended}
 use Rattle.swarm_http.specs.declared.ended.Ended.TheVariants as ended
 use Rattle.swarm_http.specs.Answered.{World, IsAnswered, KeepsDoor}
-use Rattle.swarm_cli.specs.declared.worked.WorkStop.TheVariants as stop
-use Rattle.swarm_cli.specs.Works.{Visit, Sessions, HasFaultsCounted, HadMemory, IsWorked, IsServed, IsIdle}
+use Rattle.swarm_workers.specs.declared.worked.WorkStop.TheVariants as stop
+use Rattle.swarm_workers.specs.Works.{Visit, Sessions, HasFaultsCounted, HadMemory, IsWorked, IsServed, IsIdle}
 
 abbrev Ahead : Type 0
 Ahead = ℕ → Option (List ℕ)
@@ -63,15 +63,16 @@ abbrev visit : {s t : AcceptorState} {a b : Ahead} {old new : DoorState} → IsS
 visit {b = b} {new = new} x = record { first = x.first; last = x.last; ending = x.ending; ahead = b; door = new }
 
 sessions_more : (a b c : Ahead) (old new newer : DoorState) (visits : List Visit) (first last : LinkState) (ending : Ended)
-    → Sessions a b old new visits → IsAnswered (record { link = first; clock = b; door = new }) (record { link = last; clock = c; door = newer }) ending
+    → Sessions a b old new visits → IsAnswered (record { link = first; clock = b; door = new }) (record { link = last; clock = c; door = newer }) ending → KeepsDoor 65536 new newer
     → Sessions a c old newer (visits ++ record { first = first; last = last; ending = ending; ahead = c; door = newer } ∷ [])
-sessions_more a b c old new newer [] first last ending so x = (
+sessions_more a b c old new newer [] first last ending so x keeps = (
   subst (λ (k : Ahead). IsAnswered (record { link = first; clock = k; door = old }) (record { link = last; clock = c; door = newer }) ending) so.0
       (subst (λ (k : DoorState). IsAnswered (record { link = first; clock = b; door = k }) (record { link = last; clock = c; door = newer }) ending) so.1 x),
+  subst (λ (k : DoorState). KeepsDoor 65536 k newer) so.1 keeps,
   (refl, refl),
 )
-sessions_more a b c old new newer (v ∷ visits) first last ending so x =
-    (so.0, sessions_more v.ahead b c v.door new newer visits first last ending so.1 x)
+sessions_more a b c old new newer (v ∷ visits) first last ending so x keeps =
+    (so.0, so.1, sessions_more v.ahead b c v.door new newer visits first last ending so.2 x keeps)
 
 keeps_all : (d : DoorState) → KeepsDoor (65536 * 0) d d
 keeps_all d = record { settings = refl; writer = refl; no_other_blobs = λ p none. none; faults = omega arith; calls = omega arith }
@@ -140,7 +141,7 @@ visited_more {visits = visits} {n = n} {s = s} {t = t} {u = u} {a = a} {b = b} {
   out = x.out ∙ v.out;
   faults = x.faults ∙ v.faults;
   counted = all_more HasFaultsCounted visits (visit x) v.counted (counted_so x);
-  sessions = sessions_more a b c d e f visits x.first x.last x.ending v.sessions x.answered;
+  sessions = sessions_more a b c d e f visits x.first x.last x.ending v.sessions x.answered keeps;
   door = keeps_more n v.door keeps;
 }
 

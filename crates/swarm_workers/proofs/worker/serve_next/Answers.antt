@@ -1,6 +1,6 @@
 use Rattle.std.proofs.Common.{rules}
-use Rattle.swarm_cli.proofs.Working.{served_one}
-use Rattle.swarm_cli.proofs.worker.serve_next.Goals as goal
+use Rattle.swarm_workers.proofs.Working.{served_one}
+use Rattle.swarm_workers.proofs.worker.serve_next.Goals as goal
 
 pub returns-in-Memory-clause-turn : goal.returns-in-Memory-clause-turn
 returns-in-Memory-clause-turn g c =

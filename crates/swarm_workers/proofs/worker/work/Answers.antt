@@ -1,5 +1,5 @@
-use Rattle.swarm_cli.proofs.Working.{begun, one_more, lacked_memory}
-use Rattle.swarm_cli.proofs.worker.work.Goals as goal
+use Rattle.swarm_workers.proofs.Working.{begun, one_more, lacked_memory}
+use Rattle.swarm_workers.proofs.worker.work.Goals as goal
 
 pub links-init : goal.links-init
 links-init g c = begun (g.A.Acceptor.state c.args.acceptor.now) (g.C.Clock.ahead c.args.clock.now) (g.D.Door.state c.args.door.now)

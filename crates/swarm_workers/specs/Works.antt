@@ -8,12 +8,12 @@ use Rattle.sw_base.specs.Acceptors.{AcceptorState, IsFresh}
 use Rattle.swarm_door.specs.Doors.{DoorState}
 use Rattle.swarm_http.specs.declared.ended.Ended.{Ended}
 use Rattle.swarm_http.specs.declared.ended.Ended.TheVariants as ended
-use Rattle.swarm_http.specs.Answered.{IsAnswered}
-use Rattle.swarm_cli.specs.declared.worked.Worked.{Worked}
-use Rattle.swarm_cli.specs.declared.worked.WorkStop.{WorkStop}
-use Rattle.swarm_cli.specs.declared.worked.WorkStop.TheVariants as stop
-use Rattle.swarm_cli.specs.declared.worker.Turn.{Turn}
-use Rattle.swarm_cli.specs.declared.worker.Turn.TheVariants as turn
+use Rattle.swarm_http.specs.Answered.{IsAnswered, KeepsDoor}
+use Rattle.swarm_workers.specs.declared.worked.Worked.{Worked}
+use Rattle.swarm_workers.specs.declared.worked.WorkStop.{WorkStop}
+use Rattle.swarm_workers.specs.declared.worked.WorkStop.TheVariants as stop
+use Rattle.swarm_workers.specs.declared.worker.Turn.{Turn}
+use Rattle.swarm_workers.specs.declared.worker.Turn.TheVariants as turn
 
 -- a session: its link as it came and as it ended, its ending, and what the clock had ahead and the
 -- door was as it ended
@@ -24,11 +24,11 @@ pub record Visit : Type 0 where
   pub ahead : ℕ → Option (List ℕ)
   pub door : DoorState
 
--- one session after another, over the one door and the one clock
+-- one session after another, over the one door, of which each keeps what it keeps, and the one clock
 abbrev pub Sessions : (ℕ → Option (List ℕ)) → (ℕ → Option (List ℕ)) → DoorState → DoorState → List Visit → Type 0
 Sessions a b old new [] = (b ≡ a) × (new ≡ old)
 Sessions a b old new (v ∷ vs) =
-    IsAnswered (record { link = v.first; clock = a; door = old }) (record { link = v.last; clock = v.ahead; door = v.door }) v.ending × Sessions v.ahead b v.door new vs
+    IsAnswered (record { link = v.first; clock = a; door = old }) (record { link = v.last; clock = v.ahead; door = v.door }) v.ending × KeepsDoor 65536 old v.door × Sessions v.ahead b v.door new vs
 
 -- the link came fresh, and its session ended by a fault only where the link tells one of that kind
 pub record HasFaultsCounted (v : Visit) : Type 0 where

@@ -1,5 +1,5 @@
-use Rattle.swarm_cli.proofs.Working.{SoFar}
-use Rattle.swarm_cli.proofs.worker.work.Given as goal
+use Rattle.swarm_workers.proofs.Working.{SoFar}
+use Rattle.swarm_workers.proofs.worker.work.Given as goal
 
 abbrev pub invariant-links : goal.invariant-links
 invariant-links g l =

@@ -2,7 +2,7 @@
 ghost use Rattle.std.specs.Prelude.{◌≡◌, ◌+◌, ◌*◌, ◌≤◌, ◌^◌, IsTrue};
 ghost use Rattle.swarm_model.specs.Settings.{are_settings};
 ghost use Rattle.swarm_http.specs.Answered.{KeepsDoor};
-ghost use Rattle.swarm_cli.specs.Works.{IsWorked, IsTurn};
+ghost use Rattle.swarm_workers.specs.Works.{IsWorked, IsTurn};
 
 use crate::{WorkStop, Worked};
 use std::alloc::Global;

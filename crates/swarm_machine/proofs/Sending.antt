@@ -1,0 +1,68 @@
+-- A pool can be sent to another thread, since its parts can.
+use denote.Param.Send.{IsSend, sendable}
+use Rattle.std.proofs.Crossing as single
+use Rattle.std.proofs.MapsCrossing as maps
+use Rattle.dimensions.specs.contracts.bot_dims.BotDims as BotDims
+use Rattle.dimensions.specs.contracts.text.Text as Text
+use Rattle.content_store.specs.contracts.blobs.Blobs as Blobs
+use Rattle.bot_registry.specs.contracts.registry.Registry as Registry
+use Rattle.row_changes.specs.contracts.parts.TaskParts as TaskParts
+use Rattle.task_rows.specs.contracts.rows.TaskRows as TaskRows
+use Rattle.task_props.specs.contracts.new_task.NewTask as NewTask
+use Rattle.swarm_model.specs.contracts.bot_row.BotRow as BotRow
+use Rattle.swarm_model.specs.contracts.attempt.Last as Last
+use Rattle.swarm_model.specs.contracts.entry.Entry as Entry
+use Rattle.swarm_model.specs.contracts.entry.EntryKind as EntryKind
+use Rattle.swarm_model.specs.contracts.task_row.TaskRow as TaskRow
+use Rattle.swarm_machine.specs.contracts.indexes.Indexes as Indexes
+use Rattle.swarm_machine.specs.contracts.pool.Pool as Pool
+use Rattle.swarm_machine.specs.contracts.pool.Ready as Ready
+use Rattle.swarm_machine.specs.contracts.rows.Rows as Rows
+
+new_task_send : IsSend NewTask.the_field.row
+new_task_send = search (single.crosses, maps.crosses, sendable) depth 60 fits 100000
+
+task_row_send : IsSend TaskRow.the_field.row
+task_row_send = search (new_task_send, single.crosses, maps.crosses, sendable) depth 60 fits 100000
+
+task_parts_send : IsSend TaskParts.the_field.row
+task_parts_send = search (new_task_send, single.crosses, maps.crosses, sendable) depth 60 fits 100000
+
+task_rows_send : IsSend TaskRows.the_field.row
+task_rows_send = search (task_row_send, task_parts_send, single.crosses, maps.crosses, sendable) depth 60 fits 100000
+
+bot_row_send : IsSend BotRow.the_field.row
+bot_row_send = search (single.crosses, maps.crosses, sendable) depth 60 fits 100000
+
+registry_send : IsSend Registry.the_field.row
+registry_send = search (bot_row_send, single.crosses, maps.crosses, sendable) depth 60 fits 100000
+
+blobs_send : IsSend Blobs.the_field.row
+blobs_send = search (single.crosses, maps.crosses, sendable) depth 60 fits 100000
+
+rows_send : IsSend Rows.the_field.row
+rows_send = search (task_rows_send, registry_send, blobs_send, single.crosses, maps.crosses, sendable) depth 60 fits 100000
+
+indexes_send : IsSend Indexes.the_field.row
+indexes_send = search (single.crosses, maps.crosses, sendable) depth 60 fits 100000
+
+text_send : IsSend Text.the_field.row
+text_send = search (single.crosses, maps.crosses, sendable) depth 60 fits 100000
+
+bot_dims_send : IsSend BotDims.the_field.row
+bot_dims_send = search (single.crosses, maps.crosses, sendable) depth 60 fits 100000
+
+last_send : IsSend Last.the_field.row
+last_send = search (single.crosses, maps.crosses, sendable) depth 60 fits 100000
+
+kind_send : IsSend EntryKind.the_field.row
+kind_send = search (text_send, bot_dims_send, last_send, new_task_send, single.crosses, maps.crosses, sendable) depth 60 fits 100000
+
+entry_send : IsSend Entry.the_field.row
+entry_send = search (kind_send, single.crosses, maps.crosses, sendable) depth 60 fits 100000
+
+ready_send : IsSend Ready.the_field.row
+ready_send = search (entry_send, single.crosses, maps.crosses, sendable) depth 60 fits 100000
+
+pub pool_send : IsSend Pool.the_row
+pool_send = search (rows_send, indexes_send, entry_send, ready_send, single.crosses, maps.crosses, sendable) depth 60 fits 100000

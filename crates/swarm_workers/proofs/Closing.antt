@@ -1,0 +1,67 @@
+-- The logs of closed pools.
+use Rattle.std.proofs.Common.{◌≡◌, ℕ, zero, suc, ◌<◌, ◌≤◌, List, [], ◌∷◌, ◌++◌, length, Some, refl, sym, ap, ◌∙◌, arith, subst}
+use Rattle.std.specs.List.{All, AllByRecursion, slice_get}
+use Rattle.std.proofs.lemmas.List.Elements.{All-head, All-tail}
+use Rattle.swarm_model.specs.declared.entry.Entry.{Entry}
+use Rattle.swarm_model.specs.declared.pool_settings.PoolSettings.{PoolSettings}
+use Rattle.swarm_model.specs.MachineState.{MachineState}
+use Rattle.swarm_model.specs.Effects.{opening}
+use Rattle.swarm_model.specs.History.{IsLegal}
+use Rattle.swarm_history.specs.Machines.{logs_of}
+use Rattle.turnstile.specs.declared.turnstile.Turnstile.{Turnstile}
+use Rattle.turnstile.specs.Numbers.{times}
+use Rattle.turnstile.specs.Passes.{opening as begun_with}
+use Rattle.shared_doors.specs.Joined.{AreClosed, IsClosed}
+use Rattle.shared_doors.specs.SharedDoors.{pools_of}
+use Rattle.shared_doors.specs.Views.{view_at}
+use Rattle.shared_doors.specs.declared.view.Lasting.{Lasting}
+use Rattle.shared_doors.specs.declared.view.PoolView.{PoolView}
+
+-- A pool's log in the end, which was empty at first: it is legal, it is all that the joined pass had seen, and its entries bear the
+-- numbers of that pass.
+pub record IsKept (pool : PoolSettings) (v : PoolView) (log : List Entry) : Type 0 where
+  pub legal : IsLegal (opening pool) log
+  pub seen : log ≡ v.seen
+  pub listed : AllByRecursion (λ (e : Entry). 0 < times e.pass v.numbers) log
+
+module _ {V : Type 0} (fixed : V → Lasting) (log : V → List Entry) where
+  kept_of : (pool : PoolSettings) (start : List Entry) (v : PoolView) (kept : MachineState) → start ≡ [] → IsClosed pool start v kept → IsKept pool v kept.log
+  kept_of pool start v kept none c = record {
+    legal = subst (λ (s : PoolSettings). IsLegal (opening s) kept.log) c.settings_are c.history.legal;
+    seen = c.seen;
+    listed = subst (AllByRecursion (λ (e : Entry). 0 < times e.pass v.numbers)) (sym (c.no_others.parts ∙ ap (λ (l : List Entry). l ++ c.no_others.more) none)) c.no_others.by_listed;
+  }
+
+  -- the log at a place
+  pub kept_at : (ts : List (Turnstile V Entry Lasting)) (vs : List PoolView) (machines : List MachineState) → AreClosed fixed log ts vs machines
+      → All (λ (t : Turnstile V Entry Lasting). begun_with log t ≡ []) ts
+      → (p : ℕ) (pool : PoolSettings) → slice_get (pools_of fixed ts) p ≡ Some pool → IsKept pool (view_at vs p) (logs_of machines p)
+  kept_at [] vs machines closed none p pool is = absurd (cc)
+  kept_at (t ∷ ts) [] machines closed none p pool is = absurd closed
+  kept_at (t ∷ ts) (v ∷ vs) [] closed none p pool is = absurd closed
+  kept_at (t ∷ ts) (v ∷ vs) (kept ∷ machines) closed none zero pool is =
+      subst (λ (s : PoolSettings). IsKept s v kept.log) (some_injective is) (kept_of _ (begun_with log t) v kept (All-head (λ (t : Turnstile V Entry Lasting). begun_with log t ≡ []) t ts none) closed.0)
+    where
+      some_injective : {A : Type 0} {x y : A} → Some x ≡ Some y → x ≡ y
+      some_injective e = cc
+  kept_at (t ∷ ts) (v ∷ vs) (kept ∷ machines) closed none (suc p) pool is = kept_at ts vs machines closed.1 (All-tail (λ (t : Turnstile V Entry Lasting). begun_with log t ≡ []) t ts none) p pool is
+
+  -- there is none past the last pool
+  pub none_past : (ts : List (Turnstile V Entry Lasting)) (vs : List PoolView) (machines : List MachineState) → AreClosed fixed log ts vs machines
+      → (p : ℕ) → length (pools_of fixed ts) ≤ p → logs_of machines p ≡ []
+  none_past [] [] [] closed p past = refl
+  none_past [] [] (kept ∷ machines) closed p past = absurd closed
+  none_past [] (v ∷ vs) machines closed p past = absurd closed
+  none_past (t ∷ ts) [] machines closed p past = absurd closed
+  none_past (t ∷ ts) (v ∷ vs) [] closed p past = absurd closed
+  none_past (t ∷ ts) (v ∷ vs) (kept ∷ machines) closed zero past = absurd (omega (arith, past))
+  none_past (t ∷ ts) (v ∷ vs) (kept ∷ machines) closed (suc p) past = none_past ts vs machines closed.1 p (omega (arith, past))
+
+  -- a machine for each pool
+  pub count_closed : (ts : List (Turnstile V Entry Lasting)) (vs : List PoolView) (machines : List MachineState) → AreClosed fixed log ts vs machines → length machines ≡ length ts
+  count_closed [] [] [] closed = refl
+  count_closed [] [] (kept ∷ machines) closed = absurd closed
+  count_closed [] (v ∷ vs) machines closed = absurd closed
+  count_closed (t ∷ ts) [] machines closed = absurd closed
+  count_closed (t ∷ ts) (v ∷ vs) [] closed = absurd closed
+  count_closed (t ∷ ts) (v ∷ vs) (kept ∷ machines) closed = ap suc (count_closed ts vs machines closed.1)

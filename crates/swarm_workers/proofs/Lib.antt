@@ -1,0 +1,9 @@
+pub mod JoinedDoors
+pub mod NewDoors
+pub mod Working
+pub mod Gaining
+pub mod Numbering
+pub mod Running
+pub mod Closing
+pub mod Serving
+pub mod Crewing

@@ -1,0 +1,7 @@
+use Rattle.swarm_workers.specs.Crews.{HasWorked}
+use Rattle.swarm_workers.proofs.Serving.{zip_moved}
+use Rattle.swarm_workers.proofs.crew.run_workers.Goals as goal
+
+pub returns : goal.returns
+returns g c = zip_moved _ (HasWorked c.args.connections) c.args.workers.now c.for_each_mut.new.s (search)
+    (λ i d lt. let k = (c.for_each_mut.ensures i d lt).1 in (k.argument.now, k.after_call.now, k.argument_is, k.left, k.call))

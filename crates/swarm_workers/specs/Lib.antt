@@ -1,0 +1,4 @@
+pub mod Works
+pub mod Splits
+pub mod Crews
+pub mod Shared
