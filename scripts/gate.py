@@ -1,8 +1,8 @@
 #!/usr/bin/env python3
 """Measures the gate crate by crate, and writes the table of docs/gate-times.md.
 
-Usage: bench/gate.py [--jobs N] [--output FILE] [--work FOLDER] [CRATE ..]
-       bench/gate.py --whole [--output FILE] [--work FOLDER]
+Usage: scripts/gate.py [--jobs N] [--output FILE] [--work FOLDER] [CRATE ..]
+       scripts/gate.py --whole [--output FILE] [--work FOLDER]
 
 For each crate, lowest first, it runs `rt ci CRATE` twice, with what the crates below it need kept
 from their own turn: without wrong bodies, for the crate's proof and that of its tests, and then with
@@ -38,7 +38,7 @@ import time
 
 ROOT = os.path.dirname(os.path.dirname(os.path.abspath(__file__)))
 PARTS = ("src", "specs", "proofs")
-BEGIN = "<!-- The table that bench/gate.py writes -->"
+BEGIN = "<!-- The table that scripts/gate.py writes -->"
 END = "<!-- The end of the table -->"
 HEAD = "| Crate | Lines | Functions | Proof, minutes | Tests, minutes | Edits, minutes | Memory, GB |"
 WHOLE = "<!-- A whole run -->"

@@ -1,7 +1,7 @@
 #!/usr/bin/env python3
 """Counts the definitions that the contracts rest on, and compares docs/trusted.md with the counts.
 
-Usage: bench/trusted_lines.py [--write] [--names]
+Usage: scripts/trusted_lines.py [--write] [--names]
 
 From the contracts of `run`, `session` and the traits that they are generic over, and from the laws
 of `swarm_laws` and `bot_core`, it follows each definition to those that it cites, through the specs/ of this
