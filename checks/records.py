@@ -168,8 +168,9 @@ def handshake(bot, pool="default"):
     return request("/bot/handshake", {"bot_id": bot, "session": "s", "dimensions": dimensions}, "rack")
 
 
-def new_task(name, pool="default"):
-    properties = {"command": ["true"], "dimensions": [{"key": "pool", "value": pool}]}
+def new_task(name, pool="default", **more):
+    """A task that waits, with further properties, or with others than its command and its dimensions."""
+    properties = {"command": ["true"], "dimensions": [{"key": "pool", "value": pool}], **more}
     slices = [{"expiration_secs": 604800, "wait_for_capacity": True, "properties": properties}]
     return request("/prpc/swarming.v2.Tasks/NewTask", {"name": name, "task_slices": slices})
 

@@ -44,6 +44,14 @@ def wait_until_listening(port, process, seconds=20):
         time.sleep(0.01)
 
 
+def wait_until(holds, seconds=20):
+    """What a function answers, once that is true, or after so many seconds."""
+    end = time.monotonic() + seconds
+    while not (came := holds()) and time.monotonic() < end:
+        time.sleep(0.05)
+    return came
+
+
 class Server:
     """`swarm serve` on a free port, for so many connections and with so many workers; or by words of one's
     own, on their port.
