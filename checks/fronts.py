@@ -110,10 +110,20 @@ def run_commands(folder, lines, given=None):
         os.symlink(os.path.join(records.TOP, "examples"), os.path.join(work, "examples"))
         for it in ("snippets", "conf.d"):
             os.makedirs(os.path.join(folder, "nginx", it))
-    script = "\n".join(lines).replace("/etc/swarm", folder).replace("/etc/nginx", f"{folder}/nginx")
+    script = changed_paths("\n".join(lines), {"/etc/swarm": folder, "/etc/nginx": f"{folder}/nginx"})
     done = subprocess.run(["sh", "-euc", script], cwd=work, input=given, capture_output=True, text=True, timeout=60, check=False)
     if done.returncode:
         sys.exit(f"{PAGE}: the commands\n{script}\nend with status {done.returncode}:\n{done.stdout}{done.stderr}")
+
+
+def changed_paths(script, folders):
+    """A script with these folders changed; one that has another path of the system would change the system."""
+    rest = script
+    for old, new in folders.items():
+        script, rest = script.replace(old, new), rest.replace(old, "")
+    if re.search(r"/(etc|lib|opt|srv|usr|var)/", rest):
+        sys.exit(f"{PAGE} has a path that isn't one of {list(folders)}:\n{script}")
+    return script
 
 
 class Nginx:
