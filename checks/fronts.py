@@ -26,6 +26,7 @@ error_log {folder}/error.log;
 daemon off;
 events {{ worker_connections 512; }}
 http {{
+    include /etc/nginx/mime.types;
     access_log off;
     client_body_temp_path {folder}/body;
     proxy_temp_path {folder}/proxy;
@@ -65,6 +66,7 @@ def lab_front(folder, server_port, port, bots_port=None):
     changes = {
         "/etc/swarm/": f"{folder}/",
         "/etc/nginx/snippets/": f"{folder}/",
+        "/var/www/swarm": folder,
         "listen 443 ssl": f"listen {serving.HOST}:{port} ssl",
         "listen 8443 ssl": f"listen {serving.HOST}:{bots_port or serving.free_port()} ssl",
         "127.0.0.1:8080": f"127.0.0.1:{server_port}",
@@ -102,15 +104,15 @@ def commands(words):
 
 
 def run_commands(folder, lines, given=None):
-    """Runs commands of docs/operating.md with a folder in place of /etc/swarm and of /etc/nginx, in a folder
-    within it that stands for that of the repository."""
+    """Runs commands of docs/operating.md with a folder in place of /etc/swarm, /etc/nginx and /var/www/swarm, in
+    a folder within it that stands for that of the repository."""
     work = os.path.join(folder, "work")
     if not os.path.exists(work):
         os.makedirs(work)
         os.symlink(os.path.join(records.TOP, "examples"), os.path.join(work, "examples"))
         for it in ("snippets", "conf.d"):
             os.makedirs(os.path.join(folder, "nginx", it))
-    script = changed_paths("\n".join(lines), {"/etc/swarm": folder, "/etc/nginx": f"{folder}/nginx"})
+    script = changed_paths("\n".join(lines), {"/etc/swarm": folder, "/etc/nginx": f"{folder}/nginx", "/var/www/swarm": folder})
     done = subprocess.run(["sh", "-euc", script], cwd=work, input=given, capture_output=True, text=True, timeout=60, check=False)
     if done.returncode:
         sys.exit(f"{PAGE}: the commands\n{script}\nend with status {done.returncode}:\n{done.stdout}{done.stderr}")
