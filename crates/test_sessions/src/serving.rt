@@ -37,7 +37,7 @@ pub fn serve<M: Machine + Drop, K: Keeper + Drop, L: Link, C: Clock>(
 }
 
 /// For each pool a keeper that keeps nothing.
-fn no_keepers(alloc: Global, pools: &[PoolSettings]) -> Result<Vec<NoKeeper>, AllocError>
+pub fn no_keepers(alloc: Global, pools: &[PoolSettings]) -> Result<Vec<NoKeeper>, AllocError>
     ensures { IfOk result (λ keepers. length keepers.items ≡ length pools.now) }
 {
     let mut keepers = Vec::new(alloc);
