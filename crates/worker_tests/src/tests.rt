@@ -1,0 +1,5 @@
+mod clients;
+mod many;
+mod meeting;
+mod serving;
+mod two;
