@@ -3,12 +3,13 @@ ghost use Rattle.std.specs.Prelude.{◌≡◌, ◌≤◌, None, length};
 ghost use Rattle.sw_base.specs.Acceptors.{IsFresh};
 
 use std::alloc::Global;
-use std::mem;
 use std::sync::atomic::{AtomicBool, Ordering};
+use std::{mem, thread};
 use sw_base::{Acceptor, Failed, Link, Listener, StartFault};
 
-/// How often a link looks for the other one.
-const LOOKS: u32 = 100_000_000;
+/// How often a link looks for the other one. It lets other threads run between two looks, so that the
+/// other one is read meanwhile also where processors are few and busy.
+const LOOKS: u32 = 10_000_000;
 
 /// A link whose first read waits until the other one is read as well. That read fails where the
 /// other one isn't read meanwhile.
@@ -32,6 +33,7 @@ impl MeetingLink<'_> {
             if self.other.load(Ordering::SeqCst) {
                 return true;
             }
+            thread::yield_now();
         }
         false
     }
