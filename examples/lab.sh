@@ -14,6 +14,9 @@ top=$(pwd)
 connections=12
 folder=
 server=
+# Where a command fails it says why on standard error, which is shown here.
+SWARM_LOG=error
+export SWARM_LOG
 
 say() { printf '%s\n' "$*"; }
 step() { printf '\n== %s\n' "$*"; }
@@ -74,7 +77,7 @@ is_running() {
     wait "$server"
     status=$?
     server=
-    say "$(cat "$folder/summary")"
+    say "$(cat "$folder/summary" "$folder/log")"
     stop "the server ended with status $status before its time (docs/protocol.md has the statuses)"
 }
 
@@ -95,9 +98,9 @@ port=$(python3 -c 'import socket; it = socket.socket(); it.bind(("127.0.0.1", 0)
 [ -n "$port" ] || stop "there is no free port"
 address=http://127.0.0.1:$port
 
-step "The server starts. It prints nothing until it ends."
-say "\$ ./swarm serve --settings examples/lab.toml --address 127.0.0.1:$port --connections $connections"
-./swarm serve --settings examples/lab.toml --address "127.0.0.1:$port" --connections "$connections" >"$folder/summary" &
+step "The server starts. It prints nothing until it ends. What goes on it says on standard error."
+say "\$ SWARM_LOG=info ./swarm serve --settings examples/lab.toml --address 127.0.0.1:$port --connections $connections"
+SWARM_LOG=info ./swarm serve --settings examples/lab.toml --address "127.0.0.1:$port" --connections "$connections" >"$folder/summary" 2>"$folder/log" &
 server=$!
 
 step "A file is put, which the task needs: PutBlob, under the SHA-256 of its bytes."
@@ -129,6 +132,9 @@ swarm '10      COMPLETED    20 greet' tasks --server "$address" --caller joe --p
 
 step "Its bots: name, what it is doing, its run. Only ana may see them, by the settings."
 swarm 'rack-1                  idle        -' bots --server "$address" --caller ana --pool default
+
+step "What the server said meanwhile on standard error, its first lines: the second, the level, what happened."
+head -n 3 "$folder/log"
 
 step "These were $connections connections, so the server ends: of each pool the entries of its log, the tasks
    that it accepted, and how many are in each state."

@@ -54,6 +54,11 @@ impl<R: Files + Processes> ChildRun<R> {
     pub(crate) fn folder(&self) -> &str {
         self.folder.as_str()
     }
+
+    /// The exit code, once it was seen.
+    pub(crate) fn code(&self) -> Option<i32> {
+        self.ended
+    }
 }
 
 impl<R: Files + Processes + Clock + AllocGlobal> ChildRun<R> {

@@ -5,6 +5,7 @@ ghost use Rattle.runners.specs.Calls.{FitsRoom};
 use crate::child_run::ChildRun;
 use bot_core::Signal;
 use dimensions::{Seq, Text};
+use log::{Log, error, info};
 use run_folders::{
     cache_sizes, is_name, keep_caches, move_all_back, move_all_in, read_output, remove_folder,
     write_input,
@@ -28,9 +29,12 @@ use sw_base::{Failed, StartFault};
 /// another one, it takes the place of what that one has there.
 ///
 /// Where a runner is dropped, no child is ended and no folder is removed.
+///
+/// It logs why a call failed, and how each run begins and ends.
 #[derive(Drop)]
-pub struct ShellRunner<'a, R: Files + Processes> {
+pub struct ShellRunner<'a, R: Files + Processes, G: Log> {
     rt: &'a R,
+    log: &'a G,
     // The folder of the bot, once it was made.
     folder: Option<String>,
     // From `prepare` to `clean`.
@@ -42,13 +46,14 @@ fn is_memory(error: &io::Error) -> bool {
     error.kind() == ErrorKind::OutOfMemory
 }
 
-impl<'a, R: Files + Processes + Clock + AllocGlobal + Clone + Drop> ShellRunner<'a, R> {
+impl<'a, R: Files + Processes + Clock + AllocGlobal + Clone + Drop, G: Log> ShellRunner<'a, R, G> {
     /// A runner on which no call was made. It makes nothing yet.
-    pub fn new(rt: &'a R) -> ShellRunner<'a, R>
-        ensures untold { ⟦<ShellRunner<'a, R> as Runner>⟧.state result ≡ record { calls = None; answers = None; faults = 0 } }
+    pub fn new(rt: &'a R, log: &'a G) -> ShellRunner<'a, R, G>
+        ensures untold { ⟦<ShellRunner<'a, R, G> as Runner>⟧.state result ≡ record { calls = None; answers = None; faults = 0 } }
     {
         ShellRunner {
             rt,
+            log,
             folder: None,
             run: None,
             faults: 0,
@@ -116,6 +121,7 @@ impl<'a, R: Files + Processes + Clock + AllocGlobal + Clone + Drop> ShellRunner<
         remove_folder(self.rt, folder.as_str())?;
         fs::create_dir(self.rt, folder.as_str())?;
         fs::create_dir(self.rt, work.as_str())?;
+        info!(self.log; "run in {} begins", folder.as_str());
         self.run = Some(ChildRun::new(folder));
         move_all_in(self.rt, kept.as_str(), work.as_str(), caches)?;
         for (path, bytes) in inputs {
@@ -176,6 +182,10 @@ impl<'a, R: Files + Processes + Clock + AllocGlobal + Clone + Drop> ShellRunner<
             let work = run.work(self.rt)?;
             move_all_back(self.rt, kept.as_str(), work.as_str(), caches)?;
             remove_folder(self.rt, run.folder())?;
+            match run.code() {
+                Some(code) => info!(self.log; "run in {} ended, exit code {code}", run.folder()),
+                None => info!(self.log; "run in {} ended, no exit code", run.folder()),
+            }
         }
         self.run = None;
         cache_sizes(self.rt, kept.as_str(), caches)
@@ -186,22 +196,25 @@ impl<'a, R: Files + Processes + Clock + AllocGlobal + Clone + Drop> ShellRunner<
         keep_caches(self.rt, kept.as_str(), names)
     }
 
-    fn count(&mut self)
+    // Counts and logs a call that failed.
+    fn count(&mut self, call: &str, object: &str, error: &io::Error)
         ensures { Rose self.old.faults self.new.faults }
     {
+        error!(self.log; "can't {call} {object}: {error}");
         self.faults = self.faults.saturating_add(1);
     }
 }
 
-impl<'a, R: Files + Processes + Clock + AllocGlobal + Clone + Drop> Runner for ShellRunner<'a, R> {
+impl<'a, R: Files + Processes + Clock + AllocGlobal + Clone + Drop, G: Log> Runner
+    for ShellRunner<'a, R, G> {
     ghost state = { λ s. record { calls = None; answers = None; faults = s.faults } };
 
     fn open(&mut self, bot: &Text) -> Result<(), StartFault> {
         match self.make_folder(bot.as_str()) {
             Ok(()) => Ok(()),
             Err(error) if is_memory(&error) => Err(StartFault::Memory),
-            Err(_) => {
-                self.count();
+            Err(error) => {
+                self.count("make the folder of bot", bot.as_str(), &error);
                 Err(StartFault::Failed)
             }
         }
@@ -216,8 +229,8 @@ impl<'a, R: Files + Processes + Clock + AllocGlobal + Clone + Drop> Runner for S
         match self.lay_out(run.as_str(), inputs, caches) {
             Ok(()) => Ok(()),
             Err(error) if is_memory(&error) => Err(StartFault::Memory),
-            Err(_) => {
-                self.count();
+            Err(error) => {
+                self.count("lay out run", run.as_str(), &error);
                 Err(StartFault::Failed)
             }
         }
@@ -227,8 +240,8 @@ impl<'a, R: Files + Processes + Clock + AllocGlobal + Clone + Drop> Runner for S
         match self.launch(command, env) {
             Ok(()) => Ok(()),
             Err(error) if is_memory(&error) => Err(StartFault::Memory),
-            Err(_) => {
-                self.count();
+            Err(error) => {
+                self.count("start", "the run", &error);
                 Err(StartFault::Failed)
             }
         }
@@ -237,18 +250,20 @@ impl<'a, R: Files + Processes + Clock + AllocGlobal + Clone + Drop> Runner for S
     fn look(&mut self, into: &mut [u8]) -> Result<Look, Failed> {
         match self.show(into) {
             Ok(look) => Ok(look),
-            Err(_) => {
-                self.count();
+            Err(error) => {
+                self.count("show the output of", "the run", &error);
                 Err(Failed)
             }
         }
     }
 
     fn signal(&mut self, signal: Signal) -> Result<(), Failed> {
-        if let Ok(true) = self.send(signal) {
-            return Ok(());
-        }
-        self.count();
+        let error = match self.send(signal) {
+            Ok(true) => return Ok(()),
+            Ok(false) => io::Error::from(ErrorKind::NotFound),
+            Err(error) => error,
+        };
+        self.count("send a signal to", "the run", &error);
         Err(Failed)
     }
 
@@ -257,8 +272,8 @@ impl<'a, R: Files + Processes + Clock + AllocGlobal + Clone + Drop> Runner for S
             Ok(Some(bytes)) if bytes.as_slice().len() as u64 > most => Err(CollectFault::TooLong),
             Ok(found) => Ok(found),
             Err(error) if is_memory(&error) => Err(CollectFault::Memory),
-            Err(_) => {
-                self.count();
+            Err(error) => {
+                self.count("read the output", path.as_str(), &error);
                 Err(CollectFault::Failed)
             }
         }
@@ -268,8 +283,8 @@ impl<'a, R: Files + Processes + Clock + AllocGlobal + Clone + Drop> Runner for S
         match self.clear_away(caches) {
             Ok(sizes) => Ok(sizes),
             Err(error) if is_memory(&error) => Err(StartFault::Memory),
-            Err(_) => {
-                self.count();
+            Err(error) => {
+                self.count("clear away", "the run", &error);
                 Err(StartFault::Failed)
             }
         }
@@ -279,8 +294,8 @@ impl<'a, R: Files + Processes + Clock + AllocGlobal + Clone + Drop> Runner for S
         match self.keep_named(names) {
             Ok(()) => Ok(()),
             Err(error) if is_memory(&error) => Err(StartFault::Memory),
-            Err(_) => {
-                self.count();
+            Err(error) => {
+                self.count("remove", "caches", &error);
                 Err(StartFault::Failed)
             }
         }

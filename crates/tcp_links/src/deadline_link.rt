@@ -1,6 +1,7 @@
 ghost use Rattle.std.specs.Prelude.{◌≡◌, ◌+◌};
 
-use crate::{HasFailed, LimitedReads, Limits};
+use crate::{HasFailed, LimitedReads, Limits, LinkEnding};
+use std::net::SocketAddr;
 use std::rt;
 use std::time::{Duration, Instant};
 use sw_base::{Failed, Link};
@@ -20,6 +21,7 @@ use sw_base::{Failed, Link};
 #[derive(Drop)]
 pub struct DeadlineLink<'a, L: LimitedReads + Drop, T: rt::Clock> {
     link: L,
+    peer: SocketAddr,
     time: &'a T,
     limits: Limits,
     // When the request began, if it did.
@@ -28,22 +30,34 @@ pub struct DeadlineLink<'a, L: LimitedReads + Drop, T: rt::Clock> {
     wait: Option<Duration>,
     late_reads: u64,
     late_writes: u64,
+    flushes: u64,
 }
 
 impl<'a, L: LimitedReads + Drop, T: rt::Clock> DeadlineLink<'a, L, T> {
-    /// A link whose first request has not begun.
-    pub fn new(link: L, time: &'a T, limits: Limits) -> Self
+    /// A link to a peer, whose first request has not begun.
+    pub fn new(link: L, peer: SocketAddr, time: &'a T, limits: Limits) -> Self
         ensures { ⟦<DeadlineLink<'a, L, T> as Link>⟧.state result ≡ L.state link }
     {
         DeadlineLink {
             link,
+            peer,
             time,
             limits,
             begun: None,
             wait: None,
             late_reads: 0,
             late_writes: 0,
+            flushes: 0,
         }
+    }
+
+    pub(crate) fn peer(&self) -> SocketAddr {
+        self.peer
+    }
+
+    // How many flushes succeeded: of a server's link these are its replies.
+    pub(crate) fn flushes(&self) -> u64 {
+        self.flushes
     }
 
     // The link in it, if no call came late.
@@ -103,6 +117,13 @@ impl<'a, L: LimitedReads + Drop, T: rt::Clock> HasFailed for DeadlineLink<'a, L,
     fn has_failed(&self) -> bool {
         self.late_reads > 0 || self.late_writes > 0 || self.link.has_failed()
     }
+
+    fn ending(&self) -> LinkEnding {
+        if self.late_reads > 0 || self.late_writes > 0 {
+            return LinkEnding::TimeLimit;
+        }
+        self.link.ending()
+    }
 }
 
 impl<'a, L: LimitedReads + Drop, T: rt::Clock> Link for DeadlineLink<'a, L, T> {
@@ -132,6 +153,8 @@ impl<'a, L: LimitedReads + Drop, T: rt::Clock> Link for DeadlineLink<'a, L, T> {
 
     fn flush(&mut self) -> Result<(), Failed> {
         self.begun = None;
-        self.link.flush()
+        self.link.flush()?;
+        self.flushes = self.flushes.saturating_add(1);
+        Ok(())
     }
 }

@@ -11,6 +11,11 @@
 //! the three together at most, and then their link has failed. One that begins with a hello of TLS
 //! fails at once.
 //!
+//! What fails is logged at `error`, with the system's reason: a listen, an accept, a dial, and a call on
+//! a link unless a limit of time ended it, which at a server is no fault of its own. So is a reply by
+//! which a server refuses, since a link that is dialed is a [`LoggedLink`]. Where they listen and how links
+//! ended is logged at `info`.
+//!
 //! Proved is that every call meets the contracts of `sw_base`: a call fails only where the count of
 //! its side rose, and then it moves nothing; what an acceptor or a link has failed at shows in the
 //! count of the listener or dialer that it goes back to. Not proved, since no contract can say it:
@@ -23,6 +28,8 @@ mod has_failed;
 mod limited_reads;
 mod limited_stream;
 mod limits;
+mod link_ending;
+mod logged_link;
 mod tcp_acceptor;
 mod tcp_all;
 mod tcp_link;
@@ -32,6 +39,8 @@ pub use has_failed::HasFailed;
 pub use limited_reads::LimitedReads;
 pub use limited_stream::LimitedStream;
 pub use limits::Limits;
+pub use link_ending::LinkEnding;
+pub use logged_link::LoggedLink;
 pub use tcp_acceptor::TcpAcceptor;
 pub use tcp_all::TcpAll;
 pub use tcp_link::TcpLink;

@@ -2,24 +2,26 @@ ghost use Rattle.std.specs.Prelude.{◌≡◌, All, IfOk, length, None};
 
 use crate::closing::close;
 use crate::limits::is_limited;
-use crate::{DeadlineLink, Limits, TcpLink};
+use crate::{DeadlineLink, HasFailed, Limits, LinkEnding, TcpLink};
+use log::{Log, error, info};
 use std::alloc::Global;
 use std::io::ErrorKind;
-use std::net::{TcpListener, TcpStream};
-use std::rt;
+use std::net::{SocketAddr, TcpListener, TcpStream};
+use std::{io, rt};
 use sw_base::{Acceptor, Failed, StartFault};
 
 /// One of the acceptors of a listening socket. It tells no links. A link that ends while its peer
-/// still sends is read on for one second at most, so that the peer gets the last reply.
+/// still sends is read on for one second at most, so that the peer gets the last reply. It logs each
+/// link that ends, and why an accept or a call on a link failed.
 #[derive(Drop)]
-pub struct TcpAcceptor<'a, T: rt::Clock> {
+pub struct TcpAcceptor<'a, T: rt::Clock + Log> {
     listener: TcpListener,
-    time: &'a T,
+    rt: &'a T,
     limits: Limits,
     faults: u64,
 }
 
-impl<'a, T: rt::Clock> TcpAcceptor<'a, T> {
+impl<'a, T: rt::Clock + Log> TcpAcceptor<'a, T> {
     // How many accepts failed.
     pub(crate) fn faults(&self) -> u64
         ensures { result ≡ self.now.faults }
@@ -29,10 +31,10 @@ impl<'a, T: rt::Clock> TcpAcceptor<'a, T> {
 }
 
 // One acceptor for each worker, over one socket.
-pub fn acceptors<'a, T: rt::Clock>(
+pub fn acceptors<'a, T: rt::Clock + Log>(
     alloc: Global,
     listener: &TcpListener,
-    time: &'a T,
+    rt: &'a T,
     limits: Limits,
     workers: u32,
 ) -> Result<Vec<TcpAcceptor<'a, T>>, StartFault>
@@ -42,15 +44,18 @@ pub fn acceptors<'a, T: rt::Clock>(
         return Err(StartFault::Memory);
     };
     'workers: for _ in 0..workers {
-        let Ok(listener) = listener.try_clone() else {
-            return Err(StartFault::Failed);
-        };
-        given.push_reserved(TcpAcceptor {
-            listener,
-            time,
-            limits,
-            faults: 0,
-        });
+        match listener.try_clone() {
+            Ok(listener) => given.push_reserved(TcpAcceptor {
+                listener,
+                rt,
+                limits,
+                faults: 0,
+            }),
+            Err(error) => {
+                error!(rt; "can't share the listening socket: {error}");
+                return Err(StartFault::Failed);
+            }
+        }
     }
     Ok(given)
 }
@@ -69,39 +74,41 @@ fn is_passing(kind: ErrorKind) -> bool {
     )
 }
 
-// The next stream, with the limit of a write set on it. One on which it can't be set is gone, and is
-// passed over.
-fn next_stream(listener: &TcpListener, limits: Limits) -> Option<TcpStream> {
+// The next stream and its peer, with the limit of a write set on it. One on which it can't be set is
+// gone, and is passed over.
+fn next_stream(listener: &TcpListener, limits: Limits) -> io::Result<(TcpStream, SocketAddr)> {
     for _ in 0..u64::MAX {
         match listener.accept() {
-            Ok((stream, _)) => {
+            Ok((stream, peer)) => {
                 if is_limited(&stream, limits) {
-                    return Some(stream);
+                    return Ok((stream, peer));
                 }
             }
             Err(error) => {
                 if !is_passing(error.kind()) {
-                    return None;
+                    return Err(error);
                 }
             }
         }
     }
-    None
+    Err(io::Error::from(ErrorKind::Interrupted))
 }
 
-impl<'a, T: rt::Clock + Sync> Acceptor for TcpAcceptor<'a, T> {
+impl<'a, T: rt::Clock + Log + Sync> Acceptor for TcpAcceptor<'a, T> {
     type Link = DeadlineLink<'a, TcpLink<TcpStream>, T>;
 
     ghost state = { λ a. record { coming = None; served = None; out = None; faults = a.faults } };
 
     fn accept(&mut self) -> Result<Option<DeadlineLink<'a, TcpLink<TcpStream>, T>>, Failed> {
         match next_stream(&self.listener, self.limits) {
-            Some(stream) => Ok(Some(DeadlineLink::new(
+            Ok((stream, peer)) => Ok(Some(DeadlineLink::new(
                 TcpLink::new(stream),
-                self.time,
+                peer,
+                self.rt,
                 self.limits,
             ))),
-            None => {
+            Err(error) => {
+                error!(self.rt; "can't accept a connection: {error}");
                 self.faults = self.faults.saturating_add(1);
                 Err(Failed)
             }
@@ -109,6 +116,17 @@ impl<'a, T: rt::Clock + Sync> Acceptor for TcpAcceptor<'a, T> {
     }
 
     fn end(&mut self, link: DeadlineLink<'a, TcpLink<TcpStream>, T>) {
+        let peer = link.peer();
+        let by = match link.ending() {
+            LinkEnding::OtherSide => "the client",
+            LinkEnding::ThisSide => "the server",
+            LinkEnding::TimeLimit => "a limit of time",
+            LinkEnding::Failed(error) => {
+                error!(self.rt; "connection from {peer} failed: {error}");
+                "a failed call"
+            }
+        };
+        info!(self.rt; "connection from {peer} ended by {by}, replies {}", link.flushes());
         if let Some(timely) = link.into_timely()
             && let Some(stream) = timely.into_unfinished()
         {

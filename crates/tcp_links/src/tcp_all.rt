@@ -2,42 +2,52 @@ ghost use Rattle.std.specs.Prelude.{◌≡◌, None};
 
 use crate::limits::is_limited;
 use crate::tcp_acceptor::acceptors;
-use crate::{DeadlineLink, HasFailed, Limits, TcpAcceptor, TcpLink};
+use crate::{DeadlineLink, HasFailed, Limits, LinkEnding, LoggedLink, TcpAcceptor, TcpLink};
+use log::{Level, Log, error, info, log_enabled};
 use std::alloc::Global;
-use std::net::{Net, TcpListener, TcpStream, ToSocketAddrs};
-use std::rt;
+use std::io::ErrorKind;
+use std::net::{Net, SocketAddr, TcpListener, TcpStream, ToSocketAddrs};
+use std::{io, rt};
 use sw_base::{Dialer, Listener, StartFault};
 
 /// The system's sockets, as a listener and a dialer with one count of faults. It tells nothing else.
 ///
 /// A link that comes to it has the limits of a server with as many workers as it listens for, and one
-/// that it dials has those of a client.
+/// that it dials has those of a client. It logs where it listens, and why a call failed.
 #[derive(Drop)]
-pub struct TcpAll<'a, N: Net<Listener = TcpListener, Stream = TcpStream>, T: rt::Clock + Sync> {
+pub struct TcpAll<
+    'a,
+    N: Net<Listener = TcpListener, Stream = TcpStream>,
+    T: rt::Clock + Log + Sync,
+> {
     alloc: Global,
     net: &'a N,
-    time: &'a T,
+    rt: &'a T,
     faults: u64,
 }
 
-impl<'a, N: Net<Listener = TcpListener, Stream = TcpStream>, T: rt::Clock + Sync> TcpAll<'a, N, T> {
+impl<'a, N: Net<Listener = TcpListener, Stream = TcpStream>, T: rt::Clock + Log + Sync> TcpAll<
+    'a,
+    N,
+    T,
+> {
     ghost use Rattle.tcp_links.specs.Untold.{untold_listener, untold_dialer};
 
     /// Sockets that have no fault yet.
-    pub fn new(alloc: Global, net: &'a N, time: &'a T) -> Self
+    pub fn new(alloc: Global, net: &'a N, rt: &'a T) -> Self
         ensures listener { ⟦<TcpAll<'a, N, T> as Listener>⟧.state result ≡ untold_listener }
         ensures dialer { ⟦<TcpAll<'a, N, T> as Dialer>⟧.state result ≡ untold_dialer }
     {
         TcpAll {
             alloc,
             net,
-            time,
+            rt,
             faults: 0,
         }
     }
 }
 
-impl<'a, N: Net<Listener = TcpListener, Stream = TcpStream>, T: rt::Clock + Sync> Listener
+impl<'a, N: Net<Listener = TcpListener, Stream = TcpStream>, T: rt::Clock + Log + Sync> Listener
     for TcpAll<'a, N, T> {
     type Acceptor = TcpAcceptor<'a, T>;
 
@@ -48,13 +58,20 @@ impl<'a, N: Net<Listener = TcpListener, Stream = TcpStream>, T: rt::Clock + Sync
         address: &str,
         workers: u32,
     ) -> Result<Vec<TcpAcceptor<'a, T>>, StartFault> {
-        let Ok(listener) = TcpListener::bind(self.net, address) else {
-            self.faults = self.faults.saturating_add(1);
-            return Err(StartFault::Failed);
+        let listener = match TcpListener::bind(self.net, address) {
+            Ok(listener) => listener,
+            Err(error) => {
+                error!(self.rt; "can't listen on {address}: {error}");
+                self.faults = self.faults.saturating_add(1);
+                return Err(StartFault::Failed);
+            }
         };
         let limits = Limits::of_server(workers);
-        match acceptors(self.alloc, &listener, self.time, limits, workers) {
-            Ok(given) => Ok(given),
+        match acceptors(self.alloc, &listener, self.rt, limits, workers) {
+            Ok(given) => {
+                info!(self.rt; "listening on {address}, workers {workers}");
+                Ok(given)
+            }
             Err(StartFault::Memory) => Err(StartFault::Memory),
             Err(StartFault::Failed) => {
                 self.faults = self.faults.saturating_add(1);
@@ -70,44 +87,60 @@ impl<'a, N: Net<Listener = TcpListener, Stream = TcpStream>, T: rt::Clock + Sync
     }
 }
 
-// A stream to the first of the address's places that answers, with the limit of a write set on it.
-// Each place has the limit of a call to answer.
+// A stream to the first of the address's places that answers, and that place, with the limit of a
+// write set on it. Each place has the limit of a call to answer.
 fn connect<N: Net<Stream = TcpStream>>(
     net: &N,
     address: &str,
     limits: Limits,
-) -> Option<TcpStream> {
-    for place in address.to_socket_addrs(net).ok()? {
-        if let Ok(stream) = TcpStream::connect_timeout(net, &place, limits.call)
-            && is_limited(&stream, limits)
-        {
-            return Some(stream);
+) -> io::Result<(TcpStream, SocketAddr)> {
+    let mut last = io::Error::from(ErrorKind::NotConnected);
+    for place in address.to_socket_addrs(net)? {
+        match TcpStream::connect_timeout(net, &place, limits.call) {
+            Ok(stream) if is_limited(&stream, limits) => return Ok((stream, place)),
+            Ok(_) => {}
+            Err(error) => last = error,
         }
     }
-    None
+    Err(last)
 }
 
-impl<'a, N: Net<Listener = TcpListener, Stream = TcpStream>, T: rt::Clock + Sync> Dialer
+impl<'a, N: Net<Listener = TcpListener, Stream = TcpStream>, T: rt::Clock + Log + Sync> Dialer
     for TcpAll<'a, N, T> {
-    type Link = DeadlineLink<'a, TcpLink<TcpStream>, T>;
+    type Link = LoggedLink<DeadlineLink<'a, TcpLink<TcpStream>, T>>;
 
     ghost state = { λ l. record { dialed = None; answers = None; ended = None; out = None; faults = l.faults } };
 
     fn dial(
         &mut self,
         address: &str,
-    ) -> Result<DeadlineLink<'a, TcpLink<TcpStream>, T>, StartFault> {
+    ) -> Result<LoggedLink<DeadlineLink<'a, TcpLink<TcpStream>, T>>, StartFault> {
         let limits = Limits::of_client();
         match connect(self.net, address, limits) {
-            Some(stream) => Ok(DeadlineLink::new(TcpLink::new(stream), self.time, limits)),
-            None => {
+            Ok((stream, peer)) => {
+                let link = DeadlineLink::new(TcpLink::new(stream), peer, self.rt, limits);
+                let is_kept = log_enabled!(self.rt; Level::Error);
+                Ok(LoggedLink::new(self.alloc, link, is_kept))
+            }
+            Err(error) => {
+                error!(self.rt; "can't reach {address}: {error}");
                 self.faults = self.faults.saturating_add(1);
                 Err(StartFault::Failed)
             }
         }
     }
 
-    fn end(&mut self, link: DeadlineLink<'a, TcpLink<TcpStream>, T>) {
+    fn end(&mut self, link: LoggedLink<DeadlineLink<'a, TcpLink<TcpStream>, T>>) {
+        if let Some((status, body)) = link.refusal() {
+            error!(self.rt; "the server refused, status {status}: {body}");
+        }
+        let link = link.into_inner();
+        let peer = link.peer();
+        match link.ending() {
+            LinkEnding::OtherSide | LinkEnding::ThisSide => {}
+            LinkEnding::TimeLimit => error!(self.rt; "connection to {peer} failed: timed out"),
+            LinkEnding::Failed(error) => error!(self.rt; "connection to {peer} failed: {error}"),
+        }
         if link.has_failed() {
             self.faults = self.faults.saturating_add(1);
         }

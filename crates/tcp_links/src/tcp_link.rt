@@ -1,7 +1,8 @@
-ghost use Rattle.std.specs.Prelude.{◌≡◌, ◌≢◌, ◌≤◌, ◌<◌, ◌↔◌, ◌⊎◌, ◌∷◌, [], IfSome, IsTrue, length, take, None};
+ghost use Rattle.std.specs.Prelude.{◌≡◌, ◌≢◌, ◌≤◌, ◌<◌, ◌↔◌, ◌⊎◌, ◌∷◌, [], IfOk, IsTrue, length, take, None};
 ghost use Rattle.sw_base.specs.Link.{LinkState, opened};
 
-use crate::{HasFailed, LimitedReads, LimitedStream};
+use crate::{HasFailed, LimitedReads, LimitedStream, LinkEnding};
+use std::io;
 use std::io::{ErrorKind, Read, Write};
 use std::time::Duration;
 use sw_base::{Failed, Link};
@@ -11,7 +12,8 @@ const TLS_HANDSHAKE: u8 = 0x16;
 
 /// A stream as a link. It tells no bytes. A write of 0 bytes counts as a failed one, and a call that
 /// a signal interrupts is made again. A first read whose first byte begins a hello of TLS fails:
-/// whoever sends it awaits an answer in TLS, and would send nothing more.
+/// whoever sends it awaits an answer in TLS, and would send nothing more. The error of the last call
+/// that failed is kept, for whoever says why.
 #[derive(Drop)]
 pub struct TcpLink<S: Read + Write + Drop> {
     stream: S,
@@ -21,6 +23,7 @@ pub struct TcpLink<S: Read + Write + Drop> {
     at_end: bool,
     read_faults: u64,
     write_faults: u64,
+    error: Option<io::Error>,
 }
 
 impl<S: Read + Write + Drop> TcpLink<S> {
@@ -34,13 +37,14 @@ impl<S: Read + Write + Drop> TcpLink<S> {
             at_end: false,
             read_faults: 0,
             write_faults: 0,
+            error: None,
         }
     }
 
     // Reads once, unless the stream's first bytes begin a hello of TLS.
-    fn read_plain(&mut self, into: &mut [u8]) -> Option<usize>
-        ensures bound { IfSome result (λ n. n ≤ length into.new) }
-        ensures plain { IsTrue self.old.has_begun ⊎ IfSome result (λ n. take 1 (take n into.new) ≢ 0x16 ∷ []) }
+    fn read_plain(&mut self, into: &mut [u8]) -> io::Result<usize>
+        ensures bound { IfOk result (λ n. n ≤ length into.new) }
+        ensures plain { IsTrue self.old.has_begun ⊎ IfOk result (λ n. take 1 (take n into.new) ≢ 0x16 ∷ []) }
         ensures reads { self.new.read_faults ≡ self.old.read_faults }
         ensures writes { self.new.write_faults ≡ self.old.write_faults }
     {
@@ -48,9 +52,9 @@ impl<S: Read + Write + Drop> TcpLink<S> {
         let has_begun = self.has_begun;
         self.has_begun = true;
         if !has_begun && is_hello(&into[..n]) {
-            return None;
+            return Err(io::Error::new(ErrorKind::InvalidData, "it speaks TLS"));
         }
-        Some(n)
+        Ok(n)
     }
 
     // The stream, where its peer may have sent more than was read and still awaits the last reply.
@@ -66,6 +70,14 @@ impl<S: Read + Write + Drop> HasFailed for TcpLink<S> {
     fn has_failed(&self) -> bool {
         self.read_faults > 0 || self.write_faults > 0
     }
+
+    fn ending(&self) -> LinkEnding {
+        match self.error {
+            Some(error) => LinkEnding::of_error(error),
+            None if self.at_end => LinkEnding::OtherSide,
+            None => LinkEnding::ThisSide,
+        }
+    }
 }
 
 impl<S: Read + Write + LimitedStream + Drop> LimitedReads for TcpLink<S> {
@@ -75,20 +87,20 @@ impl<S: Read + Write + LimitedStream + Drop> LimitedReads for TcpLink<S> {
 }
 
 // Reads once, and again where a signal interrupted that.
-fn read_again<S: Read>(stream: &mut S, into: &mut [u8]) -> Option<usize>
-    ensures { IfSome result (λ n. n ≤ length into.new) }
+fn read_again<S: Read>(stream: &mut S, into: &mut [u8]) -> io::Result<usize>
+    ensures { IfOk result (λ n. n ≤ length into.new) }
 {
     for _ in 0..u64::MAX {
         match stream.read(into) {
-            Ok(n) => return Some(n),
+            Ok(n) => return Ok(n),
             Err(error) => {
                 if error.kind() != ErrorKind::Interrupted {
-                    return None;
+                    return Err(error);
                 }
             }
         }
     }
-    None
+    Err(io::Error::from(ErrorKind::Interrupted))
 }
 
 // Whether the first bytes of a stream begin a hello of TLS.
@@ -99,21 +111,21 @@ fn is_hello(bytes: &[u8]) -> bool
 }
 
 // Writes once, and again where a signal interrupted that: 1 byte at least.
-fn write_again<S: Write>(stream: &mut S, piece: &[u8]) -> Option<usize>
-    ensures { IfSome result (λ n. (0 < n) × (n ≤ length piece.now)) }
+fn write_again<S: Write>(stream: &mut S, piece: &[u8]) -> io::Result<usize>
+    ensures { IfOk result (λ n. (0 < n) × (n ≤ length piece.now)) }
 {
     for _ in 0..u64::MAX {
         match stream.write(piece) {
-            Ok(n) if n > 0 => return Some(n),
-            Ok(_) => return None,
+            Ok(n) if n > 0 => return Ok(n),
+            Ok(_) => return Err(io::Error::from(ErrorKind::WriteZero)),
             Err(error) => {
                 if error.kind() != ErrorKind::Interrupted {
-                    return None;
+                    return Err(error);
                 }
             }
         }
     }
-    None
+    Err(io::Error::from(ErrorKind::Interrupted))
 }
 
 impl<S: Read + Write + Drop> Link for TcpLink<S> {
@@ -127,12 +139,13 @@ impl<S: Read + Write + Drop> Link for TcpLink<S> {
 
     fn read(&mut self, into: &mut [u8]) -> Result<usize, Failed> {
         match self.read_plain(into) {
-            Some(n) => {
+            Ok(n) => {
                 self.at_end = n == 0;
                 Ok(n)
             }
-            None => {
+            Err(error) => {
                 self.read_faults = self.read_faults.saturating_add(1);
+                self.error = Some(error);
                 Err(Failed)
             }
         }
@@ -140,9 +153,10 @@ impl<S: Read + Write + Drop> Link for TcpLink<S> {
 
     fn write(&mut self, piece: &[u8]) -> Result<usize, Failed> {
         match write_again(&mut self.stream, piece) {
-            Some(n) => Ok(n),
-            None => {
+            Ok(n) => Ok(n),
+            Err(error) => {
                 self.write_faults = self.write_faults.saturating_add(1);
+                self.error = Some(error);
                 Err(Failed)
             }
         }
@@ -151,8 +165,9 @@ impl<S: Read + Write + Drop> Link for TcpLink<S> {
     fn flush(&mut self) -> Result<(), Failed> {
         match self.stream.flush() {
             Ok(()) => Ok(()),
-            Err(_) => {
+            Err(error) => {
                 self.write_faults = self.write_faults.saturating_add(1);
+                self.error = Some(error);
                 Err(Failed)
             }
         }
