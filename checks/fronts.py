@@ -103,17 +103,22 @@ def commands(words):
     return [it for it in found[0].splitlines() if not it.startswith(("apt-get ", "nginx ", "systemctl "))]
 
 
+def checkout_in(folder):
+    """The folder within it that stands for that of the repository."""
+    return os.path.join(folder, "checkout")
+
+
 def run_commands(folder, lines, given=None):
     """Runs commands of docs/operating.md with a folder in place of /etc/swarm, /etc/nginx and /var/www/swarm, in
-    a folder within it that stands for that of the repository."""
-    work = os.path.join(folder, "work")
-    if not os.path.exists(work):
-        os.makedirs(work)
-        os.symlink(os.path.join(records.TOP, "examples"), os.path.join(work, "examples"))
+    the one within it that stands for that of the repository."""
+    checkout = checkout_in(folder)
+    if not os.path.exists(checkout):
+        os.makedirs(checkout)
+        os.symlink(os.path.join(records.TOP, "examples"), os.path.join(checkout, "examples"))
         for it in ("snippets", "conf.d"):
             os.makedirs(os.path.join(folder, "nginx", it))
     script = changed_paths("\n".join(lines), {"/etc/swarm": folder, "/etc/nginx": f"{folder}/nginx", "/var/www/swarm": folder})
-    done = subprocess.run(["sh", "-euc", script], cwd=work, input=given, capture_output=True, text=True, timeout=60, check=False)
+    done = subprocess.run(["sh", "-euc", script], cwd=checkout, input=given, capture_output=True, text=True, timeout=60, check=False)
     if done.returncode:
         sys.exit(f"{PAGE}: the commands\n{script}\nend with status {done.returncode}:\n{done.stdout}{done.stderr}")
 
