@@ -1,7 +1,7 @@
 -- Digests, computed.
 use Rattle.std.proofs.Common.{◌≡◌, refl}
 use Rattle.sha2.specs.Sha256.{compress, digest_bytes, first_words, hash_after, rounds, schedule, sha256}
-use Rattle.content_store.specs.declared.filled.Filled.TheVariants.{Done, Differs, Unknown}
+use Rattle.blob_rows.specs.declared.filled.Filled.TheVariants.{Done, Differs, Unknown}
 use Rattle.content_store.specs.Plain.{fill_result}
 use Rattle.base_examples.specs.StoreExamples.{short, short_digest, long, long_digest, awaited}
 

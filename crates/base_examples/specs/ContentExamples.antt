@@ -1,10 +1,10 @@
 -- Contents of 64 bytes in a region of four units, and their rows.
 use Rattle.std.specs.Prelude.{ℕ, List, None, length}
-use Rattle.region.specs.Extents.{extent_at}
+use Rattle.blob_rows.specs.Extents.{extent_at}
+use Rattle.blob_rows.specs.declared.blob_row.BlobRow.{BlobRow}
+use Rattle.blob_rows.specs.BlobRows.{BlobRowsState}
 use Rattle.content_store.specs.Contents.{Content}
 use Rattle.content_store.specs.Plain.{ContentStoreState}
-use Rattle.content_store.specs.declared.blob_row.BlobRow.{BlobRow}
-use Rattle.content_store.specs.BlobRows.{BlobRowsState}
 
 -- a content of this digest and number, which lies at a unit
 abbrev pub content : List ℕ → ℕ → ℕ → Content

@@ -1,10 +1,10 @@
 -- Small stores, and what is held in them.
 use Rattle.std.specs.Prelude.{ℕ, List, [], ◌∷◌, codes}
 use Rattle.std.specs.List.{fold}
-use Rattle.region.specs.Extents.{extent_at}
+use Rattle.blob_rows.specs.Extents.{extent_at}
+use Rattle.blob_rows.specs.BlobRows.{BlobRowsState}
 use Rattle.content_store.specs.Contents.{Content, unfilled_content}
 use Rattle.content_store.specs.Plain.{ContentStoreState, hold_result, held_after_hold}
-use Rattle.content_store.specs.BlobRows.{BlobRowsState}
 
 -- the digest of 32 such bytes
 abbrev pub name : ℕ → List ℕ

@@ -1,12 +1,13 @@
 //! Contents by their digests and the rows of blobs at work, as facts that the check computes.
 ghost use Rattle.std.specs.Prelude.{◌≡◌, ℕ, List, ◌∷◌, [], Some, None, true, false, codes, length};
 ghost use Rattle.sha2.specs.Sha256.{sha256};
-ghost use Rattle.region.specs.Extents.{extent_at};
-ghost use Rattle.content_store.specs.declared.held.Held.TheVariants.{Placed, Present};
-ghost use Rattle.content_store.specs.declared.filled.Filled.TheVariants.{Done, Differs, Unknown};
-ghost use Rattle.content_store.specs.Contents.{same_digest, without_content};
+ghost use Rattle.blob_rows.specs.Extents.{extent_at};
+ghost use Rattle.blob_rows.specs.declared.held.Held.TheVariants.{Placed, Present};
+ghost use Rattle.blob_rows.specs.declared.filled.Filled.TheVariants.{Done, Differs, Unknown};
+ghost use Rattle.blob_rows.specs.Digests.{same_digest};
+ghost use Rattle.blob_rows.specs.BlobRows.{blob_of, blob_numbered, renewed, put};
+ghost use Rattle.content_store.specs.Contents.{without_content};
 ghost use Rattle.content_store.specs.Plain.{hold_result, fill_result};
-ghost use Rattle.content_store.specs.BlobRows.{blob_of, blob_numbered, renewed, put};
 ghost use Rattle.content_store.specs.StoredRows.{held_without};
 ghost use Rattle.base_examples.specs.ContentExamples.{content, row, store_of, rows_of};
 

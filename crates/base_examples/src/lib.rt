@@ -1,4 +1,4 @@
-//! The definitions below `swarm_model` at work: lists, tables, heads, words, fields and their rules.
+//! The definitions beside `swarm_model` at work: lists, tables, heads, words, fields and their rules.
 //!
 //! Each example is a function without a body, whose clauses the check computes: what a definition
 //! says of one small case, taken from a standard or a document. A public function that answers by

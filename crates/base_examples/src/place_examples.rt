@@ -1,6 +1,6 @@
 //! Places of a region at work, as facts that the check computes.
 ghost use Rattle.std.specs.Prelude.{◌≡◌, ◌∷◌, [], Some, None};
-ghost use Rattle.region.specs.Extents.{extent_at, without_extent};
+ghost use Rattle.blob_rows.specs.Extents.{extent_at, without_extent};
 ghost use Rattle.region.specs.FreeUnits.{least_extent};
 
 /// The least place is taken at which so many units in a row are free.

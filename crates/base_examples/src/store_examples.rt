@@ -1,12 +1,12 @@
 //! A store of contents at work: which names it holds, and which bytes it takes, as facts that the check computes.
 ghost use Rattle.std.specs.Prelude.{◌≡◌, ◌∷◌, [], Some, None, false};
 ghost use Rattle.sha2.specs.Sha256.{sha256};
-ghost use Rattle.region.specs.Extents.{extent_at};
-ghost use Rattle.content_store.specs.declared.held.Held.TheVariants.{Placed, Present, NoNames, NoRoom};
-ghost use Rattle.content_store.specs.declared.filled.Filled.TheVariants.{Done, Differs, Unknown};
+ghost use Rattle.blob_rows.specs.Extents.{extent_at};
+ghost use Rattle.blob_rows.specs.declared.held.Held.TheVariants.{Placed, Present, NoNames, NoRoom};
+ghost use Rattle.blob_rows.specs.declared.filled.Filled.TheVariants.{Done, Differs, Unknown};
+ghost use Rattle.blob_rows.specs.BlobRows.{put, put_result};
 ghost use Rattle.content_store.specs.Contents.{is_held, number_of, bytes_of, without_content};
 ghost use Rattle.content_store.specs.Plain.{hold_result, fill_result, held_after_fill};
-ghost use Rattle.content_store.specs.BlobRows.{put, put_result};
 ghost use Rattle.base_examples.specs.StoreExamples.{name, store_of, holds, no_blobs, short, short_digest, long, long_digest, awaited};
 
 /// A content takes a unit for each 64 bytes that it begins, and one where it has none.

@@ -10,11 +10,12 @@ use Rattle.std.proofs.lemmas.List.{get_or_default}
 use Rattle.std.proofs.lemmas.List.Elements.{All-from_recursion, recursion_from_All, All-append, All-cons, All-take, All-drop}
 use Rattle.std.proofs.lemmas.List.Sums.{sum_by-cons}
 use Rattle.std.proofs.lemmas.Map.Keys.{sorted_head, sorted_tail}
-use Rattle.region.specs.SameItems.{SameItems}
-use Rattle.region.proofs.SameItems.{pass}
-use Rattle.content_store.specs.Contents.{Content, same_digest, digest_cmp, with_content, filled_with}
+use Rattle.blob_rows.specs.SameItems.{SameItems}
+use Rattle.blob_rows.proofs.SameItems.{pass}
+use Rattle.blob_rows.specs.Digests.{same_digest, digest_cmp}
+use Rattle.blob_rows.proofs.Texts.{same_text, other_text, less_other, greater_other, greater_less, less_not}
+use Rattle.content_store.specs.Contents.{Content, with_content, filled_with}
 use Rattle.content_store.specs.Slots.{BelongsAt}
-use Rattle.content_store.proofs.Texts.{same_text, other_text, less_other, greater_other, greater_less, less_not}
 
 abbrev pub name_of : Content → List ℕ
 name_of content = content.digest

@@ -8,16 +8,18 @@ use Rattle.std.proofs.lemmas.List.{map-append, map-id, take-map, drop-map, lengt
 use Rattle.std.proofs.lemmas.List.Kept.{IsStrictlySortedBy-filter}
 use Rattle.std.proofs.lemmas.List.Quantifiers.{all_pairs_remove}
 use Rattle.std.proofs.lemmas.List.Elements.{All-append, All-cons, All-take, All-drop}
-use Rattle.region.specs.declared.extent.Extent.{Extent}
-use Rattle.region.specs.Places.{least_place, is_free, overlaps}
-use Rattle.region.specs.Extents.{extent_at, without_extent, AreApart}
+use Rattle.blob_rows.specs.declared.extent.Extent.{Extent}
+use Rattle.blob_rows.specs.Places.{least_place, is_free, overlaps}
+use Rattle.blob_rows.specs.Extents.{extent_at, without_extent, AreApart}
+use Rattle.blob_rows.specs.Digests.{digest_cmp, same_digest}
+use Rattle.blob_rows.specs.BlobRows.{units_of}
+use Rattle.blob_rows.proofs.LeastPlaces.{least_place-free}
 use Rattle.region.specs.Plain.{RegionState}
 use Rattle.region.specs.FreeUnits.{IsFreeBeside, AreInUse}
 use Rattle.region.proofs.Overlaps.{insert-apart}
-use Rattle.content_store.specs.Contents.{Content, digest_cmp, units_of, extent_of, content_of, with_content, unfilled_content, without_content, same_digest}
-use Rattle.content_store.specs.Slots.{digest_of, extent_of_slot, content_in, part_of, IsAt, BelongsAt, AreLaidOut, IsThere, AreThere}
-use Rattle.region.proofs.LeastPlaces.{least_place-free}
 use Rattle.region.proofs.InUse.{remove-is}
+use Rattle.content_store.specs.Contents.{Content, extent_of, content_of, with_content, unfilled_content, without_content}
+use Rattle.content_store.specs.Slots.{digest_of, extent_of_slot, content_in, part_of, IsAt, BelongsAt, AreLaidOut, IsThere, AreThere}
 use Rattle.content_store.specs.declared.slot.Slot.{Slot}
 use Rattle.content_store.proofs.ByDigest.{name_of, find_at, belongs_find, insert-sorted, remove_named, with_content-is}
 

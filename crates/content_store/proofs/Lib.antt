@@ -4,8 +4,6 @@ pub mod Laying
 pub mod Marking
 pub mod Parts
 pub mod Telling
-pub mod Texts
-pub mod Counts
 pub mod Tied
 pub mod Numbered
 pub mod Puts

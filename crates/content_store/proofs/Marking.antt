@@ -7,13 +7,15 @@ use Rattle.std.proofs.lemmas.List.{length-map, length-set, get_or-map, map-set, 
 use Rattle.std.proofs.lemmas.List.Elements.{All-set}
 use Rattle.std.proofs.Math.Seq.{map-set_same}
 use Rattle.sha2.specs.Sha256.{sha256}
-use Rattle.region.specs.declared.extent.Extent.{Extent}
-use Rattle.region.specs.Places.{overlaps}
-use Rattle.region.specs.Extents.{AreApart}
+use Rattle.blob_rows.specs.declared.extent.Extent.{Extent}
+use Rattle.blob_rows.specs.Places.{overlaps}
+use Rattle.blob_rows.specs.Extents.{AreApart}
+use Rattle.blob_rows.specs.Digests.{digest_cmp}
+use Rattle.blob_rows.specs.BlobRows.{units_of}
 use Rattle.region.specs.Plain.{RegionState}
 use Rattle.region.specs.FreeUnits.{IsFreeBeside}
 use Rattle.region.proofs.Overlaps.{clear_of, one_first}
-use Rattle.content_store.specs.Contents.{Content, digest_cmp, units_of, filled_with}
+use Rattle.content_store.specs.Contents.{Content, filled_with}
 use Rattle.content_store.specs.Slots.{digest_of, extent_of_slot, content_in, part, part_of, IsAt, AreLaidOut, IsThere, AreThere, AreBeside, IsWritten, filled_slot}
 use Rattle.content_store.specs.declared.slot.Slot.{Slot}
 use Rattle.content_store.proofs.ByDigest.{name_of, filled-is}

@@ -14,13 +14,14 @@ use Rattle.std.proofs.lemmas.List.Kept.{AllPairs-filter}
 use Rattle.std.proofs.lemmas.List.Quantifiers.{all_pairs_push, position-Some}
 use Rattle.std.proofs.lemmas.List.Sums.{sum_by-cons}
 use Rattle.dimensions.proofs.Counting.{count-none, list_any-map}
-use Rattle.region.proofs.SameItems.{pass, list_any-same}
-use Rattle.content_store.specs.Contents.{Content, same_digest, is_named, content_of, number_of}
-use Rattle.content_store.specs.declared.blob_row.BlobRow.{BlobRow}
-use Rattle.content_store.specs.BlobRows.{has_digest, is_blob, renewed, renewed_until, longer_kept}
+use Rattle.blob_rows.proofs.SameItems.{pass, list_any-same}
+use Rattle.blob_rows.specs.Digests.{same_digest}
+use Rattle.blob_rows.specs.declared.blob_row.BlobRow.{BlobRow}
+use Rattle.blob_rows.specs.BlobRows.{has_digest, is_blob, renewed, renewed_until, longer_kept, Stored, stored_row}
+use Rattle.blob_rows.proofs.Counts.{passed, failed, is_some-find, there_counted, one_place, none_place, change_one}
+use Rattle.content_store.specs.Contents.{Content, is_named, content_of, number_of}
 use Rattle.content_store.specs.RowOrder.{NumbersRise}
-use Rattle.content_store.specs.StoredRows.{Stored, stored_row, stored_content, AreStored}
-use Rattle.content_store.proofs.Counts.{passed, failed, is_some-find, there_counted, one_place, none_place, change_one}
+use Rattle.content_store.specs.StoredRows.{stored_content, AreStored}
 use Rattle.content_store.proofs.Tied.{held_is}
 
 -- ---- rows whose numbers rise

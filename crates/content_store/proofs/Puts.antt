@@ -2,17 +2,17 @@
 use Rattle.std.proofs.Common.{◌≡◌, ℕ, ◌+◌, ◌<◌, Bool, true, false, cond, List, [], ◌∷◌, ◌++◌, length, map, Option, Some, None, Bor, is_some, refl, sym, ap, ◌∙◌, leb}
 use Rattle.std.specs.Option.{option_map_or, option_copied}
 use Rattle.std.proofs.lemmas.Bool.{lt-leb}
-use Rattle.region.specs.declared.extent.Extent.{Extent}
-use Rattle.region.specs.Places.{least_place}
-use Rattle.region.specs.Extents.{extent_at}
-use Rattle.content_store.specs.declared.held.Held.{Held}
-use Rattle.content_store.specs.declared.held.Held.TheVariants.{Placed, Present, NoNames, NoRoom}
-use Rattle.content_store.specs.Contents.{Content, units_of, is_held, extent_of}
+use Rattle.blob_rows.specs.declared.extent.Extent.{Extent}
+use Rattle.blob_rows.specs.Places.{least_place}
+use Rattle.blob_rows.specs.Extents.{extent_at}
+use Rattle.blob_rows.specs.declared.held.Held.{Held}
+use Rattle.blob_rows.specs.declared.held.Held.TheVariants.{Placed, Present, NoNames, NoRoom}
+use Rattle.blob_rows.specs.BlobRows.{units_of, BlobRowsState, blob_of, renewed_until, new_blob, place_for, put, put_result}
+use Rattle.blob_rows.specs.declared.blob_row.BlobRow.{BlobRow}
+use Rattle.blob_rows.proofs.Counts.{none_from}
+use Rattle.content_store.specs.Contents.{Content, is_held, extent_of}
 use Rattle.content_store.specs.Plain.{ContentStoreState, hold_result, held_after_hold}
-use Rattle.content_store.specs.declared.blob_row.BlobRow.{BlobRow}
-use Rattle.content_store.specs.BlobRows.{BlobRowsState, blob_of, renewed_until, new_blob, place_for, put, put_result}
 use Rattle.content_store.specs.StoredRows.{AreStored, rows_beside}
-use Rattle.content_store.proofs.Counts.{none_from}
 use Rattle.content_store.proofs.Tied.{held_is, length_is, place_is}
 
 -- whether a row that is lent is there

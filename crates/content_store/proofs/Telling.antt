@@ -3,20 +3,22 @@ use Rattle.std.proofs.Common.{◌≡◌, ℕ, ◌≤◌, ◌<◌, Bool, true, fa
 use Rattle.std.specs.Option.{option_map, option_map_or}
 use Rattle.std.proofs.lemmas.Bool.{le-leb, lt-leb, eq-eqb, ne_eqb}
 use Rattle.std.proofs.lemmas.List.{length-map}
-use Rattle.region.specs.declared.extent.Extent.{Extent}
-use Rattle.region.specs.Places.{least_place}
-use Rattle.region.specs.Extents.{extent_at}
+use Rattle.blob_rows.specs.declared.extent.Extent.{Extent}
+use Rattle.blob_rows.specs.Places.{least_place}
+use Rattle.blob_rows.specs.Extents.{extent_at}
+use Rattle.blob_rows.specs.Digests.{same_digest}
+use Rattle.blob_rows.specs.BlobRows.{units_of}
+use Rattle.blob_rows.specs.declared.held.Held.{Held}
+use Rattle.blob_rows.specs.declared.held.Held.TheVariants.{Placed, Present, NoNames, NoRoom}
 use Rattle.region.specs.Plain.{RegionState}
 use Rattle.region.specs.FreeUnits.{least_extent}
-use Rattle.content_store.specs.Contents.{Content, same_digest, is_held_with_size, units_of, content_of}
+use Rattle.content_store.specs.Contents.{Content, is_held_with_size, content_of}
 use Rattle.content_store.specs.Plain.{fill_result, hold_result, place_for}
 use Rattle.content_store.specs.Slots.{digest_of, extent_of_slot, content_in, state_in, IsAt, BelongsAt, AreLaidOut}
 use Rattle.content_store.specs.declared.slot.Slot.{Slot}
-use Rattle.content_store.specs.declared.held.Held.{Held}
-use Rattle.content_store.specs.declared.held.Held.TheVariants.{Placed, Present, NoNames, NoRoom}
 use Rattle.sha2.specs.Sha256.{sha256}
-use Rattle.content_store.specs.declared.filled.Filled.{Filled}
-use Rattle.content_store.specs.declared.filled.Filled.TheVariants.{Done, Differs, Unknown}
+use Rattle.blob_rows.specs.declared.filled.Filled.{Filled}
+use Rattle.blob_rows.specs.declared.filled.Filled.TheVariants.{Done, Differs, Unknown}
 use Rattle.content_store.proofs.Found.{no_slot}
 use Rattle.content_store.proofs.Laying.{not_held, held_at, place_same}
 

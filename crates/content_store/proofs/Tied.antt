@@ -1,25 +1,26 @@
 -- The rows and the store: what the rows tell of what is held, and what keeps them tied.
-use Rattle.std.proofs.Common.{◌≡◌, ℕ, ◌+◌, ◌≤◌, ◌<◌, Bool, true, false, not, cond, Some, List, [], ◌∷◌, ◌++◌, length, get_or, map, is_some, refl, sym, ap, ◌∙◌, subst, arith, ltb, eqb}
+use Rattle.std.proofs.Common.{◌≡◌, ℕ, ◌+◌, ◌<◌, Bool, true, false, not, cond, Some, List, [], ◌∷◌, ◌++◌, length, get_or, map, is_some, refl, sym, ap, ◌∙◌, subst, arith, ltb}
 use Rattle.std.specs.List.{filter, count_by, list_any}
 use Rattle.std.specs.Cmp.Lexicographic.{bytes_decides}
-use Rattle.std.proofs.lemmas.Bool.{ltb-true, le-ltb, lt-ltb, eqb-true}
 use Rattle.std.proofs.lemmas.List.{map_push, length-map}
 use Rattle.std.proofs.lemmas.List.Sums.{sum_by-cons, sum_by_push}
-use Rattle.dimensions.proofs.Counting.{count-map, count-none, list_any-map}
-use Rattle.region.specs.declared.extent.Extent.{Extent}
-use Rattle.region.specs.Places.{least_place}
-use Rattle.region.specs.SameItems.{SameItems}
-use Rattle.region.proofs.SameItems.{pass, list_any-same, filter-same, length-same}
-use Rattle.region.proofs.LeastPlaces.{least_place-same}
-use Rattle.content_store.specs.declared.filled.Filled.{Filled}
-use Rattle.content_store.specs.declared.filled.Filled.TheVariants.{Done, Differs, Unknown}
-use Rattle.content_store.specs.Contents.{Content, same_digest, is_named, is_held, extent_of, with_content, without_content, filled_with}
+use Rattle.dimensions.proofs.Counting.{list_any-map}
+use Rattle.blob_rows.specs.declared.extent.Extent.{Extent}
+use Rattle.blob_rows.specs.Places.{least_place}
+use Rattle.blob_rows.specs.SameItems.{SameItems}
+use Rattle.blob_rows.proofs.SameItems.{pass, list_any-same, filter-same, length-same}
+use Rattle.blob_rows.proofs.LeastPlaces.{least_place-same}
+use Rattle.blob_rows.specs.declared.filled.Filled.{Filled}
+use Rattle.blob_rows.specs.declared.filled.Filled.TheVariants.{Done, Differs, Unknown}
+use Rattle.blob_rows.specs.Digests.{same_digest}
+use Rattle.blob_rows.specs.declared.blob_row.BlobRow.{BlobRow}
+use Rattle.blob_rows.specs.BlobRows.{has_digest, is_blob, is_other, blob_of, extent_of_row, Stored, stored_row}
+use Rattle.blob_rows.proofs.Counts.{count_filtered, is_some-find, remove_one, map-filter, map-same}
+use Rattle.blob_rows.proofs.Distinct.{digests-changed, numbers-changed, above-changed, digests_more, numbers_more, above_more}
+use Rattle.content_store.specs.Contents.{Content, is_named, is_held, extent_of, with_content, without_content, filled_with}
 use Rattle.content_store.specs.Plain.{held_after_fill}
 use Rattle.content_store.proofs.ByDigest.{with_content-same}
-use Rattle.content_store.specs.declared.blob_row.BlobRow.{BlobRow}
-use Rattle.content_store.specs.BlobRows.{has_digest, is_blob, is_other, blob_of, extent_of_row, renewed}
-use Rattle.content_store.specs.StoredRows.{Stored, stored_row, stored_content, AreStored}
-use Rattle.content_store.proofs.Counts.{passed, failed, count_same, count_implied, count_filtered, is_some-find, remove_one, map-filter, map-same}
+use Rattle.content_store.specs.StoredRows.{stored_content, AreStored}
 
 abbrev extent_in : Stored → Extent
 extent_in stored = stored.extent
@@ -31,15 +32,6 @@ extents_of_rows (row ∷ rows) = ap (λ (l : List Extent). row.extent ∷ l) (ex
 extents_of_held : (held : List Content) → map extent_in (map stored_content held) ≡ map extent_of held
 extents_of_held [] = refl
 extents_of_held (content ∷ held) = ap (λ (l : List Extent). content.extent ∷ l) (extents_of_held held)
-
--- another deadline, for some rows, leaves what is stored, and the number
-pub stored-renewed : (t : Bool) (deadline : ℕ) (row : BlobRow) → stored_row (cond t (renewed deadline row) row) ≡ stored_row row
-stored-renewed true deadline row = refl
-stored-renewed false deadline row = refl
-
-pub no-renewed : (t : Bool) (deadline : ℕ) (row : BlobRow) → (cond t (renewed deadline row) row).no ≡ row.no
-no-renewed true deadline row = refl
-no-renewed false deadline row = refl
 
 module _ (rows : List BlobRow) (placed : ℕ) (held : List Content) (stored : AreStored rows placed held) where
   -- ---- what the rows tell of the store
@@ -66,31 +58,8 @@ module _ (rows : List BlobRow) (placed : ℕ) (held : List Content) (stored : Ar
   -- ---- a row more
 
   module _ (row : BlobRow) (content : Content) (same_stored : stored_row row ≡ stored_content content) (next : row.no ≡ placed + 1) (fresh : is_held held row.digest ≡ false) where
-    pushed : (test : BlobRow → Bool) → count_by test (rows ++ row ∷ []) ≡ count_by test rows + pass test row
-    pushed test = sum_by_push (pass test) rows row
-
-    not_there : (digest : List ℕ) → same_digest row.digest digest ≡ true → count_by (has_digest digest) rows ≡ 0
-    not_there digest is =
-        let e : row.digest ≡ digest = (bytes_decides row.digest digest).0 is in
-        count-none (has_digest digest) rows
-        (subst (λ (d : List ℕ). list_any (has_digest d) rows ≡ false) e (sym (is_some-find (has_digest row.digest) rows) ∙ sym (held_is row.digest) ∙ fresh))
-
-    digests_more : (digest : List ℕ) → count_by (has_digest digest) (rows ++ row ∷ []) ≤ 1
-    digests_more digest = by_test (same_digest row.digest digest) refl
-      where
-        by_test : (t : Bool) → same_digest row.digest digest ≡ t → count_by (has_digest digest) (rows ++ row ∷ []) ≤ 1
-        by_test true is = omega (arith, pushed (has_digest digest), passed (has_digest digest) row is, not_there digest is)
-        by_test false is = omega (arith, pushed (has_digest digest), failed (has_digest digest) row is, stored.digests digest)
-
-    numbers_more : (number : ℕ) → count_by (is_blob number) (rows ++ row ∷ []) ≤ 1
-    numbers_more number = by_test (eqb row.no number) refl
-      where
-        by_test : (t : Bool) → eqb row.no number ≡ t → count_by (is_blob number) (rows ++ row ∷ []) ≤ 1
-        by_test true is =
-            let e : row.no ≡ number = eqb-true row.no number is in
-            let few = count_implied (is_blob number) (λ r. ltb placed r.no) (λ r found. let f : r.no ≡ number = eqb-true r.no number found in lt-ltb placed r.no (omega arith)) rows in
-            omega (arith, pushed (is_blob number), passed (is_blob number) row is, few, stored.numbered)
-        by_test false is = omega (arith, pushed (is_blob number), failed (is_blob number) row is, stored.numbers number)
+    absent : list_any (has_digest row.digest) rows ≡ false
+    absent = sym (is_some-find (has_digest row.digest) rows) ∙ sym (held_is row.digest) ∙ fresh
 
     pub added : AreStored (rows ++ row ∷ []) (placed + 1) (with_content content held)
     added = record {
@@ -99,12 +68,9 @@ module _ (rows : List BlobRow) (placed : ℕ) (held : List Content) (stored : Ar
           let more = map-same stored_content (with_content content held) (content ∷ held) (with_content-same content held) test in
           let one : pass test (stored_row row) ≡ pass test (stored_content content) = ap (pass test) same_stored in
           omega (arith, grown, more, one, sum_by_push (pass test) (map stored_row rows) (stored_row row), sum_by-cons (pass test) (stored_content content) (map stored_content held), stored.same test);
-      digests = digests_more;
-      numbers = numbers_more;
-      numbered =
-          let few = count_implied (λ (r : BlobRow). ltb (placed + 1) r.no) (λ r. ltb placed r.no) (λ r found. let h = ltb-true (placed + 1) r.no found in lt-ltb placed r.no (omega arith)) rows in
-          let own = failed (λ (r : BlobRow). ltb (placed + 1) r.no) row (le-ltb (placed + 1) row.no (omega arith)) in
-          omega (arith, few, own, pushed (λ (r : BlobRow). ltb (placed + 1) r.no), stored.numbered);
+      digests = digests_more rows placed stored.numbered row next absent stored.digests;
+      numbers = numbers_more rows placed stored.numbered row next stored.numbers;
+      numbered = above_more rows placed stored.numbered row next;
     }
 
   -- ---- a row less
@@ -134,17 +100,14 @@ module _ (rows : List BlobRow) (placed : ℕ) (held : List Content) (stored : Ar
   changed change same same_no =
       record {
         same = subst (λ (l : List Stored). SameItems l (map stored_content held)) (sym (stored_of rows)) stored.same;
-        digests = λ digest. omega (arith, counted (has_digest digest) (λ row. ap (λ (s : Stored). same_digest s.digest digest) (same row)), stored.digests digest);
-        numbers = λ number. omega (arith, counted (is_blob number) (λ row. ap (λ (n : ℕ). eqb n number) (same_no row)), stored.numbers number);
-        numbered = counted (λ row. ltb placed row.no) (λ row. ap (λ (n : ℕ). ltb placed n) (same_no row)) ∙ stored.numbered;
+        digests = λ digest. omega (arith, digests-changed rows change same same_no digest, stored.digests digest);
+        numbers = λ number. omega (arith, numbers-changed rows change same same_no number, stored.numbers number);
+        numbered = above-changed rows change same same_no placed ∙ stored.numbered;
       }
     where
       stored_of : (rs : List BlobRow) → map stored_row (map change rs) ≡ map stored_row rs
       stored_of [] = refl
       stored_of (r ∷ rs) = ap (λ (s : Stored). s ∷ map stored_row (map change rs)) (same r) ∙ ap (λ (l : List Stored). stored_row r ∷ l) (stored_of rs)
-
-      counted : (test : BlobRow → Bool) → ((row : BlobRow) → test (change row) ≡ test row) → count_by test (map change rows) ≡ count_by test rows
-      counted test tells = count-map test change rows ∙ count_same (λ row. test (change row)) test tells rows
 
   -- ---- bytes that come
 

@@ -1,11 +1,10 @@
 -- Contents by their digests, sorted by them.
-use Rattle.std.specs.Prelude.{ℕ, Bool, false, ◌+◌, ◌/◌, max, not, nat_eq, List, [], ◌∷◌, Option, None, Some, is_some, if◌then◌else◌}
+use Rattle.std.specs.Prelude.{ℕ, Bool, false, not, nat_eq, List, [], ◌∷◌, Option, None, Some, is_some, if◌then◌else◌}
 use Rattle.std.specs.List.{find, filter}
 use Rattle.std.specs.Option.{option_map, option_map_or, option_and_then}
-use Rattle.std.specs.Ordering.{nat_cmp, is_lt}
-use Rattle.std.specs.Cmp.Lexicographic.{slice_cmp, pointwise}
-use Rattle.std.specs.declared.cmp.Ordering.{Ordering}
-use Rattle.region.specs.declared.extent.Extent.{Extent}
+use Rattle.std.specs.Ordering.{is_lt}
+use Rattle.blob_rows.specs.declared.extent.Extent.{Extent}
+use Rattle.blob_rows.specs.Digests.{same_digest, digest_cmp}
 
 -- a name that is held, its digest: how many bytes it stands for, the number that it was given, the extent where the bytes lie,
 -- and the bytes once they came
@@ -16,21 +15,10 @@ pub record Content : Type 0 where
   pub extent : Extent
   pub bytes : Option (List ℕ)
 
--- how many units of 64 bytes a content takes, at least one
-abbrev pub units_of : ℕ → ℕ
-units_of size = max 1 ((size + 63) / 64)
-
 abbrev pub extent_of : Content → Extent
 extent_of content = content.extent
 
 -- ---- by digest
-
-abbrev pub same_digest : List ℕ → List ℕ → Bool
-same_digest a b = pointwise nat_eq a b
-
--- digests by their bytes
-abbrev pub digest_cmp : List ℕ → List ℕ → Ordering
-digest_cmp a b = slice_cmp nat_cmp a b
 
 abbrev pub is_named : List ℕ → Content → Bool
 is_named digest content = same_digest content.digest digest

@@ -2,7 +2,6 @@ pub mod Contents
 pub mod Plain
 pub mod Slots
 pub mod Inside
-pub mod BlobRows
 pub mod RowOrder
 pub mod StoredRows
 pub mod BlobsInside

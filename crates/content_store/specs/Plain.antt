@@ -2,13 +2,15 @@
 use Rattle.std.specs.Prelude.{ℕ, nat_le, List, map, length, Option, if◌then◌else◌}
 use Rattle.std.specs.Option.{option_map_or}
 use Rattle.sha2.specs.Sha256.{sha256}
-use Rattle.region.specs.Places.{least_place}
-use Rattle.region.specs.Extents.{extent_at}
-use Rattle.content_store.specs.declared.held.Held.{Held}
-use Rattle.content_store.specs.declared.held.Held.TheVariants.{Placed, Present, NoNames, NoRoom}
-use Rattle.content_store.specs.declared.filled.Filled.{Filled}
-use Rattle.content_store.specs.declared.filled.Filled.TheVariants.{Done, Differs, Unknown}
-use Rattle.content_store.specs.Contents.{Content, units_of, extent_of, same_digest, is_held, is_held_with_size, unfilled_content, with_content, filled_with}
+use Rattle.blob_rows.specs.Places.{least_place}
+use Rattle.blob_rows.specs.Extents.{extent_at}
+use Rattle.blob_rows.specs.declared.held.Held.{Held}
+use Rattle.blob_rows.specs.declared.held.Held.TheVariants.{Placed, Present, NoNames, NoRoom}
+use Rattle.blob_rows.specs.declared.filled.Filled.{Filled}
+use Rattle.blob_rows.specs.declared.filled.Filled.TheVariants.{Done, Differs, Unknown}
+use Rattle.blob_rows.specs.BlobRows.{units_of}
+use Rattle.blob_rows.specs.Digests.{same_digest}
+use Rattle.content_store.specs.Contents.{Content, extent_of, is_held, is_held_with_size, unfilled_content, with_content, filled_with}
 
 -- a region of so many units, at most so many names, and what is held, sorted by digest
 pub record ContentStoreState : Type 0 where

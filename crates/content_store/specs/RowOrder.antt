@@ -1,7 +1,7 @@
 -- The rows of blobs in the order of their numbers.
 use Rattle.std.specs.Prelude.{◌<◌, List}
 use Rattle.std.specs.List.{AllPairs}
-use Rattle.content_store.specs.declared.blob_row.BlobRow.{BlobRow}
+use Rattle.blob_rows.specs.declared.blob_row.BlobRow.{BlobRow}
 
 -- each row has a lower number than all that stand behind it
 abbrev pub NumbersRise : List BlobRow → Type 0

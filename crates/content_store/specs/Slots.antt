@@ -5,12 +5,14 @@ use Rattle.std.specs.List.{All}
 use Rattle.std.specs.List.Sorted.{IsStrictlySortedBy}
 use Rattle.std.specs.declared.cmp.Ordering.TheVariants.{Less, Greater}
 use Rattle.sha2.specs.Sha256.{sha256}
-use Rattle.region.specs.declared.extent.Extent.{Extent}
-use Rattle.region.specs.Extents.{extent_at, AreApart}
+use Rattle.blob_rows.specs.declared.extent.Extent.{Extent}
+use Rattle.blob_rows.specs.Extents.{extent_at, AreApart}
+use Rattle.blob_rows.specs.Digests.{digest_cmp}
+use Rattle.blob_rows.specs.BlobRows.{units_of}
 use Rattle.region.specs.Plain.{RegionState}
 use Rattle.region.specs.FreeUnits.{IsFreeBeside}
 use Rattle.content_store.specs.declared.slot.Slot.{Slot}
-use Rattle.content_store.specs.Contents.{Content, digest_cmp, units_of}
+use Rattle.content_store.specs.Contents.{Content}
 use Rattle.content_store.specs.Plain.{ContentStoreState}
 
 -- ---- parts of the bytes

@@ -1,12 +1,11 @@
 -- What contracts see of the blobs: their rows, and the store that is tied to them.
 use Rattle.std.specs.Prelude.{◌≡◌, ℕ, ◌≤◌, nat_lt, List, map, Option, Some, None}
 use Rattle.std.specs.List.{count_by}
-use Rattle.region.specs.declared.extent.Extent.{Extent}
-use Rattle.region.specs.SameItems.{SameItems}
+use Rattle.blob_rows.specs.SameItems.{SameItems}
+use Rattle.blob_rows.specs.declared.blob_row.BlobRow.{BlobRow}
+use Rattle.blob_rows.specs.BlobRows.{BlobRowsState, has_digest, is_blob, Stored, stored_row}
 use Rattle.content_store.specs.Contents.{Content, without_content}
 use Rattle.content_store.specs.Plain.{ContentStoreState}
-use Rattle.content_store.specs.declared.blob_row.BlobRow.{BlobRow}
-use Rattle.content_store.specs.BlobRows.{BlobRowsState, has_digest, is_blob}
 
 -- the rows, in the order in which they were placed, how many were ever placed, and the store of their contents
 pub record BlobsState : Type 0 where
@@ -27,16 +26,6 @@ held_without None held = held
 held_without (Some row) held = without_content row.digest held
 
 -- ---- what ties the rows to the store
-
--- a digest with the size, the number and the extent of its content
-pub record Stored : Type 0 where
-  pub digest : List ℕ
-  pub size : ℕ
-  pub number : ℕ
-  pub extent : Extent
-
-abbrev pub stored_row : BlobRow → Stored
-stored_row row = record { digest = row.digest; size = row.size; number = row.no; extent = row.extent }
 
 abbrev pub stored_content : Content → Stored
 stored_content content = record { digest = content.digest; size = content.size; number = content.number; extent = content.extent }

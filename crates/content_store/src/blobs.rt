@@ -2,9 +2,9 @@ ghost use Rattle.std.specs.Prelude.{◌≡◌, ◌+◌, ◌<◌, ◌≤◌, ◌^
 ghost use Rattle.std.specs.List.{filter, All};
 ghost use Rattle.std.specs.Option.{option_map, option_copied};
 ghost use Rattle.sha2.specs.Sha256.{sha256};
+ghost use Rattle.blob_rows.specs.BlobRows.{blob_of, blob_numbered, is_other, longer_kept, put, put_result};
 ghost use Rattle.content_store.specs.Contents.{bytes_of, is_held_with_size};
 ghost use Rattle.content_store.specs.Plain.{hold_result, held_after_hold, fill_result, held_after_fill};
-ghost use Rattle.content_store.specs.BlobRows.{blob_of, blob_numbered, is_other, longer_kept, put, put_result};
 ghost use Rattle.content_store.specs.StoredRows.{AreStored, held_without, rows_in};
 
 use crate::{BlobRow, ContentStore, Digest, Filled, Held, row_changing, row_places};

@@ -2,8 +2,9 @@ ghost use Rattle.std.specs.Prelude.{◌≡◌, [], map, length, IfOk, IfSome, Is
 ghost use Rattle.std.specs.List.Sorted.{IsStrictlySortedBy};
 ghost use Rattle.std.specs.Option.{option_map};
 ghost use Rattle.sha2.specs.Sha256.{sha256};
-ghost use Rattle.region.specs.Extents.{AreApart};
-ghost use Rattle.content_store.specs.Contents.{extent_of, digest_cmp, number_of, is_held, is_held_with_size, bytes_of, without_content};
+ghost use Rattle.blob_rows.specs.Extents.{AreApart};
+ghost use Rattle.blob_rows.specs.Digests.{digest_cmp};
+ghost use Rattle.content_store.specs.Contents.{extent_of, number_of, is_held, is_held_with_size, bytes_of, without_content};
 ghost use Rattle.content_store.specs.Plain.{hold_result, held_after_hold, fill_result, held_after_fill};
 
 use crate::slot::Slot;

@@ -5,7 +5,8 @@ ghost use Rattle.std.specs.List.{HoldsAt};
 ghost use Rattle.std.specs.List.Sorted.{IsStrictlySortedBy};
 ghost use Rattle.std.specs.Option.{option_map};
 ghost use Rattle.sha2.specs.Sha256.{sha256};
-ghost use Rattle.content_store.specs.Contents.{digest_cmp, is_held_with_size, filled_with, bytes_of};
+ghost use Rattle.blob_rows.specs.Digests.{digest_cmp};
+ghost use Rattle.content_store.specs.Contents.{is_held_with_size, filled_with, bytes_of};
 ghost use Rattle.content_store.specs.Plain.{fill_result, held_after_fill};
 ghost use Rattle.content_store.specs.Slots.{digest_of, content_in, filled_slot, IsAt, AreLaidOut, IsThere, AreThere, IsWritten};
 

@@ -2,10 +2,12 @@
 ghost use Rattle.std.specs.Prelude.{◌≡◌, ℕ, ◌≤◌, ◌<◌, List, map, length};
 ghost use Rattle.std.specs.List.{remove, Contains};
 ghost use Rattle.std.specs.List.Sorted.{IsStrictlySortedBy};
-ghost use Rattle.region.specs.declared.extent.Extent.{Extent};
-ghost use Rattle.region.specs.Extents.{without_extent};
+ghost use Rattle.blob_rows.specs.declared.extent.Extent.{Extent};
+ghost use Rattle.blob_rows.specs.Extents.{without_extent};
+ghost use Rattle.blob_rows.specs.Digests.{digest_cmp};
+ghost use Rattle.blob_rows.specs.BlobRows.{units_of};
 ghost use Rattle.region.specs.FreeUnits.{IsFreeBeside, AreInUse, least_extent, with_placed};
-ghost use Rattle.content_store.specs.Contents.{digest_cmp, units_of, number_of, is_held, without_content};
+ghost use Rattle.content_store.specs.Contents.{number_of, is_held, without_content};
 ghost use Rattle.content_store.specs.Plain.{hold_result, held_after_hold};
 ghost use Rattle.content_store.specs.Slots.{digest_of, extent_of_slot, content_in, state_in, BelongsAt, AreLaidOut, AreThere};
 

@@ -10,20 +10,18 @@
 //! [`Blobs`] keeps a row for each blob, in the order in which they were placed, and a store that
 //! holds exactly the digests of the rows, each with the size and at the extent of its row
 //! (`AreStored` of `specs/StoredRows.antt`). What a call does to the rows is said of the rows alone
-//! (`specs/BlobRows.antt`): a machine over them needs to know nothing of the store. A row is found by
-//! its number with a bisection of the rows, and by its digest over the number that the store keeps.
+//! (`specs/BlobRows.antt` of `blob_rows`): a machine over them needs to know nothing of the store. A
+//! row is found by its number with a bisection of the rows, and by its digest over the number that the
+//! store keeps.
 //!
 //! `new` takes all the memory; no other call takes any, and the memory of what units hold is written
-//! to no further than some content has reached. The crate stands on `placed_list`, `region` and the
-//! kit's `sha2`.
+//! to no further than some content has reached. The crate stands on `placed_list`, `region`,
+//! `blob_rows` and the kit's `sha2`.
 #![tactic(auto)]
 
-mod blob_row;
 mod blobs;
 mod content_store;
-mod filled;
 mod filling;
-mod held;
 mod holding;
 mod row_changing;
 mod row_places;
@@ -31,11 +29,6 @@ mod searching;
 mod slot;
 mod writing;
 
-pub use blob_row::BlobRow;
+pub use blob_rows::{BlobRow, Digest, Filled, Held};
 pub use blobs::Blobs;
 pub use content_store::ContentStore;
-pub use filled::Filled;
-pub use held::Held;
-
-/// The SHA-256 of a content.
-pub type Digest = [u8; 32];

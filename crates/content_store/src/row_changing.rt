@@ -2,11 +2,11 @@
 ghost use Rattle.std.specs.Prelude.{◌≡◌, ℕ, ◌+◌, ◌<◌, ◌≤◌, ◌^◌, ◌++◌, ◌∷◌, [], false, map, length, None, slice_index_or, slice_set};
 ghost use Rattle.std.specs.List.{filter, remove, All};
 ghost use Rattle.std.specs.VecDeque.{deque_len, deque_capacity};
+ghost use Rattle.blob_rows.specs.BlobRows.{blob_of, blob_numbered, is_other, renewed, longer_kept, put};
+ghost use Rattle.blob_rows.specs.declared.blob_row.BlobRow.{BlobRow};
 ghost use Rattle.content_store.specs.Contents.{is_held};
 ghost use Rattle.content_store.specs.Plain.{hold_result, held_after_hold};
-ghost use Rattle.content_store.specs.BlobRows.{blob_of, blob_numbered, is_other, renewed, longer_kept, put};
 ghost use Rattle.content_store.specs.RowOrder.{NumbersRise};
-ghost use Rattle.content_store.specs.declared.blob_row.BlobRow.{BlobRow};
 ghost use Rattle.content_store.specs.StoredRows.{AreStored, held_without, rows_beside};
 
 use crate::row_places::{place_of_digest, place_of_number};

@@ -1,7 +1,7 @@
 //! Where rows stand, which are in the order of their numbers.
 ghost use Rattle.std.specs.Prelude.{◌≡◌, ℕ, position, slice_get};
 ghost use Rattle.std.specs.Option.{option_copied};
-ghost use Rattle.content_store.specs.BlobRows.{has_digest, is_blob, blob_of, blob_numbered};
+ghost use Rattle.blob_rows.specs.BlobRows.{has_digest, is_blob, blob_of, blob_numbered};
 ghost use Rattle.content_store.specs.RowOrder.{NumbersRise};
 ghost use Rattle.content_store.specs.StoredRows.{AreStored};
 

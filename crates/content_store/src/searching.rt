@@ -2,7 +2,7 @@
 ghost use Rattle.std.specs.Prelude.{◌≡◌, ◌≤◌, ◌<◌, map, length};
 ghost use Rattle.std.specs.Result.{MatchResult};
 ghost use Rattle.std.specs.List.Sorted.{IsStrictlySortedBy};
-ghost use Rattle.content_store.specs.Contents.{digest_cmp};
+ghost use Rattle.blob_rows.specs.Digests.{digest_cmp};
 ghost use Rattle.content_store.specs.Slots.{digest_of, IsAt, BelongsAt};
 
 use crate::Digest;

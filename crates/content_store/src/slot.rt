@@ -1,5 +1,5 @@
 ghost use Rattle.std.specs.Prelude.{◌≡◌};
-ghost use Rattle.content_store.specs.Contents.{units_of};
+ghost use Rattle.blob_rows.specs.BlobRows.{units_of};
 
 use crate::Digest;
 

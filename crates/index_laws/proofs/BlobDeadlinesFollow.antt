@@ -3,9 +3,9 @@ use Rattle.std.proofs.Common.{◌≡◌, ◌≢◌, ◌↔◌, ℕ, ◌+◌, ◌
 use Rattle.std.specs.List.{count_by, filter}
 use Rattle.std.specs.Option.{option_map, option_map_or, option_and_then}
 use Rattle.std.proofs.lemmas.Bool.{cases_Bool, eq-eqb, cond-false}
-use Rattle.content_store.proofs.Texts.{same_text}
-use Rattle.content_store.specs.declared.blob_row.BlobRow.{BlobRow}
-use Rattle.content_store.specs.BlobRows.{BlobRowsState, has_digest, is_blob, is_other, blob_of, renewed, renewed_until, longer_kept, place_for, new_blob, put}
+use Rattle.blob_rows.proofs.Texts.{same_text}
+use Rattle.blob_rows.specs.declared.blob_row.BlobRow.{BlobRow}
+use Rattle.blob_rows.specs.BlobRows.{BlobRowsState, has_digest, is_blob, is_other, blob_of, renewed, renewed_until, longer_kept, place_for, new_blob, put}
 use Rattle.swarm_model.specs.declared.attempt.Chunk.{Chunk}
 use Rattle.swarm_model.specs.declared.deadline.Deadline.{Deadline}
 use Rattle.swarm_model.specs.declared.pool_state.PoolState.{PoolState}

@@ -4,8 +4,8 @@ use Rattle.std.specs.Option.{option_and_then, option_map_or}
 use Rattle.std.specs.Prelude.{is_none}
 use Rattle.sha2.specs.Sha256.{sha256}
 use Rattle.dimensions.specs.Choosing.{when}
-use Rattle.content_store.specs.declared.held.Held.{Held}
-use Rattle.content_store.specs.BlobRows.{BlobRowsState, put_result}
+use Rattle.blob_rows.specs.declared.held.Held.{Held}
+use Rattle.blob_rows.specs.BlobRows.{BlobRowsState, put_result}
 use Rattle.content_store.specs.StoredRows.{rows_in}
 use Rattle.swarm_model.specs.declared.attempt.Attempt.{Attempt}
 use Rattle.swarm_model.specs.declared.attempt.Chunk.{Chunk}

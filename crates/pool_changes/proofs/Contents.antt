@@ -6,7 +6,8 @@ use Rattle.std.specs.Option.{option_map, option_map_or, option_and_then}
 use Rattle.std.specs.Ordering.{is_lt}
 use Rattle.std.specs.Cmp.Lexicographic.{bytes_decides}
 use Rattle.dimensions.proofs.Counting.{count-pass, count-skip}
-use Rattle.content_store.specs.Contents.{Content, same_digest, digest_cmp, is_named, content_of, bytes_of, with_content, without_content, filled_with}
+use Rattle.blob_rows.specs.Digests.{same_digest, digest_cmp}
+use Rattle.content_store.specs.Contents.{Content, is_named, content_of, bytes_of, with_content, without_content, filled_with}
 use Rattle.swarm_model.specs.Bytes.{with_bytes, without_bytes}
 
 -- ---- what is found among items

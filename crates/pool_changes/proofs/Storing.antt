@@ -7,20 +7,21 @@ use Rattle.std.proofs.lemmas.Bool.{leb-false}
 use Rattle.dimensions.proofs.Counting.{count-map, list_any-map}
 use Rattle.dimensions.specs.Choosing.{when}
 use Rattle.sha2.specs.Sha256.{sha256}
-use Rattle.region.specs.declared.extent.Extent.{Extent}
-use Rattle.region.specs.Extents.{extent_at}
-use Rattle.region.proofs.SameItems.{list_any-same}
-use Rattle.content_store.specs.declared.held.Held.{Held}
-use Rattle.content_store.specs.declared.held.Held.TheVariants.{Placed, Present, NoNames, NoRoom}
-use Rattle.content_store.specs.declared.filled.Filled.{Filled}
-use Rattle.content_store.specs.declared.filled.Filled.TheVariants.{Done, Differs, Unknown}
-use Rattle.content_store.specs.Contents.{Content, units_of, same_digest, is_named, is_held_with_size, content_of, bytes_of, with_content, unfilled_content, filled_with}
+use Rattle.blob_rows.specs.declared.extent.Extent.{Extent}
+use Rattle.blob_rows.specs.Extents.{extent_at}
+use Rattle.blob_rows.proofs.SameItems.{list_any-same}
+use Rattle.blob_rows.specs.declared.held.Held.{Held}
+use Rattle.blob_rows.specs.declared.held.Held.TheVariants.{Placed, Present, NoNames, NoRoom}
+use Rattle.blob_rows.specs.declared.filled.Filled.{Filled}
+use Rattle.blob_rows.specs.declared.filled.Filled.TheVariants.{Done, Differs, Unknown}
+use Rattle.blob_rows.specs.BlobRows.{units_of, BlobRowsState, has_digest, blob_of, blob_numbered, place_for, put_result, Stored, stored_row}
+use Rattle.blob_rows.specs.Digests.{same_digest}
+use Rattle.blob_rows.proofs.Texts.{same_text}
+use Rattle.blob_rows.specs.declared.blob_row.BlobRow.{BlobRow}
+use Rattle.content_store.specs.Contents.{Content, is_named, is_held_with_size, content_of, bytes_of, with_content, unfilled_content, filled_with}
 use Rattle.content_store.specs.Plain.{ContentStoreState, hold_result, held_after_hold, fill_result, held_after_fill}
-use Rattle.content_store.proofs.Texts.{same_text}
 use Rattle.content_store.proofs.Telling.{told_done}
-use Rattle.content_store.specs.declared.blob_row.BlobRow.{BlobRow}
-use Rattle.content_store.specs.BlobRows.{BlobRowsState, has_digest, blob_of, blob_numbered, place_for, put_result}
-use Rattle.content_store.specs.StoredRows.{BlobsState, Stored, stored_row, stored_content, AreStored, rows_beside, rows_in, held_without}
+use Rattle.content_store.specs.StoredRows.{BlobsState, stored_content, AreStored, rows_beside, rows_in, held_without}
 use Rattle.content_store.proofs.Tied.{held_is}
 use Rattle.content_store.proofs.Puts.{hold_result-is}
 use Rattle.swarm_model.specs.Blobs.{is_taken}

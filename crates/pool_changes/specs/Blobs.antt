@@ -3,10 +3,10 @@ use Rattle.std.specs.Prelude.{◌≡◌, ℕ, Bool, true, false, ◌+◌, ◌<�
 use Rattle.std.specs.List.{All, filter}
 use Rattle.std.specs.Option.{option_map}
 use Rattle.sha2.specs.Sha256.{sha256}
+use Rattle.blob_rows.specs.declared.blob_row.BlobRow.{BlobRow}
+use Rattle.blob_rows.specs.BlobRows.{BlobRowsState, blob_of, blob_numbered, is_other, longer_kept, put, put_result}
 use Rattle.content_store.specs.Contents.{bytes_of}
 use Rattle.content_store.specs.Plain.{fill_result, held_after_fill}
-use Rattle.content_store.specs.declared.blob_row.BlobRow.{BlobRow}
-use Rattle.content_store.specs.BlobRows.{BlobRowsState, blob_of, blob_numbered, is_other, longer_kept, put, put_result}
 use Rattle.content_store.specs.StoredRows.{BlobsState, rows_in}
 use Rattle.dimensions.specs.Choosing.{when}
 use Rattle.swarm_model.specs.declared.attempt.Chunk.{Chunk}

@@ -3,7 +3,7 @@ ghost use Rattle.std.specs.Prelude.{◌≡◌, ◌+◌, ◌<◌, ◌≤◌, ◌^
 ghost use Rattle.std.specs.Option.{option_map};
 ghost use Rattle.sha2.specs.Sha256.{sha256};
 ghost use Rattle.dimensions.specs.Choosing.{when};
-ghost use Rattle.content_store.specs.BlobRows.{blob_of, put, put_result};
+ghost use Rattle.blob_rows.specs.BlobRows.{blob_of, put, put_result};
 ghost use Rattle.content_store.specs.StoredRows.{rows_in};
 ghost use Rattle.swarm_model.specs.Blobs.{is_taken};
 ghost use Rattle.swarm_model.specs.Bytes.{with_new};

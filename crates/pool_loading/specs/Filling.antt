@@ -1,6 +1,6 @@
 -- How the blobs of a machine get their bytes.
 use Rattle.std.specs.Prelude.{◌≡◌, ◌<◌, ℕ, List, Option, Some, IfSome, IsTrue, is_some, slice_get}
-use Rattle.content_store.specs.declared.blob_row.BlobRow.{BlobRow}
+use Rattle.blob_rows.specs.declared.blob_row.BlobRow.{BlobRow}
 use Rattle.swarm_keeper.specs.Tables.{Tables, bytes_of}
 use Rattle.swarm_model.specs.declared.pool_state.PoolState.{PoolState}
 use Rattle.swarm_model.specs.Bytes.{HeldBytes, with_bytes}

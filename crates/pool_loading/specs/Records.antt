@@ -1,7 +1,7 @@
 -- Kept records, and the machine that they are loaded into.
 use Rattle.std.specs.Prelude.{◌≡◌, ◌⊎◌, ℕ, List, [], ◌∷◌, ◌++◌, length, map, take, slice_get, Option, Some, IfSome, IsSomeAnd, IsTrue, is_some}
-use Rattle.content_store.specs.declared.filled.Filled.TheVariants.{Done}
-use Rattle.content_store.specs.declared.blob_row.BlobRow.{BlobRow}
+use Rattle.blob_rows.specs.declared.filled.Filled.TheVariants.{Done}
+use Rattle.blob_rows.specs.declared.blob_row.BlobRow.{BlobRow}
 use Rattle.swarm_keeper.specs.Tables.{Tables, bytes_of}
 use Rattle.swarm_model.specs.declared.pool_settings.PoolSettings.{PoolSettings}
 use Rattle.swarm_model.specs.declared.pool_state.PoolState.{PoolState}

@@ -1,6 +1,6 @@
 //! The bytes of the blobs that a log leaves.
 ghost use Rattle.std.specs.Prelude.{◌≡◌, ◌≢◌, ◌≤◌, ◌+◌, ℕ, [], true, false, Ok, None, IfOk, OnOk, IfErr, IfSome, IsSomeAnd, IsErrOf, Decides, length, option_map, slice_get};
-ghost use Rattle.content_store.specs.declared.filled.Filled.TheVariants.{Done};
+ghost use Rattle.blob_rows.specs.declared.filled.Filled.TheVariants.{Done};
 ghost use Rattle.sw_base.specs.Faults.{Rose};
 ghost use Rattle.swarm_keeper.specs.Tables.{bytes_of};
 ghost use Rattle.swarm_model.specs.Bytes.{filled, with_bytes};
@@ -9,7 +9,7 @@ ghost use Rattle.pool_loading.specs.Records.{HasBytes};
 ghost use Rattle.pool_loading.specs.Filling.{KeepsLog, HoldsKept, HoldsMore, IsFilledTo, LacksBlob};
 
 use crate::loading::LoadStop;
-use content_store::Filled;
+use blob_rows::Filled;
 use dimensions::Seq;
 use swarm_keeper::{Keeper, KeeperFault};
 use swarm_model::Machine;

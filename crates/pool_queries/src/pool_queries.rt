@@ -11,7 +11,7 @@ ghost use Rattle.swarm_model.specs.Deadlines.{next_deadline};
 ghost use Rattle.swarm_model.specs.Soundness.{IsSound};
 ghost use Rattle.swarm_model.specs.Uses.{is_used};
 
-use content_store::Held;
+use blob_rows::Held;
 use dimensions::{BotDims, DimSet, Text};
 use std::alloc::{AllocError, Global};
 use std::sync::ledger::Ledger;

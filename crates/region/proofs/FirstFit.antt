@@ -2,12 +2,12 @@
 use Rattle.std.proofs.Common.{◌≡◌, ℕ, ◌+◌, ◌<◌, ◌≤◌, false, not, List, length, Option, Some, None, sym, ap, ◌∙◌, arith, inl, inr}
 use Rattle.std.specs.Option.{option_map}
 use Rattle.std.proofs.lemmas.Bool.{cases_Bool, not-false, not-true}
-use Rattle.region.specs.declared.extent.Extent.{Extent}
-use Rattle.region.specs.Places.{is_free, least_place}
-use Rattle.region.specs.Extents.{extent_at}
+use Rattle.blob_rows.specs.declared.extent.Extent.{Extent}
+use Rattle.blob_rows.specs.Places.{is_free, least_place}
+use Rattle.blob_rows.specs.Extents.{extent_at}
+use Rattle.blob_rows.proofs.LeastPlaces.{IsLeastFrom, only_one, least_place-least}
 use Rattle.region.specs.FreeUnits.{is_within, IsFreeBeside, least_extent}
 use Rattle.region.specs.HoleSizes.{size_at, is_in_hole, region_of, AreHoles, IsFirstWith}
-use Rattle.region.proofs.LeastPlaces.{IsLeastFrom, only_one, least_place-least}
 use Rattle.region.proofs.Runs.{each_from, run_blocked, run_free}
 use Rattle.region.proofs.HoleUnits.{InHole, in_hole, hole_of, none_behind, free_unit}
 

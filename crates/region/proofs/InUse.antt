@@ -6,13 +6,13 @@ use Rattle.std.proofs.lemmas.Bool.Decides.{nat_tests}
 use Rattle.std.proofs.lemmas.List.Elements.{All-append, All-cons, All-take, All-drop, All-filter}
 use Rattle.std.proofs.lemmas.List.{get_or_default}
 use Rattle.std.proofs.lemmas.List.Folds.{list_any_at}
-use Rattle.region.specs.declared.extent.Extent.{Extent}
-use Rattle.region.specs.Places.{overlaps}
-use Rattle.region.specs.Extents.{is_same_extent, without_extent, AreApart}
+use Rattle.blob_rows.specs.declared.extent.Extent.{Extent}
+use Rattle.blob_rows.specs.Places.{overlaps}
+use Rattle.blob_rows.specs.Extents.{is_same_extent, without_extent, AreApart}
+use Rattle.blob_rows.proofs.SameItems.{list_any-same, insert-same}
 use Rattle.region.specs.Plain.{RegionState, is_free_unit}
 use Rattle.region.specs.FreeUnits.{is_within, IsFreeBeside, AreInUse}
 use Rattle.region.proofs.Runs.{unit_inside}
-use Rattle.region.proofs.SameItems.{list_any-same, insert-same}
 use Rattle.region.proofs.Overlaps.{clear_of}
 
 -- ---- an extent more

@@ -1,8 +1,8 @@
 -- The units of an extent become free, in one hole with those that it touches.
 use Rattle.std.proofs.Common.{◌≡◌, ◌≢◌, ℕ, ◌+◌, ◌<◌, ◌≤◌, true, ◌||◌, List, length, ap, ◌∙◌, subst, arith, inl, inr, ◌⊎◌}
 use Rattle.std.proofs.lemmas.Bool.{cases_lt, cases_eq, both_ways, or_cases, or_left, or_right}
-use Rattle.region.specs.declared.extent.Extent.{Extent}
-use Rattle.region.specs.Places.{overlaps}
+use Rattle.blob_rows.specs.declared.extent.Extent.{Extent}
+use Rattle.blob_rows.specs.Places.{overlaps}
 use Rattle.region.specs.HoleSizes.{size_at, is_in_hole, AreHoles, IsOutside, BeginsJoined, IsJoined}
 use Rattle.region.proofs.Runs.{has_unit, unit_inside}
 use Rattle.region.proofs.HoleUnits.{InHole, in_hole, hole_of, same_test, no_start}

@@ -1,5 +1,3 @@
-pub mod SameItems
-pub mod LeastPlaces
 pub mod Overlaps
 pub mod Runs
 pub mod InUse

@@ -4,9 +4,9 @@ use Rattle.std.specs.List.{list_any, insert}
 use Rattle.std.proofs.lemmas.Bool.{cases_lt}
 use Rattle.std.proofs.lemmas.Bool.Decides.{nat_tests}
 use Rattle.std.proofs.lemmas.List.Edits.{length-insert, get_or-insert_at, get_or-insert_below, get_or-insert_above}
-use Rattle.region.specs.declared.extent.Extent.{Extent}
-use Rattle.region.specs.Places.{overlaps, is_free}
-use Rattle.region.specs.Extents.{AreApart}
+use Rattle.blob_rows.specs.declared.extent.Extent.{Extent}
+use Rattle.blob_rows.specs.Places.{overlaps, is_free}
+use Rattle.blob_rows.specs.Extents.{AreApart}
 
 and_turned : (a b : Bool) → a && b ≡ b && a
 and_turned true true = refl

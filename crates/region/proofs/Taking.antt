@@ -1,8 +1,8 @@
 -- The first units of a hole come into use.
 use Rattle.std.proofs.Common.{◌≡◌, ℕ, ◌+◌, ◌-◌, ◌<◌, ◌≤◌, true, false, not, ◌&&◌, List, ap, ◌∙◌, subst, arith, inl, inr}
 use Rattle.std.proofs.lemmas.Bool.{cases_lt, cases_eq, and_from, and_parts, not-true}
-use Rattle.region.specs.declared.extent.Extent.{Extent}
-use Rattle.region.specs.Places.{overlaps}
+use Rattle.blob_rows.specs.declared.extent.Extent.{Extent}
+use Rattle.blob_rows.specs.Places.{overlaps}
 use Rattle.region.specs.HoleSizes.{size_at, is_in_hole, AreHoles, IsTaken}
 use Rattle.region.proofs.Runs.{unit_before, unit_behind, unit_outside}
 use Rattle.region.proofs.HoleUnits.{InHole, in_hole, hole_of, same_test, no_start}

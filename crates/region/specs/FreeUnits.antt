@@ -2,9 +2,9 @@
 use Rattle.std.specs.Prelude.{◌≡◌, ℕ, Bool, ◌+◌, ◌≤◌, ◌<◌, not, List, Option, Some, None}
 use Rattle.std.specs.List.{list_any, insert, All}
 use Rattle.std.specs.Option.{option_map}
-use Rattle.region.specs.declared.extent.Extent.{Extent}
-use Rattle.region.specs.Places.{overlaps, least_place}
-use Rattle.region.specs.Extents.{extent_at, AreApart}
+use Rattle.blob_rows.specs.declared.extent.Extent.{Extent}
+use Rattle.blob_rows.specs.Places.{overlaps, least_place}
+use Rattle.blob_rows.specs.Extents.{extent_at, AreApart}
 use Rattle.region.specs.Plain.{RegionState, is_free_unit}
 
 -- the unit is in one of the extents

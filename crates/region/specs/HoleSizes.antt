@@ -1,8 +1,8 @@
 -- For each unit the size of the hole that starts there, or 0.
 use Rattle.std.specs.Prelude.{◌≡◌, ◌≢◌, ℕ, zero, suc, Bool, true, false, ◌+◌, ◌-◌, ◌≤◌, ◌<◌, ◌||◌, nat_lt, List, length, map, slice_index_or, ◌⊎◌}
 use Rattle.std.specs.List.{range_with_len}
-use Rattle.region.specs.declared.extent.Extent.{Extent}
-use Rattle.region.specs.Places.{overlaps}
+use Rattle.blob_rows.specs.declared.extent.Extent.{Extent}
+use Rattle.blob_rows.specs.Places.{overlaps}
 use Rattle.region.specs.Plain.{RegionState}
 
 abbrev pub size_at : List ℕ → ℕ → ℕ

@@ -1,6 +1,3 @@
-pub mod Places
-pub mod Extents
-pub mod SameItems
 pub mod Plain
 pub mod FreeUnits
 pub mod HoleSizes

@@ -1,6 +1,6 @@
 //! Units come into use and go out of it, over the sizes of the holes.
 ghost use Rattle.std.specs.Prelude.{◌≡◌, ℕ, ◌+◌, ◌≤◌, ◌<◌, ◌^◌, ◌&&◌, ◌||◌, false, true, not, length};
-ghost use Rattle.region.specs.Places.{overlaps};
+ghost use Rattle.blob_rows.specs.Places.{overlaps};
 ghost use Rattle.region.specs.HoleSizes.{size_at, is_in_hole, AreHoles, IsOutside, IsTaken, IsJoined, BeginsJoined};
 
 use crate::Extent;

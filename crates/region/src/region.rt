@@ -1,7 +1,7 @@
 ghost use Rattle.std.specs.Prelude.{◌≡◌, ℕ, ◌≤◌, List, [], IfOk};
 ghost use Rattle.std.specs.List.{Contains};
-ghost use Rattle.region.specs.declared.extent.Extent.{Extent};
-ghost use Rattle.region.specs.Extents.{without_extent};
+ghost use Rattle.blob_rows.specs.declared.extent.Extent.{Extent};
+ghost use Rattle.blob_rows.specs.Extents.{without_extent};
 ghost use Rattle.region.specs.FreeUnits.{IsFreeBeside, AreInUse, least_extent, with_placed};
 
 use crate::hole_sizes::HoleSizes;

@@ -7,8 +7,8 @@ use Rattle.std.proofs.lemmas.List.Sums.{fold-append}
 use Rattle.std.proofs.lemmas.List.Elements.{All-push, All-filter, All-weaker}
 use Rattle.dimensions.specs.Alike.{same}
 use Rattle.dimensions.specs.Choosing.{when}
-use Rattle.content_store.specs.declared.blob_row.BlobRow.{BlobRow}
-use Rattle.content_store.specs.BlobRows.{has_digest, is_blob, is_other as is_other_row, renewed, new_blob, place_for}
+use Rattle.blob_rows.specs.declared.blob_row.BlobRow.{BlobRow}
+use Rattle.blob_rows.specs.BlobRows.{has_digest, is_blob, is_other as is_other_row, renewed, new_blob, place_for}
 use Rattle.swarm_keeper.specs.Tables.{Tables, is_other, without, with_blob, appended}
 use Rattle.swarm_laws.proofs.Alike.{same_is, is_same, same_self}
 use Rattle.swarm_laws.proofs.BlobChanges.{after_place, after_put, has_place, update_takes}

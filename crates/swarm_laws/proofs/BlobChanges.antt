@@ -4,12 +4,11 @@ use Rattle.std.specs.Prelude.{nat_le}
 use Rattle.std.specs.Option.{option_map_or, option_and_then}
 use Rattle.std.proofs.lemmas.Bool.{leb-true, leb-false}
 use Rattle.dimensions.specs.Choosing.{when}
-use Rattle.region.specs.Extents.{extent_at}
-use Rattle.content_store.specs.declared.held.Held.{Held}
-use Rattle.content_store.specs.declared.held.Held.TheVariants.{Placed, Present, NoNames, NoRoom}
-use Rattle.content_store.specs.Contents.{units_of}
-use Rattle.content_store.specs.declared.blob_row.BlobRow.{BlobRow}
-use Rattle.content_store.specs.BlobRows.{BlobRowsState, renewed_until, longer_kept, is_other, new_blob, place_for}
+use Rattle.blob_rows.specs.Extents.{extent_at}
+use Rattle.blob_rows.specs.declared.held.Held.{Held}
+use Rattle.blob_rows.specs.declared.held.Held.TheVariants.{Placed, Present, NoNames, NoRoom}
+use Rattle.blob_rows.specs.BlobRows.{units_of, BlobRowsState, renewed_until, longer_kept, is_other, new_blob, place_for}
+use Rattle.blob_rows.specs.declared.blob_row.BlobRow.{BlobRow}
 use Rattle.swarm_model.specs.declared.attempt.Chunk.{Chunk}
 use Rattle.swarm_model.specs.declared.attempt.Attempt.{Attempt}
 use Rattle.swarm_model.specs.declared.attempt.Last.{Last}

@@ -9,16 +9,14 @@ use Rattle.std.proofs.lemmas.List.Kept.{AllPairs-cons}
 use Rattle.std.proofs.lemmas.List.Quantifiers.{all_pairs_push}
 use Rattle.std.proofs.lemmas.List.Folds.{list_any_none}
 use Rattle.dimensions.proofs.Counting.{count-none}
-use Rattle.region.specs.declared.extent.Extent.{Extent}
-use Rattle.region.specs.Places.{overlaps, is_free}
-use Rattle.region.specs.Extents.{AreApart}
-use Rattle.region.proofs.LeastPlaces.{IsLeastFrom, least_place-least}
-use Rattle.content_store.specs.Contents.{Content, unfilled_content, units_of, is_held}
-use Rattle.content_store.specs.declared.blob_row.BlobRow.{BlobRow}
-use Rattle.content_store.specs.BlobRows.{BlobRowsState, has_digest, is_blob, blob_of, extent_of_row, place_for}
-use Rattle.content_store.specs.StoredRows.{Stored, stored_row, stored_content, AreStored}
-use Rattle.content_store.proofs.Counts.{count_filtered}
-use Rattle.content_store.proofs.Tied.{held_is, added, changed}
+use Rattle.blob_rows.specs.declared.extent.Extent.{Extent}
+use Rattle.blob_rows.specs.Places.{overlaps, is_free}
+use Rattle.blob_rows.specs.Extents.{AreApart}
+use Rattle.blob_rows.proofs.LeastPlaces.{IsLeastFrom, least_place-least}
+use Rattle.blob_rows.specs.BlobRows.{units_of, BlobRowsState, has_digest, is_blob, blob_of, extent_of_row, place_for, Stored, stored_row}
+use Rattle.blob_rows.specs.declared.blob_row.BlobRow.{BlobRow}
+use Rattle.blob_rows.proofs.Counts.{count_filtered, is_some-find}
+use Rattle.blob_rows.proofs.Distinct.{digests-changed, numbers-changed, digests_more, numbers_more}
 use Rattle.swarm_laws.proofs.Lists.{Among, here, later, each, all, among_map}
 
 -- ---- no digest and no number twice
@@ -29,35 +27,19 @@ pub record AreDistinct (rows : List BlobRow) (placed : ℕ) : Type 0 where
   pub numbers : (number : ℕ) → count_by (is_blob number) rows ≤ 1
   pub below : All (λ row. row.no ≤ placed) rows
 
--- a row as a content whose bytes have not come
-abbrev own_content : BlobRow → Content
-own_content row = unfilled_content row.digest row.size row.no row.extent
-
-contents_stored : (rows : List BlobRow) → map stored_row rows ≡ map stored_content (map own_content rows)
-contents_stored [] = refl
-contents_stored (row ∷ rows) = ap (λ (l : List Stored). stored_row row ∷ l) (contents_stored rows)
-
 module _ (rows : List BlobRow) (placed : ℕ) (d : AreDistinct rows placed) where
-  -- the rows are tied to their own contents
-  own_stored : AreStored rows placed (map own_content rows)
-  own_stored =
-      record {
-        same = λ test. ap (count_by test) (contents_stored rows);
-        digests = d.digests;
-        numbers = d.numbers;
-        numbered =
-            count-none (λ (row : BlobRow). ltb placed row.no) rows
-            (list_any_none (λ (row : BlobRow). ltb placed row.no) rows
-            (all (λ (row : BlobRow). ltb placed row.no ≡ false) rows (λ row a. le-ltb placed row.no (each (λ (x : BlobRow). x.no ≤ placed) rows d.below row a))));
-      }
+  numbered : count_by (λ (row : BlobRow). ltb placed row.no) rows ≡ 0
+  numbered =
+      count-none (λ (row : BlobRow). ltb placed row.no) rows
+      (list_any_none (λ (row : BlobRow). ltb placed row.no) rows
+      (all (λ (row : BlobRow). ltb placed row.no ≡ false) rows (λ row a. le-ltb placed row.no (each (λ (x : BlobRow). x.no ≤ placed) rows d.below row a))))
 
   -- other deadlines leave them so
   pub distinct_changed : (change : BlobRow → BlobRow) → ((row : BlobRow) → stored_row (change row) ≡ stored_row row) → ((row : BlobRow) → (change row).no ≡ row.no) → AreDistinct (map change rows) placed
   distinct_changed change same same_no =
-      let stored = changed rows placed (map own_content rows) own_stored change same same_no in
       record {
-        digests = stored.digests;
-        numbers = stored.numbers;
+        digests = λ digest. omega (arith, digests-changed rows change same same_no digest, d.digests digest);
+        numbers = λ number. omega (arith, numbers-changed rows change same same_no number, d.numbers number);
         below = All-map (λ (row : BlobRow). row.no ≤ placed) change rows
             (all (λ (row : BlobRow). (change row).no ≤ placed) rows (λ row a. let low = each (λ (x : BlobRow). x.no ≤ placed) rows d.below row a in omega (arith, low, same_no row)));
       }
@@ -74,11 +56,10 @@ module _ (rows : List BlobRow) (placed : ℕ) (d : AreDistinct rows placed) wher
   -- and the next row, of a digest that is not there
   pub distinct_added : (row : BlobRow) → row.no ≡ placed + 1 → blob_of rows row.digest ≡ None → AreDistinct (rows ++ row ∷ []) (placed + 1)
   distinct_added row next absent =
-      let fresh : is_held (map own_content rows) row.digest ≡ false = held_is rows placed (map own_content rows) own_stored row.digest ∙ ap (λ (o : Option BlobRow). is_some o) absent in
-      let stored = added rows placed (map own_content rows) own_stored row (own_content row) refl next fresh in
+      let fresh : list_any (has_digest row.digest) rows ≡ false = sym (is_some-find (has_digest row.digest) rows) ∙ ap (λ (o : Option BlobRow). is_some o) absent in
       record {
-        digests = stored.digests;
-        numbers = stored.numbers;
+        digests = digests_more rows placed numbered row next fresh d.digests;
+        numbers = numbers_more rows placed numbered row next d.numbers;
         below = All-push (λ (x : BlobRow). x.no ≤ placed + 1) rows row
             (All-weaker (λ (x : BlobRow). x.no ≤ placed) (λ (x : BlobRow). x.no ≤ placed + 1) (λ x low. omega (arith, low)) rows d.below) (omega (arith, next));
       }

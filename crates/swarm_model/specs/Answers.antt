@@ -7,7 +7,7 @@ use Rattle.dimensions.specs.declared.bot_dims.BotDims.{BotDims}
 use Rattle.dimensions.specs.Alike.{same, same_dims}
 use Rattle.dimensions.specs.Choosing.{when, ◌or_else◌}
 use Rattle.dimensions.specs.Rules.{is_empty}
-use Rattle.content_store.specs.declared.blob_row.BlobRow.{BlobRow}
+use Rattle.blob_rows.specs.declared.blob_row.BlobRow.{BlobRow}
 use Rattle.task_props.specs.declared.file.File.{File}
 use Rattle.task_props.specs.declared.slice.Slice.{Slice}
 use Rattle.task_props.specs.declared.new_task.NewTask.{NewTask}

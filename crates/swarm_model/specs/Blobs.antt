@@ -1,9 +1,9 @@
 -- Which blobs a pool holds, and for which it has a place.
 use Rattle.std.specs.Prelude.{ℕ, Bool, true, false, not, List, Option, flat_map}
 use Rattle.std.specs.List.{find}
-use Rattle.content_store.specs.declared.held.Held.{Held}
-use Rattle.content_store.specs.declared.held.Held.TheVariants as held
-use Rattle.content_store.specs.BlobRows.{put_result}
+use Rattle.blob_rows.specs.declared.held.Held.{Held}
+use Rattle.blob_rows.specs.declared.held.Held.TheVariants as held
+use Rattle.blob_rows.specs.BlobRows.{put_result}
 use Rattle.task_props.specs.declared.file.File.{File}
 use Rattle.task_props.specs.declared.slice.Slice.{Slice}
 use Rattle.swarm_model.specs.declared.attempt.Chunk.{Chunk}

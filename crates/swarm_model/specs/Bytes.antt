@@ -2,8 +2,8 @@
 use Rattle.std.specs.Prelude.{◌≡◌, ℕ, ⊤, List, length, Option, Some, None, IfSome, is_none, option_map, if◌then◌else◌, false}
 use Rattle.std.specs.Option.{option_and_then}
 use Rattle.sha2.specs.Sha256.{sha256}
-use Rattle.content_store.specs.declared.filled.Filled.{Filled}
-use Rattle.content_store.specs.declared.filled.Filled.TheVariants.{Done, Differs, Unknown}
+use Rattle.blob_rows.specs.declared.filled.Filled.{Filled}
+use Rattle.blob_rows.specs.declared.filled.Filled.TheVariants.{Done, Differs, Unknown}
 use Rattle.dimensions.specs.Alike.{same}
 use Rattle.dimensions.specs.Choosing.{when}
 use Rattle.swarm_model.specs.declared.pool_state.PoolState.{PoolState}

@@ -4,8 +4,8 @@ use Rattle.std.specs.List.{filter}
 use Rattle.std.specs.Option.{option_map, option_map_or, option_and_then}
 use Rattle.dimensions.specs.declared.text.Text.{Text}
 use Rattle.dimensions.specs.declared.bot_dims.BotDims.{BotDims}
-use Rattle.content_store.specs.BlobRows.{BlobRowsState, longer_kept, is_other}
-use Rattle.content_store.specs.BlobRows as rows
+use Rattle.blob_rows.specs.BlobRows.{BlobRowsState, longer_kept, is_other}
+use Rattle.blob_rows.specs.BlobRows as rows
 use Rattle.task_props.specs.declared.new_task.NewTask.{NewTask}
 use Rattle.swarm_model.specs.declared.task_state.TaskState.{TaskState}
 use Rattle.swarm_model.specs.declared.task_state.TaskState.TheVariants.{Pending, Running, TimedOut, BotDied, Canceled, Completed, Killed}

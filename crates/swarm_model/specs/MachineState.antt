@@ -1,7 +1,7 @@
 -- What a machine keeps.
 use Rattle.std.specs.Prelude.{◌≡◌, ◌⊎◌, ℕ, ⊤, IsTrue, List, Option, Some, None, IfSome, is_some}
 use Rattle.std.specs.List.{All}
-use Rattle.content_store.specs.declared.filled.Filled.{Filled}
+use Rattle.blob_rows.specs.declared.filled.Filled.{Filled}
 use Rattle.swarm_model.specs.declared.pool_state.PoolState.{PoolState}
 use Rattle.swarm_model.specs.declared.entry.Entry.{Entry}
 use Rattle.swarm_model.specs.declared.entry.EntryKind.TheVariants as kind

@@ -2,10 +2,9 @@
 use Rattle.std.specs.Prelude.{◌≡◌, ◌↔◌, ℕ, Bool, ◌+◌, ◌^◌, ◌≤◌, ◌<◌, ◌&&◌, IsTrue, List, length, map, Option, Some, None, IfSome, is_some, is_none, if◌then◌else◌}
 use Rattle.std.specs.List.{All, count_by}
 use Rattle.std.specs.Option.{option_map, option_and_then}
-use Rattle.region.specs.Extents.{AreApart}
-use Rattle.content_store.specs.Contents.{units_of}
-use Rattle.content_store.specs.declared.blob_row.BlobRow.{BlobRow}
-use Rattle.content_store.specs.BlobRows.{has_digest, is_blob, extent_of_row}
+use Rattle.blob_rows.specs.Extents.{AreApart}
+use Rattle.blob_rows.specs.BlobRows.{units_of, has_digest, is_blob, extent_of_row}
+use Rattle.blob_rows.specs.declared.blob_row.BlobRow.{BlobRow}
 use Rattle.dimensions.specs.Rules.{is_empty}
 use Rattle.task_props.specs.Checked.{is_checked}
 use Rattle.swarm_model.specs.declared.pool_settings.PoolSettings.{PoolSettings}

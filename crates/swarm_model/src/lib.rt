@@ -4,9 +4,9 @@
 //! answered (`Answers`), what an entry of the log weighs and asks for (`Entries`), what it does to
 //! the rows (`Effects`), which logs are legal and what one call does at its point of a shared log
 //! (`History`). [`Machine`] is what keeps such a log; its contract is these definitions alone.
-//! The rows of blobs are those of `content_store`, which [`BlobRow`] is passed on from; [`allowed`]
+//! The rows of blobs are those of `blob_rows`, which [`BlobRow`] is passed on from; [`allowed`]
 //! tells whether a pool gives a caller a permission. The crate has no body of a machine. It stands
-//! on `task_props`, and on `content_store` and `region` below it.
+//! on `task_props` and `blob_rows`.
 #![tactic(auto)]
 
 mod allowing;
@@ -34,9 +34,9 @@ mod weighing;
 pub use allowing::allowed;
 pub use answer::{Answer, Decision};
 pub use attempt::{Attempt, Chunk, Last};
+pub use blob_rows::BlobRow;
 pub use bot_row::BotRow;
 pub use bot_view::BotView;
-pub use content_store::BlobRow;
 pub use deadline::{Cause, Deadline};
 pub use entry::{Entry, EntryKind, EventKind, Outcome};
 pub use machine::{Machine, ReserveFault};

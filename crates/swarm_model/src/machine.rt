@@ -14,7 +14,7 @@ ghost use Rattle.swarm_model.specs.MachineState.{IsHistory, IsRight, KeepsFinals
 ghost use Rattle.swarm_model.specs.Verdicts.{is_new, verdict_tally};
 
 use crate::{Answer, BlobRow, BotRow, Entry, PoolSettings, Request, Steps, TaskRow};
-use content_store::Filled;
+use blob_rows::Filled;
 use dimensions::Text;
 use std::alloc::{AllocError, Global};
 use std::sync::ledger::Ledger;

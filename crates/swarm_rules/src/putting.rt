@@ -3,7 +3,7 @@ ghost use Rattle.std.specs.Prelude.{◌≡◌};
 ghost use Rattle.swarm_model.specs.Blobs.{is_taken, can_take};
 ghost use Rattle.swarm_model.specs.Answers.{store_full, put_blob};
 
-use content_store::Held;
+use blob_rows::Held;
 use pool_queries::{PoolQueries, refusal, reply_with_entry};
 use swarm_model::{Decision, EntryKind, Reply, Rule};
 use task_props::Digest;

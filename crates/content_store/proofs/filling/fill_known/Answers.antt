@@ -1,11 +1,11 @@
 -- What is found among the slots tells the answer.
 use Rattle.std.proofs.Common.{◌≡◌, ◌∙◌, sym, ap, map, true, get_or}
 use Rattle.sha2.specs.Sha256.{sha256}
+use Rattle.blob_rows.specs.Digests.{same_digest}
+use Rattle.blob_rows.proofs.Texts.{same_text}
 use Rattle.content_store.specs.declared.slot.Slot.{Slot}
-use Rattle.content_store.specs.Contents.{same_digest}
 use Rattle.content_store.specs.Slots.{content_in}
 use Rattle.content_store.proofs.Laying.{held_at, not_held}
-use Rattle.content_store.proofs.Texts.{same_text}
 use Rattle.content_store.proofs.Telling.{told_unknown, told_other_size, told_done}
 use Rattle.content_store.proofs.filling.fill_known.Goals as goal
 

@@ -1,11 +1,12 @@
 -- The new slot has the least place, and stands where it belongs.
 use Rattle.std.proofs.Common.{◌∙◌, ap, sym, List, refl, subst, false, map}
 use Rattle.std.specs.List.{insert}
-use Rattle.region.specs.declared.extent.Extent.{Extent}
-use Rattle.region.specs.Places.{least_place}
-use Rattle.content_store.specs.Contents.{units_of, unfilled_content, with_content}
-use Rattle.content_store.specs.Slots.{extent_of_slot, content_in, AreLaidOut, AreThere}
+use Rattle.blob_rows.specs.declared.extent.Extent.{Extent}
+use Rattle.blob_rows.specs.Places.{least_place}
+use Rattle.blob_rows.specs.BlobRows.{units_of}
 use Rattle.region.specs.FreeUnits.{IsFreeBeside}
+use Rattle.content_store.specs.Contents.{unfilled_content, with_content}
+use Rattle.content_store.specs.Slots.{extent_of_slot, content_in, AreLaidOut, AreThere}
 use Rattle.content_store.specs.declared.slot.Slot.{Slot}
 use Rattle.content_store.proofs.Telling.{answered, told_room}
 use Rattle.content_store.proofs.Laying.{kept-laid, added-laid, added-holds, added-there, found_parts}

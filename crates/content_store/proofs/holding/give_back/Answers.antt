@@ -1,7 +1,7 @@
 -- The extent of the slot is that which is given back.
 use Rattle.std.proofs.Common.{ℕ, subst, sym}
 use Rattle.std.specs.List.{Contains}
-use Rattle.region.specs.Extents.{extent_at, without_extent}
+use Rattle.blob_rows.specs.Extents.{extent_at, without_extent}
 use Rattle.region.specs.FreeUnits.{IsFreeBeside}
 use Rattle.content_store.proofs.holding.give_back.Goals as goal
 

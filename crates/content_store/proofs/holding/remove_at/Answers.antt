@@ -1,7 +1,7 @@
 -- The extents of the slots are those in use.
 use Rattle.std.proofs.Common.{sym, subst, List, get_or, map}
 use Rattle.std.specs.List.{Contains}
-use Rattle.region.specs.Extents.{without_extent}
+use Rattle.blob_rows.specs.Extents.{without_extent}
 use Rattle.region.specs.FreeUnits.{IsFreeBeside}
 use Rattle.content_store.specs.Slots.{extent_of_slot, AreLaidOut}
 use Rattle.content_store.specs.declared.slot.Slot.{Slot}

@@ -1,10 +1,10 @@
 -- The new row names the content that the store now holds.
 use Rattle.std.proofs.Common.{◌≡◌, ◌∙◌, ◌+◌, sym, ap, subst, List, refl}
-use Rattle.content_store.specs.declared.held.Held.TheVariants.{Placed}
+use Rattle.blob_rows.specs.declared.held.Held.TheVariants.{Placed}
+use Rattle.blob_rows.specs.declared.blob_row.BlobRow.{BlobRow}
+use Rattle.blob_rows.specs.BlobRows.{BlobRowsState}
 use Rattle.content_store.specs.Contents.{Content, unfilled_content, with_content}
 use Rattle.content_store.specs.Plain.{ContentStoreState}
-use Rattle.content_store.specs.declared.blob_row.BlobRow.{BlobRow}
-use Rattle.content_store.specs.BlobRows.{BlobRowsState}
 use Rattle.content_store.specs.StoredRows.{AreStored, rows_beside}
 use Rattle.content_store.proofs.Tied.{added}
 use Rattle.content_store.proofs.Puts.{put-absent, rows_after-other, held_after_hold-other, store_after}

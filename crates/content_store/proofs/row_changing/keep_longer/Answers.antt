@@ -1,8 +1,8 @@
 -- The one row of the number is kept longer.
 use Rattle.std.proofs.Common.{◌∙◌, sym, ap, ◌+◌, get_or, set}
-use Rattle.content_store.specs.declared.blob_row.BlobRow.{BlobRow}
-use Rattle.content_store.specs.BlobRows.{is_blob, renewed}
-use Rattle.content_store.proofs.Counts.{change_none}
+use Rattle.blob_rows.specs.declared.blob_row.BlobRow.{BlobRow}
+use Rattle.blob_rows.specs.BlobRows.{is_blob, renewed}
+use Rattle.blob_rows.proofs.Counts.{change_none}
 use Rattle.content_store.proofs.Numbered.{longer_one}
 use Rattle.content_store.proofs.row_changing.keep_longer.Goals as goal
 

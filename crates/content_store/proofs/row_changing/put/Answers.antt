@@ -1,12 +1,13 @@
 -- What is present is renewed; what is not is placed.
 use Rattle.std.proofs.Common.{◌≡◌, ◌∙◌, sym, ap, subst, List, Option, None, true, map, is_some, arith}
-use Rattle.content_store.specs.declared.blob_row.BlobRow.{BlobRow}
-use Rattle.content_store.specs.BlobRows.{blob_of, has_digest, renewed_until}
+use Rattle.blob_rows.specs.declared.blob_row.BlobRow.{BlobRow}
+use Rattle.blob_rows.specs.BlobRows.{blob_of, has_digest, renewed_until}
+use Rattle.blob_rows.proofs.Counts.{position-None, position-find}
+use Rattle.blob_rows.proofs.Distinct.{stored-renewed, no-renewed}
 use Rattle.content_store.specs.RowOrder.{NumbersRise}
 use Rattle.content_store.specs.StoredRows.{AreStored, rows_beside}
-use Rattle.content_store.proofs.Counts.{position-None, position-find}
 use Rattle.content_store.proofs.Numbered.{no_row, renewed_one, rising_changed}
-use Rattle.content_store.proofs.Tied.{held_is, length_is, changed, stored-renewed, no-renewed}
+use Rattle.content_store.proofs.Tied.{held_is, length_is, changed}
 use Rattle.content_store.proofs.Puts.{put-present, store-present}
 use Rattle.content_store.proofs.row_changing.put.Goals as goal
 

@@ -2,12 +2,12 @@
 use Rattle.std.proofs.Common.{◌≡◌, ◌∙◌, sym, ap, subst, List, Option, Some, None, get_or}
 use Rattle.std.specs.List.{filter, position}
 use Rattle.std.proofs.lemmas.List.Quantifiers.{position-Some}
+use Rattle.blob_rows.specs.declared.blob_row.BlobRow.{BlobRow}
+use Rattle.blob_rows.specs.BlobRows.{is_blob, is_other, blob_numbered}
+use Rattle.blob_rows.proofs.Counts.{remove_one, position-None, position-find}
 use Rattle.content_store.specs.Contents.{Content, without_content}
 use Rattle.content_store.specs.Plain.{ContentStoreState}
-use Rattle.content_store.specs.declared.blob_row.BlobRow.{BlobRow}
-use Rattle.content_store.specs.BlobRows.{is_blob, is_other, blob_numbered}
 use Rattle.content_store.specs.StoredRows.{AreStored, held_without}
-use Rattle.content_store.proofs.Counts.{remove_one, position-None, position-find}
 use Rattle.content_store.proofs.Tied.{removed}
 use Rattle.content_store.proofs.row_changing.remove.Goals as goal
 

@@ -1,7 +1,7 @@
 -- The row stands at the place of its number.
 use Rattle.std.proofs.Common.{◌∙◌, sym}
-use Rattle.content_store.specs.BlobRows.{is_blob}
-use Rattle.content_store.proofs.Counts.{position-None, place_found}
+use Rattle.blob_rows.specs.BlobRows.{is_blob}
+use Rattle.blob_rows.proofs.Counts.{position-None, place_found}
 use Rattle.content_store.proofs.row_places.blob_numbered.Goals as goal
 
 pub returns-in-None : goal.returns-in-None

@@ -1,7 +1,7 @@
 -- The row stands at the place of its digest.
 use Rattle.std.proofs.Common.{◌∙◌, sym}
-use Rattle.content_store.specs.BlobRows.{has_digest}
-use Rattle.content_store.proofs.Counts.{position-None, place_found}
+use Rattle.blob_rows.specs.BlobRows.{has_digest}
+use Rattle.blob_rows.proofs.Counts.{position-None, place_found}
 use Rattle.content_store.proofs.row_places.blob_of.Goals as goal
 
 pub returns-in-None : goal.returns-in-None

@@ -1,7 +1,7 @@
 -- The closure tells the number of a row.
 use Rattle.std.proofs.Common.{rules, ◌∙◌}
 use Rattle.std.proofs.lemmas.List.Sorted.{answers_always}
-use Rattle.content_store.specs.declared.blob_row.BlobRow.{BlobRow}
+use Rattle.blob_rows.specs.declared.blob_row.BlobRow.{BlobRow}
 use Rattle.content_store.proofs.Numbered.{bisected}
 use Rattle.content_store.proofs.row_places.place_of_number.Goals as goal
 

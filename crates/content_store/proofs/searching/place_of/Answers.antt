@@ -1,10 +1,10 @@
 -- The name in the middle tells in which half the search goes on.
 use Rattle.std.proofs.Common.{◌+◌, ◌-◌, ◌/◌, ◌≤◌, ◌<◌, List, ℕ, length, map, sym, ap, ◌∙◌, arith}
 use Rattle.std.proofs.lemmas.List.{length-map}
-use Rattle.content_store.specs.Contents.{digest_cmp}
+use Rattle.blob_rows.specs.Digests.{digest_cmp}
+use Rattle.blob_rows.proofs.Texts.{equal_text}
 use Rattle.content_store.specs.Slots.{digest_of}
 use Rattle.content_store.proofs.Found.{key_at, between_all, between_higher, between_lower, belongs_between}
-use Rattle.content_store.proofs.Texts.{equal_text}
 use Rattle.content_store.proofs.searching.place_of.Goals as goal
 
 pub loop-low-init : goal.loop-low-init

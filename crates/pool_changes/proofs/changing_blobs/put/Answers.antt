@@ -1,7 +1,7 @@
 -- The bytes of a blob that was not present are held, and those of the others stay.
 use Rattle.std.proofs.Common.{◌≡◌, not, is_some, true, false, ap, ◌∙◌}
-use Rattle.content_store.specs.BlobRows.{blob_of}
-use Rattle.content_store.proofs.Counts.{none_from}
+use Rattle.blob_rows.specs.BlobRows.{blob_of}
+use Rattle.blob_rows.proofs.Counts.{none_from}
 use Rattle.content_store.proofs.Puts.{lent}
 use Rattle.pool_changes.proofs.Storing.{held_put_new, held_put_same}
 use Rattle.pool_changes.proofs.changing_blobs.put.Goals as goal

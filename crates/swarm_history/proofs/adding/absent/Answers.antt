@@ -1,7 +1,7 @@
 -- Where no bytes are held, there is no blob.
 use Rattle.std.proofs.Common.{Option, ap, sym, is_none}
 use Rattle.dimensions.specs.Choosing.{when}
-use Rattle.content_store.specs.declared.blob_row.BlobRow.{BlobRow}
+use Rattle.blob_rows.specs.declared.blob_row.BlobRow.{BlobRow}
 use Rattle.swarm_history.proofs.Held.{absent_is}
 use Rattle.swarm_history.proofs.adding.absent.Goals as goal
 

@@ -1,11 +1,12 @@
 -- Other deadlines keep the rows tied to the store.
 use Rattle.std.proofs.Common.{sym, subst, List, arith, ◌+◌}
-use Rattle.content_store.specs.declared.blob_row.BlobRow.{BlobRow}
-use Rattle.content_store.specs.BlobRows.{is_blob, longer_kept}
+use Rattle.blob_rows.specs.declared.blob_row.BlobRow.{BlobRow}
+use Rattle.blob_rows.specs.BlobRows.{is_blob, longer_kept}
+use Rattle.blob_rows.proofs.Distinct.{stored-renewed, no-renewed}
 use Rattle.content_store.specs.RowOrder.{NumbersRise}
 use Rattle.content_store.specs.StoredRows.{AreStored}
 use Rattle.content_store.proofs.Numbered.{rising_changed}
-use Rattle.content_store.proofs.Tied.{changed, stored-renewed, no-renewed}
+use Rattle.content_store.proofs.Tied.{changed}
 use Rattle.content_store.proofs.blobs.Blobs.keep_longer.Goals as goal
 
 pub invariant_of-self : goal.invariant_of-self

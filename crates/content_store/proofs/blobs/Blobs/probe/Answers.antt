@@ -1,6 +1,6 @@
 -- What the store answers, told by the rows.
 use Rattle.std.proofs.Common.{◌∙◌, ap}
-use Rattle.content_store.specs.BlobRows.{put_result}
+use Rattle.blob_rows.specs.BlobRows.{put_result}
 use Rattle.content_store.specs.StoredRows.{BlobsState, rows_in}
 use Rattle.content_store.proofs.Puts.{hold_result-is}
 use Rattle.content_store.proofs.blobs.Blobs.probe.Goals as goal

@@ -1,7 +1,7 @@
 -- The rows and the store stay tied.
 use Rattle.std.proofs.Common.{◌≡◌, ap, sym, subst, arith}
+use Rattle.blob_rows.specs.BlobRows.{is_other}
 use Rattle.content_store.specs.Plain.{ContentStoreState}
-use Rattle.content_store.specs.BlobRows.{is_other}
 use Rattle.content_store.specs.RowOrder.{NumbersRise}
 use Rattle.content_store.proofs.Numbered.{rising_filtered}
 use Rattle.content_store.proofs.blobs.Blobs.remove.Goals as goal

@@ -1,9 +1,9 @@
 -- The extents of the slots are those of the contents.
 use Rattle.std.proofs.Common.{subst, sym, List, ℕ}
 use Rattle.std.specs.List.Sorted.{IsStrictlySortedBy}
-use Rattle.region.specs.declared.extent.Extent.{Extent}
-use Rattle.region.specs.Extents.{AreApart}
-use Rattle.content_store.specs.Contents.{digest_cmp}
+use Rattle.blob_rows.specs.declared.extent.Extent.{Extent}
+use Rattle.blob_rows.specs.Extents.{AreApart}
+use Rattle.blob_rows.specs.Digests.{digest_cmp}
 use Rattle.content_store.proofs.Laying.{extents_in, names_in}
 use Rattle.content_store.proofs.content_store.ContentStore.hold.Goals as goal
 

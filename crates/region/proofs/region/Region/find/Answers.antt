@@ -1,6 +1,6 @@
 -- The first hole with room begins at the least place.
 use Rattle.std.proofs.Common.{◌≡◌, Some, None, subst, sym}
-use Rattle.region.specs.declared.extent.Extent.{Extent}
+use Rattle.blob_rows.specs.declared.extent.Extent.{Extent}
 use Rattle.region.specs.Plain.{RegionState}
 use Rattle.region.specs.HoleSizes.{region_of}
 use Rattle.region.specs.FreeUnits.{IsFreeBeside, least_extent}

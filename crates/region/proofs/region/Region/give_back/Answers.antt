@@ -1,8 +1,8 @@
 -- The units of the extent are in no hole, and then in one that touches no other.
 use Rattle.std.proofs.Common.{◌||◌, ℕ, Bool, List, refl, subst, sym, ap, ◌∙◌, arith}
 use Rattle.std.specs.List.{Contains}
-use Rattle.region.specs.declared.extent.Extent.{Extent}
-use Rattle.region.specs.Places.{overlaps}
+use Rattle.blob_rows.specs.declared.extent.Extent.{Extent}
+use Rattle.blob_rows.specs.Places.{overlaps}
 use Rattle.region.specs.Plain.{RegionState}
 use Rattle.region.specs.HoleSizes.{region_of, IsOutside}
 use Rattle.region.specs.FreeUnits.{AreInUse}

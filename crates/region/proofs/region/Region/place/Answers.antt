@@ -1,7 +1,7 @@
 -- The first hole with room begins at the least place.
 use Rattle.std.proofs.Common.{◌≡◌, ◌&&◌, Bool, not, Some, None, refl, subst, sym, ap, ◌∙◌}
-use Rattle.region.specs.declared.extent.Extent.{Extent}
-use Rattle.region.specs.Places.{overlaps}
+use Rattle.blob_rows.specs.declared.extent.Extent.{Extent}
+use Rattle.blob_rows.specs.Places.{overlaps}
 use Rattle.region.specs.Plain.{RegionState}
 use Rattle.region.specs.HoleSizes.{region_of}
 use Rattle.region.specs.FreeUnits.{IsFreeBeside, least_extent}

@@ -1,7 +1,7 @@
 -- The tasks, the bots and the blobs are changed.
 use Rattle.std.proofs.Common.{◌≡◌, ℕ, Bor, ap, refl, ◌∙◌, List, Option}
 use Rattle.std.specs.Option.{option_map}
-use Rattle.content_store.specs.BlobRows.{BlobRowsState}
+use Rattle.blob_rows.specs.BlobRows.{BlobRowsState}
 use Rattle.content_store.specs.StoredRows.{rows_in}
 use Rattle.bot_registry.specs.Plain.{RegistryState}
 use Rattle.swarm_model.specs.declared.attempt.Chunk.{Chunk}

@@ -1,7 +1,7 @@
 -- The tasks, the bots and the blobs are changed.
 use Rattle.std.proofs.Common.{◌≡◌, ℕ, Bor, ap, sym, ◌∙◌, List, Option}
 use Rattle.std.specs.Option.{option_map}
-use Rattle.content_store.specs.BlobRows.{BlobRowsState}
+use Rattle.blob_rows.specs.BlobRows.{BlobRowsState}
 use Rattle.content_store.specs.StoredRows.{BlobsState, rows_in}
 use Rattle.swarm_model.specs.declared.attempt.Chunk.{Chunk}
 use Rattle.swarm_model.specs.declared.bot_row.BotRow.{BotRow}

@@ -7,8 +7,8 @@ use Rattle.std.proofs.lemmas.Option.{slice_get-get_or}
 use Rattle.std.proofs.lemmas.List.Folds.{find_at, list_any_none}
 use Rattle.std.proofs.lemmas.List.Sums.{sum_by-cons, sum_by-le-sum_by, get_or-le-sum_by, fails_before_first}
 use Rattle.dimensions.proofs.Counting.{count-map, count-none}
-use Rattle.region.specs.SameItems.{SameItems}
-use Rattle.region.proofs.SameItems.{pass, count-filter}
+use Rattle.blob_rows.specs.SameItems.{SameItems}
+use Rattle.blob_rows.proofs.SameItems.{pass, count-filter}
 
 implied : (s t : Bool) → (s ≡ true → t ≡ true) → cond {A = ℕ} s 1 0 ≤ cond t 1 0
 implied true true so = omega arith

@@ -3,7 +3,7 @@ use Rattle.std.proofs.Common.{◌≡◌, ℕ, ◌+◌, ◌<◌, Bool, true, fals
 use Rattle.std.specs.List.{list_any, filter, count_by, insert}
 use Rattle.std.proofs.lemmas.Bool.{lt-ltb}
 use Rattle.std.proofs.lemmas.List.Sums.{sum_by-cons, sum_by-insert}
-use Rattle.region.specs.SameItems.{SameItems}
+use Rattle.blob_rows.specs.SameItems.{SameItems}
 
 module _ {X : Type 0} where
   -- one for an item that passes

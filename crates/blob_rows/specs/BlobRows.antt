@@ -1,14 +1,14 @@
 -- The rows of blobs, and what a put and the end of a deadline leave of them.
-use Rattle.std.specs.Prelude.{ℕ, Bool, ◌+◌, ◌==◌, nat_le, not, List, [], ◌∷◌, ◌++◌, map, length, Option, is_some, if◌then◌else◌}
+use Rattle.std.specs.Prelude.{ℕ, Bool, ◌+◌, ◌/◌, ◌==◌, max, nat_le, not, List, [], ◌∷◌, ◌++◌, map, length, Option, is_some, if◌then◌else◌}
 use Rattle.std.specs.List.{find}
 use Rattle.std.specs.Option.{option_map_or}
-use Rattle.region.specs.declared.extent.Extent.{Extent}
-use Rattle.region.specs.Places.{least_place}
-use Rattle.region.specs.Extents.{extent_at}
-use Rattle.content_store.specs.declared.held.Held.{Held}
-use Rattle.content_store.specs.declared.held.Held.TheVariants.{Placed, Present, NoNames, NoRoom}
-use Rattle.content_store.specs.Contents.{same_digest, units_of}
-use Rattle.content_store.specs.declared.blob_row.BlobRow.{BlobRow}
+use Rattle.blob_rows.specs.declared.extent.Extent.{Extent}
+use Rattle.blob_rows.specs.Places.{least_place}
+use Rattle.blob_rows.specs.Extents.{extent_at}
+use Rattle.blob_rows.specs.declared.held.Held.{Held}
+use Rattle.blob_rows.specs.declared.held.Held.TheVariants.{Placed, Present, NoNames, NoRoom}
+use Rattle.blob_rows.specs.Digests.{same_digest}
+use Rattle.blob_rows.specs.declared.blob_row.BlobRow.{BlobRow}
 
 -- the rows, how many blobs were ever placed, and the units of the region
 pub record BlobRowsState : Type 0 where
@@ -44,6 +44,10 @@ longer_kept secs number row = if row.no == number then renewed (row.deadline + s
 
 -- ---- a put
 
+-- how many units of 64 bytes a content takes, at least one
+abbrev pub units_of : ℕ → ℕ
+units_of size = max 1 ((size + 63) / 64)
+
 abbrev pub extent_of_row : BlobRow → Extent
 extent_of_row row = row.extent
 
@@ -66,3 +70,15 @@ put_result names s digest size =
     if is_some (blob_of s.rows digest) then Present
     else if nat_le names (length s.rows) then NoNames
     else option_map_or (λ at. Placed (extent_at (units_of size) at)) (place_for s size) NoRoom
+
+-- ---- what is stored of a row
+
+-- a digest with the size, the number and the extent of its content
+pub record Stored : Type 0 where
+  pub digest : List ℕ
+  pub size : ℕ
+  pub number : ℕ
+  pub extent : Extent
+
+abbrev pub stored_row : BlobRow → Stored
+stored_row row = record { digest = row.digest; size = row.size; number = row.no; extent = row.extent }

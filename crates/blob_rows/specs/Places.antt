@@ -1,7 +1,7 @@
 -- The least place at which so many units of a region are free.
 use Rattle.std.specs.Prelude.{ℕ, zero, suc, Bool, true, false, ◌+◌, ◌-◌, ◌&&◌, not, nat_lt, List, Option, Some, None, if◌then◌else◌}
 use Rattle.std.specs.List.{list_any}
-use Rattle.region.specs.declared.extent.Extent.{Extent}
+use Rattle.blob_rows.specs.declared.extent.Extent.{Extent}
 
 -- the extent shares a unit with the n units from a place on
 abbrev pub overlaps : ℕ → ℕ → Extent → Bool

@@ -1,8 +1,8 @@
 -- Extents, and lists of them without an overlap.
 use Rattle.std.specs.Prelude.{◌≡◌, ℕ, Bool, false, ◌==◌, ◌&&◌, not, List}
 use Rattle.std.specs.List.{filter, AllPairs}
-use Rattle.region.specs.declared.extent.Extent.{Extent}
-use Rattle.region.specs.Places.{overlaps}
+use Rattle.blob_rows.specs.declared.extent.Extent.{Extent}
+use Rattle.blob_rows.specs.Places.{overlaps}
 
 abbrev pub extent_at : ℕ → ℕ → Extent
 extent_at units at = record { at = at; units = units }

@@ -1,4 +1,4 @@
-use region::Extent;
+use crate::Extent;
 
 /// What became of a name that was to be held.
 #[derive(Clone, Copy, Debug, PartialEq, Eq)]

@@ -1,5 +1,4 @@
-use crate::Digest;
-use region::Extent;
+use crate::{Digest, Extent};
 
 /// What a pool knows of a content that it holds.
 #[derive(Clone, Copy, Debug, PartialEq, Eq)]

@@ -1,10 +1,10 @@
 -- The least place is what it says, whatever finds it.
 use Rattle.std.proofs.Common.{◌≡◌, ℕ, zero, suc, ◌+◌, ◌-◌, ◌<◌, ◌≤◌, Bool, true, false, not, cond, List, Option, Some, None, refl, sym, ap, ◌∙◌, subst, arith, inl, inr, ltb}
 use Rattle.std.proofs.lemmas.Bool.{cases_lt, ltb-true, ltb-false, both_ways}
-use Rattle.region.proofs.SameItems.{list_any-same}
-use Rattle.region.specs.declared.extent.Extent.{Extent}
-use Rattle.region.specs.Places.{overlaps, is_free, first_free, least_place}
-use Rattle.region.specs.SameItems.{SameItems}
+use Rattle.blob_rows.proofs.SameItems.{list_any-same}
+use Rattle.blob_rows.specs.declared.extent.Extent.{Extent}
+use Rattle.blob_rows.specs.Places.{overlaps, is_free, first_free, least_place}
+use Rattle.blob_rows.specs.SameItems.{SameItems}
 
 -- of the places from one on, the first that is free
 abbrev pub IsLeastFrom : List Extent → ℕ → ℕ → ℕ → Option ℕ → Type 0

@@ -5,7 +5,7 @@ use Rattle.std.specs.declared.cmp.Ordering.TheVariants.{Less, Equal, Greater}
 use Rattle.std.specs.Ordering.{is_lt, is_eq, ordering_reverse}
 use Rattle.std.specs.Cmp.Lexicographic.{nat_list_cmp_total, texts_ties, bytes_decides}
 use Rattle.std.proofs.lemmas.Cmp.{tied_itself}
-use Rattle.content_store.specs.Contents.{same_digest, digest_cmp}
+use Rattle.blob_rows.specs.Digests.{same_digest, digest_cmp}
 
 pub equal_text : (a b : List ℕ) → digest_cmp a b ≡ Equal → a ≡ b
 equal_text a b e = (bytes_decides a b).0 (texts_ties a b ∙ ap is_eq e)

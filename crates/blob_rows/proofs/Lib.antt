@@ -1,0 +1,5 @@
+pub mod SameItems
+pub mod LeastPlaces
+pub mod Texts
+pub mod Counts
+pub mod Distinct

@@ -1,0 +1,5 @@
+pub mod Places
+pub mod Extents
+pub mod SameItems
+pub mod Digests
+pub mod BlobRows
