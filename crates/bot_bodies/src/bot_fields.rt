@@ -12,7 +12,7 @@ use json_fields::{
 };
 use serde_json::Value;
 use std::alloc::Global;
-use swarm_model::EventKind;
+use swarm_model::{EventKind, fits_message};
 use task_props::{PropFault, PropRule};
 
 /// What a bot says of itself, as it was read.
@@ -113,15 +113,6 @@ pub(crate) fn check_bot_info(
     let dims = read_dims(alloc, name, raw.pairs.as_slice())?;
     let quarantined = read_quarantined(alloc, raw.quarantined)?;
     Ok(BotInfo { dims, quarantined })
-}
-
-fn fits_message(kind: EventKind, text: &str) -> bool
-    ensures { result ≡ spec_fits_message kind text.now }
-{
-    match kind {
-        EventKind::Quarantine => 1 <= text.len() && text.len() <= 256,
-        EventKind::Ping | EventKind::Unquarantine => text.len() <= 256,
-    }
 }
 
 /// The message of an event.

@@ -1,34 +1,21 @@
 //! The names of bots, of their sessions and of their claims.
 ghost use Rattle.std.specs.Prelude.{◌≡◌, ◌||◌, IfOk, true};
-ghost use Rattle.std.specs.List.{list_all};
-ghost use Rattle.dimensions.specs.Rules.{is_key_byte};
 ghost use Rattle.dimensions.specs.Rules.{is_empty};
-ghost use Rattle.swarm_model.specs.Fits.{is_name};
+ghost use Rattle.swarm_model.specs.Fits.{is_name as spec_is_name};
 ghost use Rattle.json_fields.specs.Readings.{Gives, Reads};
 ghost use Rattle.bot_bodies.specs.Names.{name_of as spec_name_of, name_at, optional_name_at};
 
 use dimensions::Text;
 use json_fields::broken;
 use std::alloc::Global;
+use swarm_model::is_name;
 use task_props::{PropFault, PropRule};
-
-fn is_name_byte(byte: u8) -> bool
-    ensures { result ≡ is_key_byte byte }
-{
-    byte.is_ascii_alphanumeric() || byte == b'-' || byte == b'_' || byte == b'.'
-}
-
-fn are_name_bytes(text: &[u8]) -> bool
-    ensures { result ≡ list_all is_key_byte text.now }
-{
-    text.iter().all(|byte| is_name_byte(*byte))
-}
 
 /// A text that is a name.
 #[tactic(auto, unfolding(crate::specs::Names::name_of))]
 fn name_of(text: &str) -> Result<&str, PropRule>
     ensures exact { Gives (λ s. s.now) result (spec_name_of text.now) }
-    ensures named { IfOk result (λ name. is_name name.now ≡ true) }
+    ensures named { IfOk result (λ name. spec_is_name name.now ≡ true) }
 {
     if text.is_empty() {
         return Err(PropRule::Count);
@@ -36,7 +23,7 @@ fn name_of(text: &str) -> Result<&str, PropRule>
     if text.len() > 64 {
         return Err(PropRule::Count);
     }
-    if !are_name_bytes(text.as_bytes()) {
+    if !is_name(text) {
         return Err(PropRule::Grammar);
     }
     Ok(text)
@@ -45,7 +32,7 @@ fn name_of(text: &str) -> Result<&str, PropRule>
 /// A text of a key that must be a name.
 pub(crate) fn read_name(alloc: Global, key: &str, text: &str) -> Result<Text, PropFault>
     ensures exact { Reads result (name_at key.now text.now) }
-    ensures named { IfOk result (λ name. is_name name ≡ true) }
+    ensures named { IfOk result (λ name. spec_is_name name ≡ true) }
 {
     match name_of(text) {
         Ok(name) => Ok(Text::from_str(alloc, name)?),
@@ -57,7 +44,7 @@ pub(crate) fn read_name(alloc: Global, key: &str, text: &str) -> Result<Text, Pr
 #[tactic(auto, unfolding(crate::specs::Names::optional_name_at))]
 pub(crate) fn read_optional_name(alloc: Global, key: &str, text: &str) -> Result<Text, PropFault>
     ensures exact { Reads result (optional_name_at key.now text.now) }
-    ensures named { IfOk result (λ name. (is_empty name || is_name name) ≡ true) }
+    ensures named { IfOk result (λ name. (is_empty name || spec_is_name name) ≡ true) }
 {
     if text.is_empty() {
         return Ok(Text::new(alloc));

@@ -4,10 +4,11 @@ ghost use Rattle.swarm_model.specs.Entries.{asks, poll_of, claim_of, handshake_o
 ghost use Rattle.swarm_model.specs.Finding.{task_of};
 ghost use Rattle.pool_loading.specs.Asking.{as_asked};
 
-use crate::uncounted::task_uncounted;
 use dimensions::{BotDims, Text, TryCopy};
 use std::alloc::{AllocError, Global};
-use swarm_model::{BotRow, Chunk, EntryKind, EventKind, Last, Machine, Request, TaskRow};
+use swarm_model::{
+    BotRow, Chunk, EntryKind, EventKind, Last, Machine, Request, TaskRow, task_uncounted,
+};
 use task_props::{Digest, NewTask};
 
 /// A request with its caller.

@@ -10,11 +10,10 @@ ghost use Rattle.entry_lines.specs.Lines.{entry_of_line};
 ghost use Rattle.pool_loading.specs.Asking.{as_asked};
 
 use crate::asking::{EntryRequest, asked};
-use crate::uncounted::{answer_uncounted, due_uncounted};
 use entry_lines::is_line_of;
 use request_fits::fits;
 use std::alloc::{AllocError, Global};
-use swarm_model::{Entry, EntryKind, Machine, PoolSettings};
+use swarm_model::{Entry, EntryKind, Machine, PoolSettings, answer_uncounted, due_uncounted};
 
 /// The greatest moment of an entry.
 const MOST_MOMENT: u64 = 1 << 40;

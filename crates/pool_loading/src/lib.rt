@@ -11,9 +11,6 @@
 //! bytes come with the entries of a replay, so that all bytes that the machine holds in the end are
 //! those of the keeper (`filling`).
 //!
-//! [`due_uncounted`], [`answer_uncounted`] and [`task_uncounted`] ask a machine where nobody counts the
-//! rows that are read (`uncounted`).
-//!
 //! The crate stands on `entry_lines`, `request_fits`, `swarm_keeper`, `swarm_laws` and
 //! `swarm_model`. It holds for every machine and every keeper that keep their traits' contracts.
 #![tactic(auto)]
@@ -24,7 +21,5 @@ mod filling;
 mod following;
 mod loading;
 mod replaying;
-mod uncounted;
 
 pub use loading::{LoadStop, load_pool};
-pub use uncounted::{answer_uncounted, due_uncounted, task_uncounted};

@@ -3,20 +3,7 @@ ghost use Rattle.std.specs.Prelude.{◌≡◌, ◌<◌, ◌^◌, ◌++◌, map, 
 ghost use Rattle.pool_summaries.specs.Summaries.{pool_line, count_at, count_line, count_lines, pool_summary, summary_of};
 
 use std::alloc::{AllocError, Global};
-use swarm_model::{Machine, PoolSettings, TaskState};
-
-// All states, in the order of a tally.
-const STATES: [TaskState; 9] = [
-    TaskState::Pending,
-    TaskState::Running,
-    TaskState::Expired,
-    TaskState::TimedOut,
-    TaskState::BotDied,
-    TaskState::Canceled,
-    TaskState::Completed,
-    TaskState::Killed,
-    TaskState::NoResource,
-];
+use swarm_model::{Machine, PoolSettings, STATES, TaskState};
 
 #[tactic(auto, unfolding(crate::specs::Summaries::pool_line))]
 fn write_pool_line(

@@ -2,15 +2,14 @@ ghost use Rattle.std.specs.Prelude.{◌≡◌, ◌&&◌, ◌==◌, nat_le, true}
 ghost use Rattle.std.specs.List.{list_all};
 ghost use Rattle.std.specs.Option.{option_map_or};
 ghost use Rattle.dimensions.specs.Alike.{same};
-ghost use Rattle.dimensions.specs.Rules.{is_key_byte};
 ghost use Rattle.task_props.specs.Checked.{is_checked as spec_is_checked, pool_of_task};
 ghost use Rattle.swarm_model.specs.Words.{is_between};
-ghost use Rattle.swarm_model.specs.Fits.{is_name, fits_bot, fits_message, is_task_number, fits_task, is_limit, fits_chunk, fits_last, is_blob_size, fits};
+ghost use Rattle.swarm_model.specs.Fits.{fits_bot, is_task_number, fits_task, is_limit, fits_chunk, fits_last, is_blob_size, fits};
 
 use crate::checking::are_files;
 use crate::is_checked;
 use dimensions::{BotDims, Text};
-use swarm_model::{Chunk, EventKind, Last, PoolSettings, Request};
+use swarm_model::{Chunk, Last, PoolSettings, Request, fits_message, is_name};
 use task_checks::LARGEST_CONTENT;
 use task_props::{Digest, NewTask};
 
@@ -23,39 +22,10 @@ fn fits_pool(settings: &PoolSettings, request: &NewTask) -> bool
     is_checked(request) && request.pool() == settings.name.as_str()
 }
 
-fn is_name_byte(byte: u8) -> bool
-    ensures { result ≡ is_key_byte byte }
-{
-    byte.is_ascii_alphanumeric() || byte == b'-' || byte == b'_' || byte == b'.'
-}
-
-fn has_name_bytes(name: &str) -> bool
-    ensures { result ≡ list_all is_key_byte name.now }
-{
-    name.as_bytes().iter().all(|byte| is_name_byte(*byte))
-}
-
-/// Whether the text may name a bot, a session or a claim: 1 to 64 ASCII letters, digits, `-`, `_`
-/// and `.`.
-fn is_name(name: &str) -> bool
-    ensures { result ≡ is_name name.now }
-{
-    1 <= name.len() && name.len() <= 64 && has_name_bytes(name)
-}
-
 fn fits_bot(settings: &PoolSettings, bot: &Text, dims: &BotDims) -> bool
     ensures { result ≡ fits_bot settings.now bot.now dims.now }
 {
     is_name(bot.as_str()) && dims.is_checked(bot.as_str()) && dims.pool() == settings.name.as_str()
-}
-
-fn fits_message(kind: EventKind, message: &str) -> bool
-    ensures { result ≡ fits_message kind message.now }
-{
-    match kind {
-        EventKind::Quarantine => 1 <= message.len() && message.len() <= 256,
-        EventKind::Ping | EventKind::Unquarantine => message.len() <= 256,
-    }
 }
 
 fn is_task_number(number: u32) -> bool

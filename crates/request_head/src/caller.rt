@@ -9,7 +9,8 @@ fn are_visible(text: &[u8]) -> bool
     text.iter().all(|b| *b >= 0x21 && *b <= 0x7E)
 }
 
-fn is_caller(text: &[u8]) -> bool
+/// Whether the text may name a caller: 1 to 128 characters, each a visible one of ASCII.
+pub fn is_caller(text: &[u8]) -> bool
     ensures { result ≡ spec_is_caller text.now }
 {
     !text.is_empty() && text.len() <= 128 && are_visible(text)

@@ -17,6 +17,7 @@ mod head_check;
 mod method;
 
 pub use after::After;
+pub use caller::is_caller;
 pub use head::Head;
 pub use head_check::{HeadCheck, check_head};
 pub use method::Method;

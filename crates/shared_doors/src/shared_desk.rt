@@ -10,13 +10,12 @@ ghost use Rattle.shared_doors.specs.Views.{look};
 use crate::kept::Kept;
 use crate::view::{Lasting, PoolView};
 use dimensions::{Seq, Text};
-use pool_loading::{answer_uncounted, due_uncounted};
 use std::alloc::{AllocError, Global};
 use std::sync::Wait;
 use swarm_door::{Answered, CallFault};
 use swarm_history::{Desk, pieces_of, serve};
 use swarm_keeper::Keeper;
-use swarm_model::{Answer, Entry, Machine, Reply, Request};
+use swarm_model::{Answer, Entry, Machine, Reply, Request, answer_uncounted, due_uncounted};
 use turnstile::{Counted, Pass, Turn, Turnstile};
 
 /// A turn in which each entry that is added is counted.

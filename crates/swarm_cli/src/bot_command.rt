@@ -1,8 +1,5 @@
 //! The command of a bot.
 ghost use Rattle.std.specs.Prelude.{◌≡◌, ◌∷◌, [], None, Some, IfOk, codes, string_bytes};
-ghost use Rattle.std.specs.List.{list_all};
-ghost use Rattle.dimensions.specs.Rules.{is_key_byte};
-ghost use Rattle.swarm_model.specs.Fits.{is_name as spec_is_name};
 ghost use Rattle.server_address.specs.Addresses.{address_of};
 ghost use Rattle.bot_dimensions.specs.Pairs.{fitting_pairs};
 ghost use Rattle.command_words.specs.Commands.{BotOptions, options_of};
@@ -26,25 +23,7 @@ use server_address::ServerAddress;
 use std::alloc::{AllocError, Global};
 use sw_base::{Dialer, StartFault};
 use swarm_http::{Clock, Link};
-
-fn is_name_byte(byte: u8) -> bool
-    ensures { result ≡ is_key_byte byte }
-{
-    byte.is_ascii_alphanumeric() || byte == b'-' || byte == b'_' || byte == b'.'
-}
-
-fn has_name_bytes(name: &str) -> bool
-    ensures { result ≡ list_all is_key_byte name.now }
-{
-    name.as_bytes().iter().all(|byte| is_name_byte(*byte))
-}
-
-/// Whether a bot may have this name: 1 to 64 ASCII letters, digits, `-`, `_` and `.`.
-fn is_name(name: &str) -> bool
-    ensures { result ≡ spec_is_name name.now }
-{
-    1 <= name.len() && name.len() <= 64 && has_name_bytes(name)
-}
+use swarm_model::is_name;
 
 fn pairs_of(alloc: Global, words: &Bot) -> Result<Seq<(Text, Text)>, Misfit>
     ensures pairs { IfOk result (λ pairs. fitting_pairs (options_of words.now).id (options_of words.now).pool (options_of words.now).dimensions ≡ Some pairs) }

@@ -1,30 +1,17 @@
 //! The options of a client's command, and their grammars.
 ghost use Rattle.std.specs.Prelude.{◌≡◌, ◌∷◌, [], None, Some, Err, IfOk, codes, string_bytes};
-ghost use Rattle.std.specs.List.{list_all};
-ghost use Rattle.request_head.specs.HeadFields.{is_caller as spec_is_caller, is_visible};
 ghost use Rattle.server_address.specs.Addresses.{address_of};
 ghost use Rattle.swarm_cli.specs.Clients.{Fits, TellsMisfit, server_test, caller_test, id_test, state_test, wanted_state};
 
 use crate::misfit::Misfit;
 use crate::printing::print_grammar;
 use json_fields::read_id;
+use request_head::is_caller;
 use server_address::{AddressFault, ServerAddress, read_address};
 use std::alloc::Global;
 use swarm_http::Link;
 use swarm_model::TaskState;
 use task_props::PropFault;
-
-fn are_visible(text: &[u8]) -> bool
-    ensures { result ≡ list_all is_visible text.now }
-{
-    text.iter().all(|b| *b >= 0x21 && *b <= 0x7E)
-}
-
-fn is_caller(text: &[u8]) -> bool
-    ensures { result ≡ spec_is_caller text.now }
-{
-    !text.is_empty() && text.len() <= 128 && are_visible(text)
-}
 
 fn address_at(alloc: Global, server: &str) -> Result<ServerAddress, Misfit>
     ensures address { IfOk result (λ a. address_of server.now ≡ Some (string_bytes a.dial, string_bytes a.host)) }

@@ -13,11 +13,10 @@ ghost use Rattle.swarm_history.specs.Settling.{Stays, Adds};
 
 use dimensions::Text;
 use entry_lines::line_of;
-use pool_loading::task_uncounted;
 use std::alloc::Global;
 use swarm_door::CallFault;
 use swarm_keeper::{Keeper, KeeperFault};
-use swarm_model::{Chunk, Entry, EntryKind, Machine, ReserveFault};
+use swarm_model::{Chunk, Entry, EntryKind, Machine, ReserveFault, task_uncounted};
 use task_props::Digest;
 
 /// Whether a chunk goes on from the output that is kept.

@@ -2,11 +2,10 @@ use crate::adding::add_entry;
 use crate::desk::Desk;
 use crate::pieces::pieces_of;
 use dimensions::{Seq, Text};
-use pool_loading::{answer_uncounted, due_uncounted};
 use std::alloc::{AllocError, Global};
 use swarm_door::CallFault;
 use swarm_keeper::Keeper;
-use swarm_model::{Answer, Entry, Machine, Reply, Request};
+use swarm_model::{Answer, Entry, Machine, Reply, Request, answer_uncounted, due_uncounted};
 
 /// A machine and a keeper that no other writes to. Its entries bear the number 0.
 pub(crate) struct PlainDesk<'a, M: Machine, K: Keeper> {

@@ -5,8 +5,9 @@
 //! the rows (`Effects`), which logs are legal and what one call does at its point of a shared log
 //! (`History`). [`Machine`] is what keeps such a log; its contract is these definitions alone.
 //! The rows of blobs are those of `blob_rows`, which [`BlobRow`] is passed on from; [`allowed`]
-//! tells whether a pool gives a caller a permission. The crate has no body of a machine. It stands
-//! on `task_props` and `blob_rows`.
+//! tells whether a pool gives a caller a permission. [`due_uncounted`], [`answer_uncounted`] and
+//! [`task_uncounted`] ask a machine where nobody counts the rows that are read. The crate has no body
+//! of a machine. It stands on `task_props` and `blob_rows`.
 #![tactic(auto)]
 
 mod allowing;
@@ -17,6 +18,7 @@ mod bot_view;
 mod deadline;
 mod entry;
 mod machine;
+mod names;
 mod permission;
 mod pool_settings;
 mod pool_state;
@@ -29,6 +31,7 @@ mod steps;
 mod task_row;
 mod task_state;
 mod task_view;
+mod uncounted;
 mod weighing;
 
 pub use allowing::allowed;
@@ -40,6 +43,7 @@ pub use bot_view::BotView;
 pub use deadline::{Cause, Deadline};
 pub use entry::{Entry, EntryKind, EventKind, Outcome};
 pub use machine::{Machine, ReserveFault};
+pub use names::{fits_message, is_name};
 pub use permission::Permission;
 pub use pool_settings::{Grant, PoolSettings, Settings};
 pub use pool_state::PoolState;
@@ -50,6 +54,7 @@ pub use reuse::Reuse;
 pub use rule::{Rule, Unfit};
 pub use steps::Steps;
 pub use task_row::TaskRow;
-pub use task_state::TaskState;
+pub use task_state::{STATES, TaskState};
 pub use task_view::TaskView;
+pub use uncounted::{answer_uncounted, due_uncounted, task_uncounted};
 pub use weighing::weight;

@@ -1,5 +1,5 @@
 -- The steps have this name and these parts.
-use Rattle.pool_loading.proofs.uncounted.answer_uncounted.Given as goal
+use Rattle.swarm_model.proofs.uncounted.answer_uncounted.Given as goal
 
 abbrev pub ghosts-answer_by : goal.ghosts-answer_by
 ghosts-answer_by g a = record { name = a.blank.name; parts = a.blank.parts }

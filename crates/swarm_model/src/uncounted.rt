@@ -6,11 +6,11 @@ ghost use Rattle.swarm_model.specs.Deadlines.{due_entry};
 ghost use Rattle.swarm_model.specs.Finding.{task_of};
 ghost use Rattle.swarm_model.specs.Fits.{fits};
 
+use crate::{Answer, Entry, Machine, Request, Steps, TaskRow};
 use dimensions::Text;
 use std::alloc::AllocError;
 use std::marker::Brand;
 use std::sync::ledger::{Blank, Ledger};
-use swarm_model::{Answer, Entry, Machine, Request, Steps, TaskRow};
 
 fn due_by<M: Machine, L: Ledger>(machine: &M, moment: u64, pass: u32, blank: Blank) -> Option<Entry>
     requires name { blank.name ≡ L.name }
