@@ -4,7 +4,7 @@
 Usage: scripts/trusted_lines.py [--write] [--names]
 
 From the contracts of `run`, `session` and the traits that they are generic over, and from the laws
-of `swarm_laws` and `bot_core`, it follows each definition to those that it cites, through the specs/ of this
+of `pool_laws` and `bot_core`, it follows each definition to those that it cites, through the specs/ of this
 repository and of the kit, and to the types of src/. It prints each row of a table of docs/trusted.md
 that differs from the counts, each file that has no row, and each row that has no file, and ends
 with status 1 if there is one. With --write it puts the counts into the page; with --names it prints
@@ -26,7 +26,7 @@ HEADLINE = [
     ("Rattle.command_words.specs.Commands", "command_of"),
     ("Rattle.swarm_http.specs.Answered", "IsAnswered KeepsDoor"),
     ("Rattle.swarm_model.specs.Settings", "are_settings"),
-    ("Rattle.swarm_door.specs.Doors", "DoorState IsCall"),
+    ("Rattle.pool_doors.specs.Doors", "DoorState IsCall"),
     ("Rattle.sw_base.specs.Link", "LinkState IsClean Reads Writes Flushes"),
     ("Rattle.sw_base.specs.Clock", "HandsIn Waits"),
     ("Rattle.sw_base.specs.Acceptors", "AcceptorState Accepts Ends"),
@@ -38,7 +38,7 @@ HEADLINE = [
     ("Rattle.swarm_keeper.specs.Tables", "Tables Counts appended bytes_of"),
 ]
 # The traits whose contracts cite these.
-TRAITS = [("sw_base", "link", "Link"), ("sw_base", "clock", "Clock"), ("sw_base", "files", "Files"), ("sw_base", "acceptor", "Acceptor"), ("sw_base", "listener", "Listener"), ("sw_base", "dialer", "Dialer"), ("runners", "runner", "Runner"), ("swarm_keeper", "keeper", "Keeper"), ("swarm_keeper", "store", "Store"), ("swarm_door", "door", "Door")]
+TRAITS = [("sw_base", "link", "Link"), ("sw_base", "clock", "Clock"), ("sw_base", "files", "Files"), ("sw_base", "acceptor", "Acceptor"), ("sw_base", "listener", "Listener"), ("sw_base", "dialer", "Dialer"), ("runners", "runner", "Runner"), ("swarm_keeper", "keeper", "Keeper"), ("swarm_keeper", "store", "Store"), ("pool_doors", "door", "Door")]
 LAWS = [
     ("Rattle.swarm_model.specs.Claims", "ClaimsAreRight"),
     ("Rattle.swarm_model.specs.Verdicts", "VerdictsAreStates FinalsStay TallyCountsVerdicts TallyAddsUp"),

@@ -2,7 +2,7 @@
 ghost use Rattle.std.specs.Prelude.{◌≡◌, ◌∷◌, [], Some, None, true, false};
 ghost use Rattle.block_list.specs.Rising.{Removes};
 ghost use Rattle.dim_queue.specs.Order.{goes_first};
-ghost use Rattle.dim_queue.specs.QueueList.{candidate_of, earlier_of};
+ghost use Rattle.dim_queue.specs.QueueList.{first_match, earlier_of};
 ghost use Rattle.base_examples.specs.QueueExamples.{waiting, on_linux, linux_bot, mac_bot};
 
 /// The lower priority goes first, whatever the numbers, and at equal priorities the lower number.
@@ -16,8 +16,8 @@ pub fn the_lower_priority_goes_first()
 /// A bot gets the first task of a queue only where it has what the queue's tasks ask for, and of
 /// two such tasks the one that goes first.
 pub fn a_bot_gets_a_task_that_it_matches()
-    ensures fits { candidate_of linux_bot (on_linux (waiting 1 1 ∷ waiting 1 2 ∷ [])) ≡ Some (waiting 1 1) }
-    ensures other_bot { candidate_of mac_bot (on_linux (waiting 1 1 ∷ waiting 1 2 ∷ [])) ≡ None }
+    ensures fits { first_match linux_bot (on_linux (waiting 1 1 ∷ waiting 1 2 ∷ [])) ≡ Some (waiting 1 1) }
+    ensures other_bot { first_match mac_bot (on_linux (waiting 1 1 ∷ waiting 1 2 ∷ [])) ≡ None }
     ensures alone { earlier_of (Some (waiting 5 1)) None ≡ Some (waiting 5 1) }
     ensures behind { earlier_of (Some (waiting 1 1)) (Some (waiting 1 2)) ≡ Some (waiting 1 1) }
     ensures before { earlier_of (Some (waiting 1 2)) (Some (waiting 1 1)) ≡ Some (waiting 1 1) }

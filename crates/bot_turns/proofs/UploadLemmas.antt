@@ -7,14 +7,14 @@ use Rattle.bot_core.specs.declared.bot_event.BotEvent.{BotEvent}
 use Rattle.bot_requests.specs.declared.hands.Hands.{Hands}
 use Rattle.sw_base.specs.Dialers.{DialerState}
 use Rattle.bot_turns.proofs.SplitLemmas.{take_next, parts_at}
-use Rattle.bot_turns.specs.Outputs.{UploadsOutput, UploadsAll, UploadEnds, file_then, then_file}
+use Rattle.bot_turns.specs.Outputs.{UploadsOutput, UploadsAll, UploadEnds, with_optional_file, then_file}
 
-then_after : (f g : Option File) (files : List File) → then_file (file_then f files) g ≡ file_then f (then_file files g)
+then_after : (f g : Option File) (files : List File) → then_file (with_optional_file f files) g ≡ with_optional_file f (then_file files g)
 then_after None g files = refl
 then_after (Some x) None files = refl
 then_after (Some x) (Some y) files = refl
 
-then_none : (g : Option File) → then_file [] g ≡ file_then g []
+then_none : (g : Option File) → then_file [] g ≡ with_optional_file g []
 then_none None = refl
 then_none (Some y) = refl
 

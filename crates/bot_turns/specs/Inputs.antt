@@ -26,13 +26,13 @@ use Rattle.bot_turns.specs.ServerTurns.{AsksServer, OfRun}
 -- ---- one input
 
 -- a refusal after which the request may be sent again is told; after any other the run can't be prepared
-abbrev pub unfetched_number : ℕ → BotEvent
-unfetched_number number = if is_transient_number number then event.Refused number else event.RunnerFailed
+abbrev pub fetch_refusal : ℕ → BotEvent
+fetch_refusal number = if is_transient_number number then event.Refused number else event.RunnerFailed
 
 -- the event of an input that isn't fetched; None: there was no memory
 abbrev pub unfetched_event : Exchanged → Option BotEvent
 unfetched_event (exchanged.Told (told.Good place r bytes)) = Some event.RunnerFailed
-unfetched_event (exchanged.Told (told.No number code body)) = Some (unfetched_number number)
+unfetched_event (exchanged.Told (told.No number code body)) = Some (fetch_refusal number)
 unfetched_event exchanged.NoReply = Some event.Lost
 unfetched_event exchanged.Lost = Some event.Lost
 unfetched_event exchanged.Memory = None

@@ -63,9 +63,9 @@ pub record UploadsOutput (h : Hands) (path : List ℕ) (result : Result (Option 
 
 -- ---- all outputs
 
-abbrev pub file_then : Option File → List File → List File
-file_then None files = files
-file_then (Some file) files = file ∷ files
+abbrev pub with_optional_file : Option File → List File → List File
+with_optional_file None files = files
+with_optional_file (Some file) files = file ∷ files
 
 -- the files, and then one, where there is one
 abbrev pub then_file : List File → Option File → List File
@@ -80,7 +80,7 @@ pub record UploadsFirst (h : Hands) (path : List ℕ) (uploads_rest : List File 
   pub mid_runner : RunnerState
   pub uploads : UploadsOutput h path (Ok file) dialer mid_dialer runner mid_runner
   pub rest : uploads_rest others mid_dialer mid_runner
-  pub is : files ≡ file_then file others
+  pub is : files ≡ with_optional_file file others
 
 -- the outputs were collected and put, in order; these are their files
 abbrev pub UploadsAll : Hands → List (List ℕ) → List File → DialerState → DialerState → RunnerState → RunnerState → Type 0

@@ -11,7 +11,7 @@ use std::alloc::{AllocError, Global};
 use sw_base::StartFault;
 use task_props::Cache;
 
-// Takes out the caches that were used the longest ago, until both limits hold.
+/// Takes out the caches that were used the longest ago, until both limits hold.
 #[tactic(auto, using(crate::proofs::TrimLemmas::all_fit, crate::proofs::TrimLemmas::last_goes))]
 fn trim(table: &mut CacheTable)
     ensures { table.new ≡ trimmed table.old }
@@ -19,7 +19,7 @@ fn trim(table: &mut CacheTable)
     while table.trim_one().is_some() {}
 }
 
-fn give_back(
+fn return_cache(
     alloc: Global,
     table: &mut CacheTable,
     name: &Text,
@@ -34,7 +34,7 @@ fn give_back(
     Ok(())
 }
 
-fn give_all_back(
+fn return_caches(
     alloc: Global,
     table: &mut CacheTable,
     caches: &[Cache],
@@ -44,7 +44,7 @@ fn give_all_back(
     ensures { OnOk result (table.new ≡ with_caches caches.now sizes.now table.old) }
 {
     for at in 0..caches.len() {
-        give_back(alloc, table, &caches[at].name, sizes[at])?;
+        return_cache(alloc, table, &caches[at].name, sizes[at])?;
     }
     Ok(())
 }
@@ -68,9 +68,9 @@ fn cache_paths(alloc: Global, caches: &[Cache]) -> Result<Vec<CachePath>, AllocE
     Ok(paths)
 }
 
-// Has the runner remove the caches that left the table. One that it can't remove stays until the next
-// time.
-fn keep_table<R: Runner>(table: &CacheTable, runner: &mut R) -> Result<(), AllocError>
+/// Has the runner remove the caches that left the table. One that it can't remove stays until the next
+/// time.
+fn drop_trimmed<R: Runner>(table: &CacheTable, runner: &mut R) -> Result<(), AllocError>
     ensures { OnOk result (KeepsTable table.now (R.state runner.old) (R.state runner.new)) }
 {
     let names = table.names()?;
@@ -95,8 +95,8 @@ pub(crate) fn clean_up<R: Runner>(
     let paths = cache_paths(alloc, caches)?;
     match runner.clean(paths.as_slice()) {
         Ok(sizes) => {
-            give_all_back(alloc, &mut hands.caches, caches, sizes.as_slice())?;
-            keep_table(&hands.caches, runner)?;
+            return_caches(alloc, &mut hands.caches, caches, sizes.as_slice())?;
+            drop_trimmed(&hands.caches, runner)?;
             Ok(BotEvent::Cleaned)
         }
         Err(StartFault::Failed) => Ok(BotEvent::RunnerFailed),

@@ -20,7 +20,7 @@ fn run_id(alloc: Global, place: u32, task: u32, try_no: u32) -> Result<Text, All
     Ok(Text::from_string(format!(in alloc; "{number:x}{try_no:x}")?))
 }
 
-// The run that the pool gives goes into the hands.
+/// The run that the pool gives goes into the hands.
 fn take_claim(
     alloc: Global,
     hands: &mut Hands,

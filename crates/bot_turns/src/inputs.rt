@@ -3,7 +3,7 @@ ghost use Rattle.std.specs.Prelude.{◌≡◌, ◌↔◌, ◌++◌, ◌∷◌, [
 ghost use Rattle.swarm_model.specs.declared.reply.Reply.TheVariants as blob;
 ghost use Rattle.bot_turns.specs.Events.{is_transient_number as spec_is_transient_number};
 ghost use Rattle.bot_turns.specs.ServerTurns.{OfRun};
-ghost use Rattle.bot_turns.specs.Inputs.{unfetched_number as spec_unfetched_number, BytesOrEvent, FetchesFile, FetchesAll, FetchEnds, FetchesInputs, prepared_caches, without_caches, LaysOut, IsPrepareTurn};
+ghost use Rattle.bot_turns.specs.Inputs.{fetch_refusal as spec_unfetched_number, BytesOrEvent, FetchesFile, FetchesAll, FetchEnds, FetchesInputs, prepared_caches, without_caches, LaysOut, IsPrepareTurn};
 
 use bot_core::BotEvent;
 use bot_requests::{Hands, get_blob_request};
@@ -23,7 +23,7 @@ fn is_transient_number(number: u32) -> bool
     number == 26 || number == 28 || number == 29
 }
 
-fn unfetched_number(number: u32) -> BotEvent
+fn fetch_refusal(number: u32) -> BotEvent
     ensures { result ≡ spec_unfetched_number number }
 {
     if is_transient_number(number) {
@@ -42,7 +42,7 @@ fn is_blob_of(reply: &Reply, file: &File) -> bool
     }
 }
 
-// The bytes of a file, where its blob came.
+/// The bytes of a file, where its blob came.
 fn bytes_of(file: &File, exchanged: Exchanged) -> Result<Result<Seq<u8>, BotEvent>, AllocError>
     ensures { IfOk result (λ r. BytesOrEvent file.now exchanged r) }
 {
@@ -54,7 +54,7 @@ fn bytes_of(file: &File, exchanged: Exchanged) -> Result<Result<Seq<u8>, BotEven
                 Ok(Err(BotEvent::RunnerFailed))
             }
         }
-        Exchanged::Told(Told::No { number, .. }) => Ok(Err(unfetched_number(number))),
+        Exchanged::Told(Told::No { number, .. }) => Ok(Err(fetch_refusal(number))),
         Exchanged::NoReply | Exchanged::Lost => Ok(Err(BotEvent::Lost)),
         Exchanged::Memory => Err(AllocError),
     }
@@ -86,7 +86,7 @@ fn push_input(
     Ok(())
 }
 
-// The files with their paths, or the event of the first that isn't fetched.
+/// The files with their paths, or the event of the first that isn't fetched.
 #[tactic(auto, using(crate::proofs::FetchLemmas::fetched_at, crate::proofs::FetchLemmas::ended_at))]
 fn fetch_all<W: Dialer>(
     alloc: Global,
@@ -120,7 +120,7 @@ fn fetch_inputs<W: Dialer>(
     fetch_all(alloc, hands, dialer, properties.inputs.as_slice())
 }
 
-// Takes the caches of a run out of the table, where they are there.
+/// Takes the caches of a run out of the table, where they are there.
 fn take_caches(
     alloc: Global,
     table: &mut CacheTable,
@@ -143,8 +143,8 @@ fn take_caches(
     Ok(prepared)
 }
 
-// Has the runner lay out the run.
-fn lay_out<R: Runner>(
+/// Has the runner lay out the run.
+fn prepare_folder<R: Runner>(
     alloc: Global,
     hands: &mut Hands,
     runner: &mut R,
@@ -174,7 +174,7 @@ pub(crate) fn prepare_run<W: Dialer, R: Runner>(
     ensures { IfOk result (λ e. IsPrepareTurn hands.old e (W.state dialer.old) (W.state dialer.new) (R.state runner.old) (R.state runner.new) hands.new) }
 {
     match fetch_inputs(alloc, hands, dialer)? {
-        Ok(inputs) => lay_out(alloc, hands, runner, inputs.as_slice()),
+        Ok(inputs) => prepare_folder(alloc, hands, runner, inputs.as_slice()),
         Err(event) => Ok(event),
     }
 }

@@ -57,7 +57,7 @@ fn put_bytes<W: Dialer>(
     put_result(&exchanged).ok_or(AllocError)
 }
 
-// The file of an output, where it can be collected.
+/// The file of an output, where it can be collected.
 fn upload_output<W: Dialer, R: Runner>(
     alloc: Global,
     hands: &Hands,
@@ -93,7 +93,7 @@ fn push_file(files: &mut Seq<File>, file: Option<File>) -> Result<(), AllocError
     Ok(())
 }
 
-// The files of outputs, and the event that ended the upload, where one did.
+/// The files of outputs, and the event that ended the upload, where one did.
 #[tactic(auto, using(crate::proofs::UploadLemmas::uploaded_at, crate::proofs::UploadLemmas::ended_at))]
 fn upload_all<W: Dialer, R: Runner>(
     alloc: Global,

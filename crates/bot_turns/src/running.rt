@@ -13,7 +13,7 @@ use runners::Runner;
 use std::alloc::{AllocError, Global};
 use sw_base::{Clock, Dialer};
 
-// Carries out one action, and answers the next.
+/// Carries out one action, and answers the next.
 #[tactic(auto, using(crate::proofs::RunLemmas::can_act_on))]
 fn take_turn<C: Clock, W: Dialer, R: Runner>(
     alloc: Global,

@@ -9,7 +9,7 @@ use Rattle.dimensions.specs.Matching.{matches}
 use Rattle.dim_queue.specs.declared.waiting.Waiting.{Waiting}
 use Rattle.dim_queue.specs.Order.{goes_first, IsInOrder}
 use Rattle.dim_queue.specs.Plain.{QueueState, queue_at}
-use Rattle.dim_queue.specs.QueueList.{IsFirstOf, MayTake, IsCandidate, MayTakeFrom, candidate_of, earlier_of}
+use Rattle.dim_queue.specs.QueueList.{IsFirstOf, MayTake, IsCandidate, MayTakeFrom, first_match, earlier_of}
 use Rattle.dim_queue.proofs.Order.{strict, not_chain, one_way}
 
 module _ (P Q R : Waiting → Type 0) (split : (w : Waiting) → R w → P w ⊎ Q w) (of_left : (w : Waiting) → P w → R w) (of_right : (w : Waiting) → Q w → R w) where
@@ -33,7 +33,7 @@ first_taken : (bot : BotDims) (dims : DimSet) (tasks : List Waiting) → IsInOrd
 first_taken bot dims [] order fits = candidate_none bot dims [] refl
 first_taken bot dims (w ∷ ws) order fits = candidate_some bot dims (w ∷ ws) w order fits (omega arith) refl
 
-pub candidate_is : (bot : BotDims) (queue : QueueState) → IsInOrder queue.tasks → IsCandidate bot queue.dims queue.tasks (candidate_of bot queue)
+pub candidate_is : (bot : BotDims) (queue : QueueState) → IsInOrder queue.tasks → IsCandidate bot queue.dims queue.tasks (first_match bot queue)
 candidate_is bot queue order =
     cond_both (matches bot queue.dims) (slice_get queue.tasks 0) None (λ (x : Option Waiting). IsCandidate bot queue.dims queue.tasks x)
     (λ t. first_taken bot queue.dims queue.tasks order t)

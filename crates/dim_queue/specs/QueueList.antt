@@ -36,8 +36,8 @@ pub record MayTakeFrom (bot : BotDims) (queues : List QueueState) (count : ℕ) 
   pub takes : MayTake bot (queue_at queues place).dims (queue_at queues place).tasks w
 
 -- the first task of a queue, where the bot may take it
-abbrev pub candidate_of : BotDims → QueueState → Option Waiting
-candidate_of bot queue = if matches bot queue.dims then slice_get queue.tasks 0 else None
+abbrev pub first_match : BotDims → QueueState → Option Waiting
+first_match bot queue = if matches bot queue.dims then slice_get queue.tasks 0 else None
 
 -- of two tasks the one that goes first, where both are there
 abbrev pub earlier_of : Option Waiting → Option Waiting → Option Waiting

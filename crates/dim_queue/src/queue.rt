@@ -3,7 +3,7 @@ ghost use Rattle.std.specs.List.{Contains};
 ghost use Rattle.dim_queue.specs.declared.waiting.Waiting.{Waiting};
 ghost use Rattle.block_list.specs.Rising.{Adds, Removes};
 ghost use Rattle.dim_queue.specs.Order.{IsInOrder};
-ghost use Rattle.dim_queue.specs.QueueList.{state_of, room_of, candidate_of, earlier_of};
+ghost use Rattle.dim_queue.specs.QueueList.{state_of, room_of, first_match, earlier_of};
 
 use crate::task_order::{goes_first, precedes};
 use crate::waiting::Waiting;
@@ -81,8 +81,8 @@ impl Queue {
 
     /// The earlier of `best` and the first task here, where a bot of these dimensions may take
     /// it. Only where the first task goes before `best` are the dimensions matched.
-    pub fn earlier(&self, best: Option<Waiting>, bot: &BotDims) -> Option<Waiting>
-        ensures { result ≡ earlier_of best (candidate_of bot.now (state_of self.now)) }
+    pub fn earlier_match(&self, best: Option<Waiting>, bot: &BotDims) -> Option<Waiting>
+        ensures { result ≡ earlier_of best (first_match bot.now (state_of self.now)) }
     {
         match self.tasks.first() {
             Some(first) if precedes(*first, best) && self.dims.matches(bot) => Some(*first),

@@ -18,7 +18,7 @@ pub(crate) fn first_for(queues: &[Queue], bot: &BotDims) -> Option<Waiting>
 {
     let mut best = None;
     for at in 0..queues.len() {
-        best = queues[at].earlier(best, bot);
+        best = queues[at].earlier_match(best, bot);
     }
     best
 }
@@ -47,7 +47,7 @@ fn find_empty(queues: &[Queue]) -> Option<usize>
     None
 }
 
-fn add_to(queues: &mut [Queue], at: usize, waiting: Waiting)
+fn push_waiting_at(queues: &mut [Queue], at: usize, waiting: Waiting)
     requires room { 0 < slice_index (map room_of queues.old) at }
     requires order { AreInOrder (map state_of queues.old) }
     requires new { (w : Waiting) → Contains (queue_at (map state_of queues.old) at).tasks w → w ≢ waiting }
@@ -72,7 +72,7 @@ fn remove_from(queues: &mut [Queue], at: usize, waiting: Waiting)
 }
 
 /// Adds a task to the queue at the place, which has room for it.
-pub(crate) fn add_in(queues: &mut Vec<Queue>, at: usize, waiting: Waiting)
+pub(crate) fn push_waiting(queues: &mut Vec<Queue>, at: usize, waiting: Waiting)
     requires room { 0 < slice_index (map room_of queues.old.items) at }
     requires order { AreInOrder (map state_of queues.old.items) }
     requires new { (w : Waiting) → Contains (queue_at (map state_of queues.old.items) at).tasks w → w ≢ waiting }
@@ -81,7 +81,7 @@ pub(crate) fn add_in(queues: &mut Vec<Queue>, at: usize, waiting: Waiting)
     ensures adds { Adds waiting (queue_at (map state_of queues.old.items) at).tasks (queue_at (map state_of queues.new.items) at).tasks }
     ensures count { length queues.new.items ≡ length queues.old.items }
 {
-    add_to(queues.as_mut_slice(), at, waiting);
+    push_waiting_at(queues.as_mut_slice(), at, waiting);
 }
 
 /// Removes a task from the queue at the place.
@@ -163,7 +163,7 @@ fn append(alloc: Global, queues: &mut Vec<Queue>, dims: &DimSet) -> Result<usize
 }
 
 /// A queue for a set of dimensions that no queue has: one without tasks, or else a new one.
-fn assign(alloc: Global, queues: &mut Vec<Queue>, dims: &DimSet) -> Result<usize, AllocError>
+fn queue_for(alloc: Global, queues: &mut Vec<Queue>, dims: &DimSet) -> Result<usize, AllocError>
     requires apart { AreApart (map state_of queues.old.items) }
     requires lack { LackSet dims.now (map state_of queues.old.items) (length queues.old.items) }
     ensures room { IfOk result (λ at. 0 < slice_index (map room_of queues.new.items) at) }
@@ -199,7 +199,7 @@ fn find_or_assign(
             make_room_in(queues, at)?;
             Ok(at)
         }
-        None => assign(alloc, queues, dims),
+        None => queue_for(alloc, queues, dims),
     }
 }
 

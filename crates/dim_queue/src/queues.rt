@@ -3,7 +3,7 @@ ghost use Rattle.dim_queue.specs.Plain.{SameWaits, AreApart, ReusesEmpty, Enters
 
 use crate::places::{Place, insert_reserved, remove_place, reserve_place};
 use crate::queue::Queue;
-use crate::queue_list::{add_in, first_for, remove_in, reserve_for};
+use crate::queue_list::{first_for, push_waiting, remove_in, reserve_for};
 use crate::waiting::Waiting;
 use dimensions::{BotDims, DimSet};
 use std::alloc::{AllocError, Global};
@@ -93,7 +93,7 @@ impl Queues {
                     priority,
                     number: no,
                 };
-                add_in(&mut self.queues, at as usize, waiting);
+                push_waiting(&mut self.queues, at as usize, waiting);
             }
         }
     }

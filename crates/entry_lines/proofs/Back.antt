@@ -9,16 +9,16 @@ use Rattle.dimensions.specs.Alike.{same}
 use Rattle.swarm_model.specs.declared.entry.Entry.{Entry}
 use Rattle.entry_lines.specs.Finding.{◌>>=◌}
 use Rattle.entry_lines.specs.Kinds.{entry_data, entry_in, HoldsEntry}
-use Rattle.entry_lines.proofs.KindLaws.{entry_back, entry_plain, entry_shallow}
-use Rattle.entry_lines.specs.Lines.{line, if_line, entry_of_line, LinesTell, LinesReadBack}
+use Rattle.entry_lines.proofs.KindLaws.{entry_reads_back, entry_has_no_float, entry_is_shallow}
+use Rattle.entry_lines.specs.Lines.{line, if_line, entry_of_line, LinesAreDistinct, LinesReadBack}
 use Rattle.entry_lines.proofs.ReadTexts.{read-compact_text}
 use Rattle.entry_lines.proofs.ReadKinds.{entry_reads}
 
 pub is_plain : (e : Entry) → has_float (entry_data e) ≡ false
-is_plain e = entry_plain e.moment e.pass e.kind
+is_plain e = entry_has_no_float e.moment e.pass e.kind
 
 is_shallow : (e : Entry) → depth (entry_data e) ≤ max_depth
-is_shallow e = omega (arith, entry_shallow e.moment e.pass e.kind)
+is_shallow e = omega (arith, entry_is_shallow e.moment e.pass e.kind)
 
 same_self : (text : List ℕ) → same text text ≡ true
 same_self text = (bytes_decides text text).1 refl
@@ -30,7 +30,7 @@ read-line e h = read-compact_text (entry_data e) (entry_reads e h) (is_shallow e
 -- of the line of an entry that entry is read
 pub lines_read_back : LinesReadBack
 unfolding entry_of_line
-lines_read_back e h = rw (read-line e h, entry_back e h, same_self (line e)) refl
+lines_read_back e h = rw (read-line e h, entry_reads_back e h, same_self (line e)) refl
 
 pub text_reads_back : (e : Entry) → HoldsEntry e → (text : List ℕ) → text ≡ line e → entry_of_line text ≡ Some e
 text_reads_back e h text is = ap entry_of_line is ∙ lines_read_back e h
@@ -40,9 +40,9 @@ bind_some None f y e = absurd (cc)
 bind_some (Some x) f y e = (x, refl, e)
 
 -- a text of which an entry is read is the line of that entry
-pub lines_tell : LinesTell
+pub lines_are_distinct : LinesAreDistinct
 unfolding entry_of_line
-lines_tell text e h =
+lines_are_distinct text e h =
     let value = bind_some (read text) _ e h in
     let entry = bind_some (entry_in value.0) (if_line text) e value.2 in
     let found = cond_some (same (line entry.0) text) entry.0 e entry.2 in
@@ -52,5 +52,5 @@ lines_tell text e h =
 pub lines_decide : (e : Entry) (text t : List ℕ) → entry_of_line t ≡ Some e → Decides (same t text) (entry_of_line text ≡ Some e)
 lines_decide e text t back = (
   λ h. ap entry_of_line (sym ((bytes_decides t text).0 h)) ∙ back,
-  λ h. (bytes_decides t text).1 (sym (lines_tell t e back) ∙ lines_tell text e h),
+  λ h. (bytes_decides t text).1 (sym (lines_are_distinct t e back) ∙ lines_are_distinct text e h),
 )

@@ -13,66 +13,66 @@ use Rattle.swarm_model.specs.declared.entry.Entry.{Entry}
 use Rattle.swarm_model.specs.declared.entry.EntryKind.{EntryKind}
 use Rattle.swarm_model.specs.declared.entry.EntryKind.TheVariants as kind
 use Rattle.entry_lines.specs.Finding.{field, whole, number_in}
-use Rattle.entry_lines.specs.Lists.{list_data, or_null, null_or, HoldsOption, option_back, option_plain, option_shallow}
-use Rattle.entry_lines.specs.Names.{state_back, event_back}
-use Rattle.entry_lines.specs.Numbers.{number_back, digest_back}
+use Rattle.entry_lines.specs.Lists.{list_data, or_null, null_or, HoldsOption, option_reads_back, option_has_no_float, option_is_shallow}
+use Rattle.entry_lines.specs.Names.{state_reads_back, event_reads_back}
+use Rattle.entry_lines.specs.Numbers.{number_reads_back, digest_reads_back}
 use Rattle.entry_lines.specs.Parts.{word_in, IsWord, values_data, dims_in, chunk_data, chunk_in, HoldsChunk, last_data, last_in, HoldsLast}
-use Rattle.entry_lines.specs.PartLaws.{dims_back, dims_plain, dims_shallow, chunk_back, chunk_shallow, last_back, last_never_null, last_plain, last_shallow, outcome_back, outcome_plain, outcome_shallow}
-use Rattle.entry_lines.specs.Tasks.{request_data, request_in, request_back, request_plain, request_shallow, uuid_of, uuid_back}
-use Rattle.entry_lines.specs.Kinds.{kind_name, entry_data, HoldsKind, HoldsEntry, slice_kind_in, blob_kind_in, new_kind_in, handshake_kind_in, poll_kind_in, claim_kind_in, event_kind_in, update_kind_in, put_kind_in, numbered_kind_in, kind_in, entry_in}
+use Rattle.entry_lines.specs.PartLaws.{dims_reads_back, dims_has_no_float, dims_is_shallow, chunk_reads_back, chunk_is_shallow, last_reads_back, last_never_null, last_has_no_float, last_is_shallow, outcome_reads_back, outcome_has_no_float, outcome_is_shallow}
+use Rattle.entry_lines.specs.Tasks.{request_data, request_in, request_reads_back, request_has_no_float, request_is_shallow, uuid_of, uuid_reads_back}
+use Rattle.entry_lines.specs.Kinds.{kind_name, entry_data, KindFits, HoldsEntry, slice_kind_in, blob_kind_in, new_kind_in, handshake_kind_in, poll_kind_in, claim_kind_in, event_kind_in, update_kind_in, put_kind_in, numbered_kind_in, kind_in, entry_in}
 
-word_back : (n : ℕ) → IsWord n → word_in (whole n) ≡ Some n
-word_back n h = number_back (2 ^ 32) n h
+word_reads_back : (n : ℕ) → IsWord n → word_in (whole n) ≡ Some n
+word_reads_back n h = number_reads_back (2 ^ 32) n h
 
-number_or_null_back : (o : Option ℕ) → HoldsOption IsWord o → null_or word_in (or_null whole o) ≡ Some o
-number_or_null_back o h = option_back whole word_in IsWord (λ _. refl) word_back o h
+number_or_null_reads_back : (o : Option ℕ) → HoldsOption IsWord o → null_or word_in (or_null whole o) ≡ Some o
+number_or_null_reads_back o h = option_reads_back whole word_in IsWord (λ _. refl) word_reads_back o h
 
-text_or_null_back : (o : Option Text) → null_or as_str (or_null string o) ≡ Some o
-text_or_null_back None = refl
-text_or_null_back (Some t) = refl
+text_or_null_reads_back : (o : Option Text) → null_or as_str (or_null string o) ≡ Some o
+text_or_null_reads_back None = refl
+text_or_null_reads_back (Some t) = refl
 
-dims_or_null_back : (o : Option BotDims) → null_or dims_in (or_null (list_data values_data) o) ≡ Some o
-dims_or_null_back None = refl
-dims_or_null_back (Some dims) = rw (dims_back dims tt) refl
+dims_or_null_reads_back : (o : Option BotDims) → null_or dims_in (or_null (list_data values_data) o) ≡ Some o
+dims_or_null_reads_back None = refl
+dims_or_null_reads_back (Some dims) = rw (dims_reads_back dims tt) refl
 
-chunk_or_null_back : (o : Option Chunk) → HoldsOption HoldsChunk o → null_or chunk_in (or_null chunk_data o) ≡ Some o
-chunk_or_null_back o h = option_back chunk_data chunk_in HoldsChunk (λ _. refl) chunk_back o h
+chunk_or_null_reads_back : (o : Option Chunk) → HoldsOption HoldsChunk o → null_or chunk_in (or_null chunk_data o) ≡ Some o
+chunk_or_null_reads_back o h = option_reads_back chunk_data chunk_in HoldsChunk (λ _. refl) chunk_reads_back o h
 
-last_or_null_back : (o : Option Last) → HoldsOption HoldsLast o → null_or last_in (or_null last_data o) ≡ Some o
-last_or_null_back o h = option_back last_data last_in HoldsLast last_never_null last_back o h
+last_or_null_reads_back : (o : Option Last) → HoldsOption HoldsLast o → null_or last_in (or_null last_data o) ≡ Some o
+last_or_null_reads_back o h = option_reads_back last_data last_in HoldsLast last_never_null last_reads_back o h
 
 -- the request with the uuid that was written beside it
 request_of_uuid : (request : NewTask) → request_in (unwrap_or (uuid_of request.request_uuid) []) (request_data request) ≡ request_in request.request_uuid (request_data request)
-request_of_uuid request = ap (λ uuid. request_in uuid (request_data request)) (uuid_back request.request_uuid)
+request_of_uuid request = ap (λ uuid. request_in uuid (request_data request)) (uuid_reads_back request.request_uuid)
 
 -- each kind, written with this moment and this pass
-kind_back : (m p : ℕ) (k : EntryKind) → HoldsKind k → kind_in (kind_name k) (entry_data (record { moment = m; pass = p; kind = k })) ≡ Some k
+kind_reads_back : (m p : ℕ) (k : EntryKind) → KindFits k → kind_in (kind_name k) (entry_data (record { moment = m; pass = p; kind = k })) ≡ Some k
 unfolding entry_data kind_in numbered_kind_in slice_kind_in blob_kind_in new_kind_in handshake_kind_in poll_kind_in claim_kind_in event_kind_in update_kind_in put_kind_in
-kind_back m p (kind.Slice t to) h = rw (word_back t h.0, outcome_back to h.1) refl
-kind_back m p (kind.Silence t) h = rw (word_back t h) refl
-kind_back m p (kind.Dead b) h = rw (word_back b h) refl
-kind_back m p (kind.Blob n kept) h = rw (word_back n h) refl
-kind_back m p (kind.New t who request state slice from) h =
+kind_reads_back m p (kind.Slice t to) h = rw (word_reads_back t h.0, outcome_reads_back to h.1) refl
+kind_reads_back m p (kind.Silence t) h = rw (word_reads_back t h) refl
+kind_reads_back m p (kind.Dead b) h = rw (word_reads_back b h) refl
+kind_reads_back m p (kind.Blob n kept) h = rw (word_reads_back n h) refl
+kind_reads_back m p (kind.New t who request state slice from) h =
     rw (
-      number_or_null_back from h.0,
-      text_or_null_back (uuid_of request.request_uuid),
+      number_or_null_reads_back from h.0,
+      text_or_null_reads_back (uuid_of request.request_uuid),
       request_of_uuid request,
-      request_back request h.1,
-      word_back slice h.2,
-      state_back state,
-      word_back t h.3,
+      request_reads_back request h.1,
+      word_reads_back slice h.2,
+      state_reads_back state,
+      word_reads_back t h.3,
     ) refl
-kind_back m p (kind.Cancel t) h = rw (word_back t h) refl
-kind_back m p (kind.Kill t) h = rw (word_back t h) refl
-kind_back m p (kind.Handshake b id session dims q) h = rw (word_back b h, dims_back dims tt) refl
-kind_back m p (kind.Poll b dims q hint) h = rw (word_back b h, dims_or_null_back dims, text_or_null_back q) refl
-kind_back m p (kind.Claim b t claim) h = rw (word_back b h.0, word_back t h.1) refl
-kind_back m p (kind.Contact b) h = rw (word_back b h) refl
-kind_back m p (kind.Event b e text) h = rw (word_back b h, event_back e) refl
-kind_back m p (kind.Update b t try_no chunk last) h =
-    rw (word_back b h.0, chunk_or_null_back chunk h.1, last_or_null_back last h.2, word_back t h.3, word_back try_no h.4) refl
-kind_back m p (kind.Terminate b) h = rw (word_back b h) refl
-kind_back m p (kind.Put digest size) h = rw (digest_back digest h.0, word_back size h.1) refl
+kind_reads_back m p (kind.Cancel t) h = rw (word_reads_back t h) refl
+kind_reads_back m p (kind.Kill t) h = rw (word_reads_back t h) refl
+kind_reads_back m p (kind.Handshake b id session dims q) h = rw (word_reads_back b h, dims_reads_back dims tt) refl
+kind_reads_back m p (kind.Poll b dims q hint) h = rw (word_reads_back b h, dims_or_null_reads_back dims, text_or_null_reads_back q) refl
+kind_reads_back m p (kind.Claim b t claim) h = rw (word_reads_back b h.0, word_reads_back t h.1) refl
+kind_reads_back m p (kind.Contact b) h = rw (word_reads_back b h) refl
+kind_reads_back m p (kind.Event b e text) h = rw (word_reads_back b h, event_reads_back e) refl
+kind_reads_back m p (kind.Update b t try_no chunk last) h =
+    rw (word_reads_back b h.0, chunk_or_null_reads_back chunk h.1, last_or_null_reads_back last h.2, word_reads_back t h.3, word_reads_back try_no h.4) refl
+kind_reads_back m p (kind.Terminate b) h = rw (word_reads_back b h) refl
+kind_reads_back m p (kind.Put digest size) h = rw (digest_reads_back digest h.0, word_reads_back size h.1) refl
 
 -- the members that every entry has
 record HasCommonMembers (d : Data) (m p : ℕ) (k : EntryKind) : Type 0 where
@@ -98,57 +98,57 @@ common_members m p (kind.Update b t try_no chunk last) = record { name = refl; m
 common_members m p (kind.Terminate b) = record { name = refl; moment = refl; pass = refl }
 common_members m p (kind.Put digest size) = record { name = refl; moment = refl; pass = refl }
 
-pub entry_back : (e : Entry) → HoldsEntry e → entry_in (entry_data e) ≡ Some e
+pub entry_reads_back : (e : Entry) → HoldsEntry e → entry_in (entry_data e) ≡ Some e
 unfolding entry_in
-entry_back e h =
+entry_reads_back e h =
     let common = common_members e.moment e.pass e.kind in
-    rw (common.name, common.moment ∙ number_back (2 ^ 64) e.moment h.0, common.pass ∙ word_back e.pass h.1, kind_back e.moment e.pass e.kind h.2) refl
+    rw (common.name, common.moment ∙ number_reads_back (2 ^ 64) e.moment h.0, common.pass ∙ word_reads_back e.pass h.1, kind_reads_back e.moment e.pass e.kind h.2) refl
 
 -- ---- no floats, and few levels
 
-dims_or_null_plain : (o : Option BotDims) → has_float (or_null (list_data values_data) o) ≡ false
-dims_or_null_plain o = option_plain (list_data values_data) dims_plain o
+dims_or_null_has_no_float : (o : Option BotDims) → has_float (or_null (list_data values_data) o) ≡ false
+dims_or_null_has_no_float o = option_has_no_float (list_data values_data) dims_has_no_float o
 
-text_or_null_plain : (o : Option Text) → has_float (or_null string o) ≡ false
-text_or_null_plain o = option_plain string (λ _. refl) o
+text_or_null_has_no_float : (o : Option Text) → has_float (or_null string o) ≡ false
+text_or_null_has_no_float o = option_has_no_float string (λ _. refl) o
 
-pub entry_plain : (m p : ℕ) (k : EntryKind) → has_float (entry_data (record { moment = m; pass = p; kind = k })) ≡ false
+pub entry_has_no_float : (m p : ℕ) (k : EntryKind) → has_float (entry_data (record { moment = m; pass = p; kind = k })) ≡ false
 unfolding entry_data
-entry_plain m p (kind.Slice t to) = rw (outcome_plain to) refl
-entry_plain m p (kind.New t who request state slice from) =
-    rw (option_plain whole (λ _. refl) from, request_plain request, text_or_null_plain (uuid_of request.request_uuid)) refl
-entry_plain m p (kind.Handshake b id session dims q) = rw (dims_plain dims) refl
-entry_plain m p (kind.Poll b dims q hint) = rw (dims_or_null_plain dims, text_or_null_plain q) refl
-entry_plain m p (kind.Update b t try_no chunk last) = rw (option_plain chunk_data (λ _. refl) chunk, option_plain last_data last_plain last) refl
-entry_plain m p (kind.Silence t) = refl
-entry_plain m p (kind.Dead b) = refl
-entry_plain m p (kind.Blob n kept) = refl
-entry_plain m p (kind.Cancel t) = refl
-entry_plain m p (kind.Kill t) = refl
-entry_plain m p (kind.Claim b t claim) = refl
-entry_plain m p (kind.Contact b) = refl
-entry_plain m p (kind.Event b e text) = refl
-entry_plain m p (kind.Terminate b) = refl
-entry_plain m p (kind.Put digest size) = refl
+entry_has_no_float m p (kind.Slice t to) = rw (outcome_has_no_float to) refl
+entry_has_no_float m p (kind.New t who request state slice from) =
+    rw (option_has_no_float whole (λ _. refl) from, request_has_no_float request, text_or_null_has_no_float (uuid_of request.request_uuid)) refl
+entry_has_no_float m p (kind.Handshake b id session dims q) = rw (dims_has_no_float dims) refl
+entry_has_no_float m p (kind.Poll b dims q hint) = rw (dims_or_null_has_no_float dims, text_or_null_has_no_float q) refl
+entry_has_no_float m p (kind.Update b t try_no chunk last) = rw (option_has_no_float chunk_data (λ _. refl) chunk, option_has_no_float last_data last_has_no_float last) refl
+entry_has_no_float m p (kind.Silence t) = refl
+entry_has_no_float m p (kind.Dead b) = refl
+entry_has_no_float m p (kind.Blob n kept) = refl
+entry_has_no_float m p (kind.Cancel t) = refl
+entry_has_no_float m p (kind.Kill t) = refl
+entry_has_no_float m p (kind.Claim b t claim) = refl
+entry_has_no_float m p (kind.Contact b) = refl
+entry_has_no_float m p (kind.Event b e text) = refl
+entry_has_no_float m p (kind.Terminate b) = refl
+entry_has_no_float m p (kind.Put digest size) = refl
 
-text_or_null_shallow : (o : Option Text) → depth (or_null string o) ≤ 0
-text_or_null_shallow o = option_shallow string 0 (λ _. omega arith) o
+text_or_null_is_shallow : (o : Option Text) → depth (or_null string o) ≤ 0
+text_or_null_is_shallow o = option_is_shallow string 0 (λ _. omega arith) o
 
-pub entry_shallow : (m p : ℕ) (k : EntryKind) → depth (entry_data (record { moment = m; pass = p; kind = k })) ≤ 7
+pub entry_is_shallow : (m p : ℕ) (k : EntryKind) → depth (entry_data (record { moment = m; pass = p; kind = k })) ≤ 7
 unfolding entry_data
-entry_shallow m p (kind.Slice t to) = omega (arith, outcome_shallow to)
-entry_shallow m p (kind.New t who request state slice from) =
-    omega (arith, option_shallow whole 0 (λ _. omega arith) from, request_shallow request, text_or_null_shallow (uuid_of request.request_uuid))
-entry_shallow m p (kind.Handshake b id session dims q) = omega (arith, dims_shallow dims)
-entry_shallow m p (kind.Poll b dims q hint) = omega (arith, option_shallow (list_data values_data) 3 dims_shallow dims, text_or_null_shallow q)
-entry_shallow m p (kind.Update b t try_no chunk last) = omega (arith, option_shallow chunk_data 1 chunk_shallow chunk, option_shallow last_data 3 last_shallow last)
-entry_shallow m p (kind.Silence t) = omega arith
-entry_shallow m p (kind.Dead b) = omega arith
-entry_shallow m p (kind.Blob n kept) = omega arith
-entry_shallow m p (kind.Cancel t) = omega arith
-entry_shallow m p (kind.Kill t) = omega arith
-entry_shallow m p (kind.Claim b t claim) = omega arith
-entry_shallow m p (kind.Contact b) = omega arith
-entry_shallow m p (kind.Event b e text) = omega arith
-entry_shallow m p (kind.Terminate b) = omega arith
-entry_shallow m p (kind.Put digest size) = omega arith
+entry_is_shallow m p (kind.Slice t to) = omega (arith, outcome_is_shallow to)
+entry_is_shallow m p (kind.New t who request state slice from) =
+    omega (arith, option_is_shallow whole 0 (λ _. omega arith) from, request_is_shallow request, text_or_null_is_shallow (uuid_of request.request_uuid))
+entry_is_shallow m p (kind.Handshake b id session dims q) = omega (arith, dims_is_shallow dims)
+entry_is_shallow m p (kind.Poll b dims q hint) = omega (arith, option_is_shallow (list_data values_data) 3 dims_is_shallow dims, text_or_null_is_shallow q)
+entry_is_shallow m p (kind.Update b t try_no chunk last) = omega (arith, option_is_shallow chunk_data 1 chunk_is_shallow chunk, option_is_shallow last_data 3 last_is_shallow last)
+entry_is_shallow m p (kind.Silence t) = omega arith
+entry_is_shallow m p (kind.Dead b) = omega arith
+entry_is_shallow m p (kind.Blob n kept) = omega arith
+entry_is_shallow m p (kind.Cancel t) = omega arith
+entry_is_shallow m p (kind.Kill t) = omega arith
+entry_is_shallow m p (kind.Claim b t claim) = omega arith
+entry_is_shallow m p (kind.Contact b) = omega arith
+entry_is_shallow m p (kind.Event b e text) = omega arith
+entry_is_shallow m p (kind.Terminate b) = omega arith
+entry_is_shallow m p (kind.Put digest size) = omega arith

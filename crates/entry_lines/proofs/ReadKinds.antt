@@ -7,7 +7,7 @@ use Rattle.swarm_model.specs.declared.entry.Entry.{Entry}
 use Rattle.swarm_model.specs.declared.entry.EntryKind.{EntryKind}
 use Rattle.swarm_model.specs.declared.entry.EntryKind.TheVariants as kind
 use Rattle.entry_lines.specs.Finding.{whole}
-use Rattle.entry_lines.specs.Kinds.{entry_data, HoldsKind, HoldsEntry}
+use Rattle.entry_lines.specs.Kinds.{entry_data, KindFits, HoldsEntry}
 use Rattle.entry_lines.specs.Lists.{list_data, or_null}
 use Rattle.entry_lines.specs.Parts.{IsWord, values_data, chunk_data, HoldsChunk, last_data, HoldsLast}
 use Rattle.entry_lines.specs.Tasks.{uuid_of}
@@ -23,7 +23,7 @@ dims_or_null_read None = record { value = refl; numbers = tt }
 dims_or_null_read (Some dims) = dims_read dims
 
 -- each kind, written with this moment and this pass
-kind_reads : (m p : ℕ) (k : EntryKind) → ReadsBack (whole m) → ReadsBack (whole p) → HoldsKind k → ReadsBack (entry_data (record { moment = m; pass = p; kind = k }))
+kind_reads : (m p : ℕ) (k : EntryKind) → ReadsBack (whole m) → ReadsBack (whole p) → KindFits k → ReadsBack (entry_data (record { moment = m; pass = p; kind = k }))
 unfolding entry_data
 kind_reads m p (kind.Slice t to) moment pass h =
     let task = word_reads t h.0 in

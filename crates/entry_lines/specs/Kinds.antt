@@ -86,25 +86,25 @@ entry_data e =
 
 -- ---- what holds of each entry that the types can have
 
-abbrev pub HoldsKind : EntryKind → Type 0
-HoldsKind (kind.Slice t to) = IsWord t × HoldsOutcome to
-HoldsKind (kind.Silence t) = IsWord t
-HoldsKind (kind.Dead b) = IsWord b
-HoldsKind (kind.Blob n kept) = IsWord n
-HoldsKind (kind.New t who request state slice from) = HoldsOption IsWord from × HoldsRequest request × IsWord slice × IsWord t
-HoldsKind (kind.Cancel t) = IsWord t
-HoldsKind (kind.Kill t) = IsWord t
-HoldsKind (kind.Handshake b id session dims q) = IsWord b
-HoldsKind (kind.Poll b dims q hint) = IsWord b
-HoldsKind (kind.Claim b t claim) = IsWord b × IsWord t
-HoldsKind (kind.Contact b) = IsWord b
-HoldsKind (kind.Event b e text) = IsWord b
-HoldsKind (kind.Update b t try_no chunk last) = IsWord b × HoldsOption HoldsChunk chunk × HoldsOption HoldsLast last × IsWord t × IsWord try_no
-HoldsKind (kind.Terminate b) = IsWord b
-HoldsKind (kind.Put digest size) = IsDigest digest × IsWord size
+abbrev pub KindFits : EntryKind → Type 0
+KindFits (kind.Slice t to) = IsWord t × HoldsOutcome to
+KindFits (kind.Silence t) = IsWord t
+KindFits (kind.Dead b) = IsWord b
+KindFits (kind.Blob n kept) = IsWord n
+KindFits (kind.New t who request state slice from) = HoldsOption IsWord from × HoldsRequest request × IsWord slice × IsWord t
+KindFits (kind.Cancel t) = IsWord t
+KindFits (kind.Kill t) = IsWord t
+KindFits (kind.Handshake b id session dims q) = IsWord b
+KindFits (kind.Poll b dims q hint) = IsWord b
+KindFits (kind.Claim b t claim) = IsWord b × IsWord t
+KindFits (kind.Contact b) = IsWord b
+KindFits (kind.Event b e text) = IsWord b
+KindFits (kind.Update b t try_no chunk last) = IsWord b × HoldsOption HoldsChunk chunk × HoldsOption HoldsLast last × IsWord t × IsWord try_no
+KindFits (kind.Terminate b) = IsWord b
+KindFits (kind.Put digest size) = IsDigest digest × IsWord size
 
 abbrev pub HoldsEntry : Entry → Type 0
-HoldsEntry e = (e.moment < 2 ^ 64) × IsWord e.pass × HoldsKind e.kind
+HoldsEntry e = (e.moment < 2 ^ 64) × IsWord e.pass × KindFits e.kind
 
 -- ---- read
 

@@ -20,8 +20,8 @@ unfoldable pub entry_of_line : List ℕ → Option Entry
 entry_of_line text = read text >>= (λ d. entry_in d >>= if_line text)
 
 -- a text of which an entry is read is the line of that entry
-abbrev pub LinesTell : Type 0
-LinesTell = (text : List ℕ) (e : Entry) → entry_of_line text ≡ Some e → line e ≡ text
+abbrev pub LinesAreDistinct : Type 0
+LinesAreDistinct = (text : List ℕ) (e : Entry) → entry_of_line text ≡ Some e → line e ≡ text
 
 -- of the line of an entry that entry is read
 abbrev pub LinesReadBack : Type 0

@@ -46,34 +46,34 @@ list_of_items [] = refl
 list_of_items (d ∷ ds) = rw (list_of_items ds) refl
 
 module _ {A : Type 0} (show : A → Data) (read : Data → Option A) (P : A → Type 0) where
-  pub option_back : ((x : A) → as_null (show x) ≡ None) → ((x : A) → P x → read (show x) ≡ Some x) → (o : Option A) → HoldsOption P o → null_or read (or_null show o) ≡ Some o
-  option_back apart back None h = refl
-  option_back apart back (Some x) h = rw (apart x, back x h) refl
+  pub option_reads_back : ((x : A) → as_null (show x) ≡ None) → ((x : A) → P x → read (show x) ≡ Some x) → (o : Option A) → HoldsOption P o → null_or read (or_null show o) ≡ Some o
+  option_reads_back apart back None h = refl
+  option_reads_back apart back (Some x) h = rw (apart x, back x h) refl
 
-  each_back : ((x : A) → P x → read (show x) ≡ Some x) → (xs : List A) → All P xs → each read (map show xs) ≡ Some xs
-  each_back back [] h = refl
-  each_back back (x ∷ xs) h = rw (back x (h 0 x (omega arith)), each_back back xs (λ k d low. h (suc k) d (omega arith))) refl
+  each_reads_back : ((x : A) → P x → read (show x) ≡ Some x) → (xs : List A) → All P xs → each read (map show xs) ≡ Some xs
+  each_reads_back back [] h = refl
+  each_reads_back back (x ∷ xs) h = rw (back x (h 0 x (omega arith)), each_reads_back back xs (λ k d low. h (suc k) d (omega arith))) refl
 
-  pub list_back : ((x : A) → P x → read (show x) ≡ Some x) → (xs : List A) → All P xs → list_in read (list_data show xs) ≡ Some xs
-  list_back back xs h = rw (list_of_items (map show xs)) (each_back back xs h)
+  pub list_reads_back : ((x : A) → P x → read (show x) ≡ Some x) → (xs : List A) → All P xs → list_in read (list_data show xs) ≡ Some xs
+  list_reads_back back xs h = rw (list_of_items (map show xs)) (each_reads_back back xs h)
 
 module _ {A : Type 0} (show : A → Data) (plain : (x : A) → has_float (show x) ≡ false) where
-  pub option_plain : (o : Option A) → has_float (or_null show o) ≡ false
-  option_plain None = refl
-  option_plain (Some x) = plain x
+  pub option_has_no_float : (o : Option A) → has_float (or_null show o) ≡ false
+  option_has_no_float None = refl
+  option_has_no_float (Some x) = plain x
 
-  pub list_plain : (xs : List A) → has_float (list_data show xs) ≡ false
-  list_plain [] = refl
-  list_plain (x ∷ xs) = rw (plain x, list_plain xs) refl
+  pub list_has_no_float : (xs : List A) → has_float (list_data show xs) ≡ false
+  list_has_no_float [] = refl
+  list_has_no_float (x ∷ xs) = rw (plain x, list_has_no_float xs) refl
 
 module _ {A : Type 0} (show : A → Data) (n : ℕ) (shallow : (x : A) → depth (show x) ≤ n) where
-  pub option_shallow : (o : Option A) → depth (or_null show o) ≤ n
-  option_shallow None = omega arith
-  option_shallow (Some x) = shallow x
+  pub option_is_shallow : (o : Option A) → depth (or_null show o) ≤ n
+  option_is_shallow None = omega arith
+  option_is_shallow (Some x) = shallow x
 
-  items_shallow : (xs : List A) → items_depth (items_of (map show xs)) ≤ n
-  items_shallow [] = omega arith
-  items_shallow (x ∷ xs) = omega (arith, shallow x, items_shallow xs)
+  items_is_shallow : (xs : List A) → items_depth (items_of (map show xs)) ≤ n
+  items_is_shallow [] = omega arith
+  items_is_shallow (x ∷ xs) = omega (arith, shallow x, items_is_shallow xs)
 
-  pub list_shallow : (xs : List A) → depth (list_data show xs) ≤ n + 1
-  list_shallow xs = omega (arith, items_shallow xs)
+  pub list_is_shallow : (xs : List A) → depth (list_data show xs) ≤ n + 1
+  list_is_shallow xs = omega (arith, items_is_shallow xs)

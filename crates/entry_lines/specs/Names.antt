@@ -21,20 +21,20 @@ event_named name =
     else if same name (codes "unquarantine") then Some Unquarantine
     else None
 
-pub state_back : (state : TaskState) → state_named (state_name state) ≡ Some state
+pub state_reads_back : (state : TaskState) → state_named (state_name state) ≡ Some state
 unfolding state_named
-state_back Pending = refl
-state_back Running = refl
-state_back Expired = refl
-state_back TimedOut = refl
-state_back BotDied = refl
-state_back Canceled = refl
-state_back Completed = refl
-state_back Killed = refl
-state_back NoResource = refl
+state_reads_back Pending = refl
+state_reads_back Running = refl
+state_reads_back Expired = refl
+state_reads_back TimedOut = refl
+state_reads_back BotDied = refl
+state_reads_back Canceled = refl
+state_reads_back Completed = refl
+state_reads_back Killed = refl
+state_reads_back NoResource = refl
 
-pub event_back : (event : EventKind) → event_named (event_name event) ≡ Some event
+pub event_reads_back : (event : EventKind) → event_named (event_name event) ≡ Some event
 unfolding event_named
-event_back Ping = refl
-event_back Quarantine = refl
-event_back Unquarantine = refl
+event_reads_back Ping = refl
+event_reads_back Quarantine = refl
+event_reads_back Unquarantine = refl

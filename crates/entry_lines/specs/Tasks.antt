@@ -12,10 +12,10 @@ use Rattle.task_props.specs.declared.properties.Properties.{Properties}
 use Rattle.task_props.specs.declared.slice.Slice.{Slice}
 use Rattle.task_props.specs.declared.new_task.NewTask.{NewTask}
 use Rattle.entry_lines.specs.Finding.{◌>>=◌, field, whole}
-use Rattle.entry_lines.specs.Lists.{list_data, list_in, list_back, list_plain, list_shallow}
-use Rattle.entry_lines.specs.Numbers.{number_back}
+use Rattle.entry_lines.specs.Lists.{list_data, list_in, list_reads_back, list_has_no_float, list_is_shallow}
+use Rattle.entry_lines.specs.Numbers.{number_reads_back}
 use Rattle.entry_lines.specs.Parts.{word_in, IsWord, pair_data, pair_in, set_in, cache_data, cache_in, file_data, file_in, HoldsFile}
-use Rattle.entry_lines.specs.PartLaws.{texts_back, pair_shallow, cache_shallow, file_back, file_shallow}
+use Rattle.entry_lines.specs.PartLaws.{texts_reads_back, pair_is_shallow, cache_is_shallow, file_reads_back, file_is_shallow}
 
 -- ---- properties
 
@@ -127,86 +127,86 @@ uuid_of (b ∷ bs) = Some (b ∷ bs)
 all_hold : {A : Type 0} (xs : List A) → All (λ _. ⊤) xs
 all_hold xs k d low = tt
 
-pairs_back : (pairs : List (Text × Text)) → list_in pair_in (list_data pair_data pairs) ≡ Some pairs
-pairs_back pairs = list_back pair_data pair_in (λ _. ⊤) (λ _ _. refl) pairs (all_hold pairs)
+pairs_reads_back : (pairs : List (Text × Text)) → list_in pair_in (list_data pair_data pairs) ≡ Some pairs
+pairs_reads_back pairs = list_reads_back pair_data pair_in (λ _. ⊤) (λ _ _. refl) pairs (all_hold pairs)
 
-caches_back : (caches : List Cache) → list_in cache_in (list_data cache_data caches) ≡ Some caches
-caches_back caches = list_back cache_data cache_in (λ _. ⊤) (λ _ _. refl) caches (all_hold caches)
+caches_reads_back : (caches : List Cache) → list_in cache_in (list_data cache_data caches) ≡ Some caches
+caches_reads_back caches = list_reads_back cache_data cache_in (λ _. ⊤) (λ _ _. refl) caches (all_hold caches)
 
-files_back : (files : List File) → All HoldsFile files → list_in file_in (list_data file_data files) ≡ Some files
-files_back files h = list_back file_data file_in HoldsFile file_back files h
+files_reads_back : (files : List File) → All HoldsFile files → list_in file_in (list_data file_data files) ≡ Some files
+files_reads_back files h = list_reads_back file_data file_in HoldsFile file_reads_back files h
 
-pub properties_back : (p : Properties) → HoldsProperties p → properties_in (properties_data p) ≡ Some p
+pub properties_reads_back : (p : Properties) → HoldsProperties p → properties_in (properties_data p) ≡ Some p
 unfolding properties_data later_members properties_in
-properties_back p h =
+properties_reads_back p h =
     rw (
-      caches_back p.caches,
-      texts_back p.command,
-      pairs_back p.dimensions,
-      pairs_back p.env,
-      number_back (2 ^ 32) p.execution_timeout_secs h.0,
-      number_back (2 ^ 32) p.grace_period_secs h.1.0,
-      files_back p.inputs h.1.2,
-      number_back (2 ^ 32) p.io_timeout_secs h.1.1,
-      texts_back p.outputs,
+      caches_reads_back p.caches,
+      texts_reads_back p.command,
+      pairs_reads_back p.dimensions,
+      pairs_reads_back p.env,
+      number_reads_back (2 ^ 32) p.execution_timeout_secs h.0,
+      number_reads_back (2 ^ 32) p.grace_period_secs h.1.0,
+      files_reads_back p.inputs h.1.2,
+      number_reads_back (2 ^ 32) p.io_timeout_secs h.1.1,
+      texts_reads_back p.outputs,
     ) refl
 
-last_plain : (p : Properties) → members_have_float (later_members p) ≡ false
+last_has_no_float : (p : Properties) → members_have_float (later_members p) ≡ false
 unfolding later_members
-last_plain p = rw (list_plain file_data (λ _. refl) p.inputs, list_plain string (λ _. refl) p.outputs) refl
+last_has_no_float p = rw (list_has_no_float file_data (λ _. refl) p.inputs, list_has_no_float string (λ _. refl) p.outputs) refl
 
-pub properties_plain : (p : Properties) → has_float (properties_data p) ≡ false
+pub properties_has_no_float : (p : Properties) → has_float (properties_data p) ≡ false
 unfolding properties_data
-properties_plain p =
+properties_has_no_float p =
     rw (
-      list_plain cache_data (λ _. refl) p.caches,
-      list_plain string (λ _. refl) p.command,
-      list_plain pair_data (λ _. refl) p.dimensions,
-      list_plain pair_data (λ _. refl) p.env,
-      last_plain p,
+      list_has_no_float cache_data (λ _. refl) p.caches,
+      list_has_no_float string (λ _. refl) p.command,
+      list_has_no_float pair_data (λ _. refl) p.dimensions,
+      list_has_no_float pair_data (λ _. refl) p.env,
+      last_has_no_float p,
     ) refl
 
-last_shallow : (p : Properties) → members_depth (later_members p) ≤ 2
+last_is_shallow : (p : Properties) → members_depth (later_members p) ≤ 2
 unfolding later_members
-last_shallow p = omega (arith, list_shallow file_data 1 file_shallow p.inputs, list_shallow string 0 (λ _. omega arith) p.outputs)
+last_is_shallow p = omega (arith, list_is_shallow file_data 1 file_is_shallow p.inputs, list_is_shallow string 0 (λ _. omega arith) p.outputs)
 
-pub properties_shallow : (p : Properties) → depth (properties_data p) ≤ 3
+pub properties_is_shallow : (p : Properties) → depth (properties_data p) ≤ 3
 unfolding properties_data
-properties_shallow p =
+properties_is_shallow p =
     omega (
       arith,
-      list_shallow cache_data 1 cache_shallow p.caches,
-      list_shallow string 0 (λ _. omega arith) p.command,
-      list_shallow pair_data 1 pair_shallow p.dimensions,
-      list_shallow pair_data 1 pair_shallow p.env,
-      last_shallow p,
+      list_is_shallow cache_data 1 cache_is_shallow p.caches,
+      list_is_shallow string 0 (λ _. omega arith) p.command,
+      list_is_shallow pair_data 1 pair_is_shallow p.dimensions,
+      list_is_shallow pair_data 1 pair_is_shallow p.env,
+      last_is_shallow p,
     )
 
-pub slice_back : (slice : Slice) → HoldsSlice slice → slice_in (slice_data slice) ≡ Some slice
-slice_back slice h = rw (number_back (2 ^ 32) slice.expiration_secs h.0, properties_back slice.properties h.1) refl
+pub slice_reads_back : (slice : Slice) → HoldsSlice slice → slice_in (slice_data slice) ≡ Some slice
+slice_reads_back slice h = rw (number_reads_back (2 ^ 32) slice.expiration_secs h.0, properties_reads_back slice.properties h.1) refl
 
-pub slice_plain : (slice : Slice) → has_float (slice_data slice) ≡ false
-slice_plain slice = rw (properties_plain slice.properties) refl
+pub slice_has_no_float : (slice : Slice) → has_float (slice_data slice) ≡ false
+slice_has_no_float slice = rw (properties_has_no_float slice.properties) refl
 
-pub slice_shallow : (slice : Slice) → depth (slice_data slice) ≤ 4
-slice_shallow slice = omega (arith, properties_shallow slice.properties)
+pub slice_is_shallow : (slice : Slice) → depth (slice_data slice) ≤ 4
+slice_is_shallow slice = omega (arith, properties_is_shallow slice.properties)
 
-slices_back : (slices : List Slice) → All HoldsSlice slices → list_in slice_in (list_data slice_data slices) ≡ Some slices
-slices_back slices h = list_back slice_data slice_in HoldsSlice slice_back slices h
+slices_reads_back : (slices : List Slice) → All HoldsSlice slices → list_in slice_in (list_data slice_data slices) ≡ Some slices
+slices_reads_back slices h = list_reads_back slice_data slice_in HoldsSlice slice_reads_back slices h
 
-pub request_back : (task : NewTask) → HoldsRequest task → request_in task.request_uuid (request_data task) ≡ Some task
+pub request_reads_back : (task : NewTask) → HoldsRequest task → request_in task.request_uuid (request_data task) ≡ Some task
 unfolding request_data request_in
-request_back task h =
-    rw (number_back (2 ^ 32) task.bot_ping_tolerance_secs h.0, number_back (2 ^ 32) task.priority h.1, slices_back task.task_slices h.2) refl
+request_reads_back task h =
+    rw (number_reads_back (2 ^ 32) task.bot_ping_tolerance_secs h.0, number_reads_back (2 ^ 32) task.priority h.1, slices_reads_back task.task_slices h.2) refl
 
-pub request_plain : (task : NewTask) → has_float (request_data task) ≡ false
+pub request_has_no_float : (task : NewTask) → has_float (request_data task) ≡ false
 unfolding request_data
-request_plain task = rw (list_plain slice_data slice_plain task.task_slices) refl
+request_has_no_float task = rw (list_has_no_float slice_data slice_has_no_float task.task_slices) refl
 
-pub request_shallow : (task : NewTask) → depth (request_data task) ≤ 6
+pub request_is_shallow : (task : NewTask) → depth (request_data task) ≤ 6
 unfolding request_data
-request_shallow task = omega (arith, list_shallow slice_data 4 slice_shallow task.task_slices)
+request_is_shallow task = omega (arith, list_is_shallow slice_data 4 slice_is_shallow task.task_slices)
 
-pub uuid_back : (uuid : List ℕ) → unwrap_or (uuid_of uuid) [] ≡ uuid
-uuid_back [] = refl
-uuid_back (b ∷ bs) = refl
+pub uuid_reads_back : (uuid : List ℕ) → unwrap_or (uuid_of uuid) [] ≡ uuid
+uuid_reads_back [] = refl
+uuid_reads_back (b ∷ bs) = refl

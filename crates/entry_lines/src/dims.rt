@@ -4,10 +4,10 @@ ghost use Rattle.serde_json.specs.View.{view};
 ghost use Rattle.entry_lines.specs.Finding.{Finds};
 ghost use Rattle.entry_lines.specs.Lists.{list_data};
 ghost use Rattle.entry_lines.specs.Parts.{pair_data, pair_in, values_data, values_of, values_in, set_in, dims_in};
-ghost use Rattle.entry_lines.specs.PartLaws.{pair_shallow, values_back, values_plain, values_shallow, set_back, set_plain, set_shallow, dims_back, dims_plain, dims_shallow};
+ghost use Rattle.entry_lines.specs.PartLaws.{pair_is_shallow, values_reads_back, values_has_no_float, values_is_shallow, set_reads_back, set_has_no_float, set_is_shallow, dims_reads_back, dims_has_no_float, dims_is_shallow};
 
 use crate::LineFault;
-use crate::in_line::{InLine, NeverNull};
+use crate::line_field::{LineField, NotNull};
 use crate::lists::{items_of, list_values};
 use crate::members::{read_field, with_field};
 use dimensions::{BotDims, DimSet, Seq, Text};
@@ -15,7 +15,7 @@ use serde_json::{Map, Value};
 use std::alloc::{AllocError, Global};
 
 /// A pair of a task, as `{"key": KEY, "value": VALUE}`.
-impl InLine for (Text, Text) {
+impl LineField for (Text, Text) {
     ghost data_of = { pair_data };
 
     ghost value_in = { pair_in };
@@ -40,7 +40,7 @@ impl InLine for (Text, Text) {
 
     ghost has_no_float = { λ pair. refl };
 
-    ghost within_levels = { pair_shallow };
+    ghost within_levels = { pair_is_shallow };
 }
 
 fn read_values(alloc: Global, items: &[Value]) -> Result<(Text, Seq<Text>), LineFault>
@@ -57,7 +57,7 @@ fn read_values(alloc: Global, items: &[Value]) -> Result<(Text, Seq<Text>), Line
 }
 
 /// A key of a bot with its values, as `[KEY, [VALUE, ..]]`.
-impl InLine for (Text, Seq<Text>) {
+impl LineField for (Text, Seq<Text>) {
     ghost data_of = { values_data };
 
     ghost value_in = { values_in };
@@ -77,15 +77,15 @@ impl InLine for (Text, Seq<Text>) {
         read_values(alloc, items)
     }
 
-    ghost reads_back = { values_back };
+    ghost reads_back = { values_reads_back };
 
-    ghost has_no_float = { values_plain };
+    ghost has_no_float = { values_has_no_float };
 
-    ghost within_levels = { values_shallow };
+    ghost within_levels = { values_is_shallow };
 }
 
 /// The pairs in their order.
-impl InLine for DimSet {
+impl LineField for DimSet {
     ghost data_of = { list_data pair_data };
 
     ghost value_in = { set_in };
@@ -103,15 +103,15 @@ impl InLine for DimSet {
         Ok(DimSet::from_pairs(pairs))
     }
 
-    ghost reads_back = { set_back };
+    ghost reads_back = { set_reads_back };
 
-    ghost has_no_float = { set_plain };
+    ghost has_no_float = { set_has_no_float };
 
-    ghost within_levels = { set_shallow };
+    ghost within_levels = { set_is_shallow };
 }
 
 /// The keys in their order.
-impl InLine for BotDims {
+impl LineField for BotDims {
     ghost data_of = { list_data values_data };
 
     ghost value_in = { dims_in };
@@ -129,13 +129,13 @@ impl InLine for BotDims {
         Ok(BotDims::from_pairs(pairs))
     }
 
-    ghost reads_back = { dims_back };
+    ghost reads_back = { dims_reads_back };
 
-    ghost has_no_float = { dims_plain };
+    ghost has_no_float = { dims_has_no_float };
 
-    ghost within_levels = { dims_shallow };
+    ghost within_levels = { dims_is_shallow };
 }
 
-impl NeverNull for BotDims {
+impl NotNull for BotDims {
     ghost never_null = { λ dims. refl };
 }

@@ -3,9 +3,9 @@ ghost use Rattle.std.specs.Prelude.{◌≡◌, IfOk, OnOk, codes};
 ghost use Rattle.serde_json.specs.Data.{put, no_members};
 ghost use Rattle.serde_json.specs.View.{members_view};
 ghost use Rattle.entry_lines.specs.Tasks.{uuid_of};
-ghost use Rattle.entry_lines.specs.Kinds.{kind_members as spec_kind_members, kind_name as spec_kind_name, HoldsKind};
+ghost use Rattle.entry_lines.specs.Kinds.{kind_members as spec_kind_members, kind_name as spec_kind_name, KindFits};
 
-use crate::in_line::InLine;
+use crate::line_field::LineField;
 use crate::members::{with_field, with_member};
 use crate::tasks::request_value;
 use dimensions::{BotDims, Text, TryCopy};
@@ -38,7 +38,7 @@ pub(crate) fn kind_name(kind: &EntryKind) -> &'static str
 }
 
 /// The members of an object with this field alone.
-fn one_member<A: InLine>(
+fn one_member<A: LineField>(
     alloc: Global,
     key: &str,
     field: &A,
@@ -50,7 +50,7 @@ fn one_member<A: InLine>(
 }
 
 /// The members of an object with these two fields.
-fn two_members<A: InLine, B: InLine>(
+fn two_members<A: LineField, B: LineField>(
     alloc: Global,
     first_key: &str,
     first: &A,
@@ -86,7 +86,7 @@ fn new_members(
     from: Option<u32>,
 ) -> Result<Map<String, Value>, AllocError>
     ensures value { IfOk result (λ members. members_view members.entries ≡ spec_kind_members (EntryKind.New t who.now request.now state slice from)) }
-    ensures holds { OnOk result (HoldsKind (EntryKind.New t who.now request.now state slice from)) }
+    ensures holds { OnOk result (KindFits (EntryKind.New t who.now request.now state slice from)) }
 {
     let uuid = uuid_of(alloc, &request.request_uuid)?;
     let members = two_members(alloc, "uuid", &uuid, "who", who)?;
@@ -107,7 +107,7 @@ fn handshake_members(
     q: &Text,
 ) -> Result<Map<String, Value>, AllocError>
     ensures value { IfOk result (λ members. members_view members.entries ≡ spec_kind_members (EntryKind.Handshake b id.now session.now dims.now q.now)) }
-    ensures holds { OnOk result (HoldsKind (EntryKind.Handshake b id.now session.now dims.now q.now)) }
+    ensures holds { OnOk result (KindFits (EntryKind.Handshake b id.now session.now dims.now q.now)) }
 {
     let members = two_members(alloc, "q", q, "session", session)?;
     let members = with_field(alloc, members, "id", id)?;
@@ -123,7 +123,7 @@ fn poll_members(
     hint: bool,
 ) -> Result<Map<String, Value>, AllocError>
     ensures value { IfOk result (λ members. members_view members.entries ≡ spec_kind_members (EntryKind.Poll b dims.now q.now hint)) }
-    ensures holds { OnOk result (HoldsKind (EntryKind.Poll b dims.now q.now hint)) }
+    ensures holds { OnOk result (KindFits (EntryKind.Poll b dims.now q.now hint)) }
 {
     let members = two_members(alloc, "hint", &hint, "q", q)?;
     let members = with_field(alloc, members, "dims", dims)?;
@@ -139,7 +139,7 @@ fn update_members(
     last: &Option<Last>,
 ) -> Result<Map<String, Value>, AllocError>
     ensures value { IfOk result (λ members. members_view members.entries ≡ spec_kind_members (EntryKind.Update b t try_no chunk.now last.now)) }
-    ensures holds { OnOk result (HoldsKind (EntryKind.Update b t try_no chunk.now last.now)) }
+    ensures holds { OnOk result (KindFits (EntryKind.Update b t try_no chunk.now last.now)) }
 {
     let members = two_members(alloc, "t", &t, "try", &try_no)?;
     let members = with_field(alloc, members, "last", last)?;
@@ -154,7 +154,7 @@ fn claim_members(
     claim: &Text,
 ) -> Result<Map<String, Value>, AllocError>
     ensures value { IfOk result (λ members. members_view members.entries ≡ spec_kind_members (EntryKind.Claim b t claim.now)) }
-    ensures holds { OnOk result (HoldsKind (EntryKind.Claim b t claim.now)) }
+    ensures holds { OnOk result (KindFits (EntryKind.Claim b t claim.now)) }
 {
     let members = two_members(alloc, "claim", claim, "t", &t)?;
     with_field(alloc, members, "b", &b)
@@ -167,7 +167,7 @@ fn event_members(
     text: &Text,
 ) -> Result<Map<String, Value>, AllocError>
     ensures value { IfOk result (λ members. members_view members.entries ≡ spec_kind_members (EntryKind.Event b e text.now)) }
-    ensures holds { OnOk result (HoldsKind (EntryKind.Event b e text.now)) }
+    ensures holds { OnOk result (KindFits (EntryKind.Event b e text.now)) }
 {
     let members = two_members(alloc, "e", &e, "text", text)?;
     with_field(alloc, members, "b", &b)
@@ -179,7 +179,7 @@ pub(crate) fn kind_members(
     kind: &EntryKind,
 ) -> Result<Map<String, Value>, AllocError>
     ensures value { IfOk result (λ members. members_view members.entries ≡ spec_kind_members kind.now) }
-    ensures holds { OnOk result (HoldsKind kind.now) }
+    ensures holds { OnOk result (KindFits kind.now) }
 {
     match kind {
         EntryKind::Slice { t, to } => two_members(alloc, "t", t, "to", to),

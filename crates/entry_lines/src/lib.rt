@@ -33,10 +33,10 @@
 #![tactic(auto)]
 
 mod dims;
-mod in_line;
 mod kinds;
 mod line;
 mod line_fault;
+mod line_field;
 mod lists;
 mod members;
 mod names;

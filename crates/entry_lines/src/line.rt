@@ -5,7 +5,7 @@ ghost use Rattle.serde_json.specs.Read.{read};
 ghost use Rattle.serde_json.specs.View.{view};
 ghost use Rattle.entry_lines.specs.Finding.{Finds, FindsValue, field};
 ghost use Rattle.entry_lines.specs.Kinds.{entry_data, entry_in, HoldsEntry};
-ghost use Rattle.entry_lines.specs.Lines.{line as spec_line, if_line, entry_of_line, LinesTell, LinesReadBack};
+ghost use Rattle.entry_lines.specs.Lines.{line as spec_line, if_line, entry_of_line, LinesAreDistinct, LinesReadBack};
 
 use crate::LineFault;
 use crate::kinds::{kind_members, kind_name};
@@ -110,9 +110,9 @@ pub fn is_line_of(alloc: Global, entry: &Entry, text: &str) -> Result<bool, Allo
 }
 
 /// A text of which an entry is read is the line of that entry: so no two entries have one line.
-#[tactic(auto, using(crate::proofs::Back::lines_tell))]
+#[tactic(auto, using(crate::proofs::Back::lines_are_distinct))]
 pub fn a_line_is_of_one_entry()
-    ensures { LinesTell }
+    ensures { LinesAreDistinct }
 {}
 
 /// Of the line of an entry that entry is read: so each entry has a line, and no other entry has it.

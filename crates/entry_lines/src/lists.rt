@@ -4,15 +4,15 @@ ghost use Rattle.std.specs.List.{All};
 ghost use Rattle.serde_json.specs.Find.{as_null};
 ghost use Rattle.serde_json.specs.View.{view};
 ghost use Rattle.entry_lines.specs.Finding.{FindsValue, Finds};
-ghost use Rattle.entry_lines.specs.Lists.{each, items_in, or_null, null_or, list_data, list_in, HoldsOption, list_back, list_plain, list_shallow, option_back, option_plain, option_shallow};
+ghost use Rattle.entry_lines.specs.Lists.{each, items_in, or_null, null_or, list_data, list_in, HoldsOption, list_reads_back, list_has_no_float, list_is_shallow, option_reads_back, option_has_no_float, option_is_shallow};
 
 use crate::LineFault;
-use crate::in_line::{InLine, NeverNull};
+use crate::line_field::{LineField, NotNull};
 use dimensions::Seq;
 use serde_json::Value;
 use std::alloc::{AllocError, Global};
 
-impl<T: NeverNull> InLine for Option<T> {
+impl<T: NotNull> LineField for Option<T> {
     ghost data_of = { or_null T.data_of };
 
     ghost value_in = { null_or T.value_in };
@@ -38,14 +38,17 @@ impl<T: NeverNull> InLine for Option<T> {
         }
     }
 
-    ghost reads_back = { option_back T.data_of T.value_in T.Holds T.never_null T.reads_back };
+    ghost reads_back = { option_reads_back T.data_of T.value_in T.Holds T.never_null T.reads_back };
 
-    ghost has_no_float = { option_plain T.data_of T.has_no_float };
+    ghost has_no_float = { option_has_no_float T.data_of T.has_no_float };
 
-    ghost within_levels = { option_shallow T.data_of T.levels T.within_levels };
+    ghost within_levels = { option_is_shallow T.data_of T.levels T.within_levels };
 }
 
-pub(crate) fn list_values<T: InLine>(alloc: Global, items: &[T]) -> Result<Vec<Value>, AllocError>
+pub(crate) fn list_values<T: LineField>(
+    alloc: Global,
+    items: &[T],
+) -> Result<Vec<Value>, AllocError>
     ensures values { IfOk result (λ values. map view values.items ≡ map T.data_of items.now) }
     ensures holds { OnOk result (All T.Holds items.now) }
 {
@@ -56,7 +59,7 @@ pub(crate) fn list_values<T: InLine>(alloc: Global, items: &[T]) -> Result<Vec<V
     Ok(values)
 }
 
-fn read_items<T: InLine + Drop>(alloc: Global, items: &[Value]) -> Result<Vec<T>, LineFault>
+fn read_items<T: LineField + Drop>(alloc: Global, items: &[Value]) -> Result<Vec<T>, LineFault>
     ensures { FindsValue (λ v. v.items) result (each T.value_in (map view items.now)) }
 {
     let mut values = Vec::new(alloc);
@@ -76,7 +79,7 @@ pub(crate) fn items_of(value: &Value) -> Result<&[Value], LineFault>
     }
 }
 
-impl<T: InLine + Drop> InLine for Seq<T> {
+impl<T: LineField + Drop> LineField for Seq<T> {
     ghost data_of = { list_data T.data_of };
 
     ghost value_in = { list_in T.value_in };
@@ -94,13 +97,13 @@ impl<T: InLine + Drop> InLine for Seq<T> {
         Ok(Seq::from_vec(read_items(alloc, items)?))
     }
 
-    ghost reads_back = { list_back T.data_of T.value_in T.Holds T.reads_back };
+    ghost reads_back = { list_reads_back T.data_of T.value_in T.Holds T.reads_back };
 
-    ghost has_no_float = { list_plain T.data_of T.has_no_float };
+    ghost has_no_float = { list_has_no_float T.data_of T.has_no_float };
 
-    ghost within_levels = { list_shallow T.data_of T.levels T.within_levels };
+    ghost within_levels = { list_is_shallow T.data_of T.levels T.within_levels };
 }
 
-impl<T: InLine + Drop> NeverNull for Seq<T> {
+impl<T: LineField + Drop> NotNull for Seq<T> {
     ghost never_null = { λ xs. refl };
 }

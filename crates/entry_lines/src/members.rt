@@ -7,7 +7,7 @@ ghost use Rattle.serde_json.specs.View.{view, members_view};
 ghost use Rattle.entry_lines.specs.Finding.{Finds, FindsValue, field};
 
 use crate::LineFault;
-use crate::in_line::InLine;
+use crate::line_field::LineField;
 use serde_json::{Map, Value};
 use std::alloc::{AllocError, Global};
 
@@ -26,7 +26,7 @@ pub(crate) fn with_member(
 }
 
 /// The members and one for this field, in the order of the keys.
-pub(crate) fn with_field<T: InLine>(
+pub(crate) fn with_field<T: LineField>(
     alloc: Global,
     members: Map<String, Value>,
     key: &str,
@@ -47,7 +47,11 @@ pub(crate) fn value_at<'v>(value: &'v Value, key: &str) -> Result<&'v Value, Lin
 }
 
 /// The field at a key.
-pub(crate) fn read_field<T: InLine>(alloc: Global, value: &Value, key: &str) -> Result<T, LineFault>
+pub(crate) fn read_field<T: LineField>(
+    alloc: Global,
+    value: &Value,
+    key: &str,
+) -> Result<T, LineFault>
     ensures { Finds result (field T.value_in key.now (view value.now)) }
 {
     let value = value_at(value, key)?;

@@ -1,11 +1,11 @@
 //! States and events by their names.
 ghost use Rattle.std.specs.Prelude.{◌≡◌, ⊤, refl};
-ghost use Rattle.entry_lines.specs.Names.{event_name as spec_event_name, event_named as spec_event_named, state_back, event_back};
+ghost use Rattle.entry_lines.specs.Names.{event_name as spec_event_name, event_named as spec_event_named, state_reads_back, event_reads_back};
 ghost use Rattle.entry_lines.specs.Numbers.{zero_le};
 ghost use Rattle.entry_lines.specs.Parts.{state_data, state_in, event_data, event_in};
 
 use crate::LineFault;
-use crate::in_line::InLine;
+use crate::line_field::LineField;
 use serde_json::Value;
 use std::alloc::{AllocError, Global};
 use swarm_model::{EventKind, TaskState};
@@ -33,7 +33,7 @@ fn event_named(name: &str) -> Option<EventKind>
     }
 }
 
-impl InLine for TaskState {
+impl LineField for TaskState {
     ghost data_of = { state_data };
 
     ghost value_in = { state_in };
@@ -53,14 +53,14 @@ impl InLine for TaskState {
         }
     }
 
-    ghost reads_back = { λ state h. state_back state };
+    ghost reads_back = { λ state h. state_reads_back state };
 
     ghost has_no_float = { λ state. refl };
 
     ghost within_levels = { λ state. zero_le 0 };
 }
 
-impl InLine for EventKind {
+impl LineField for EventKind {
     ghost data_of = { event_data };
 
     ghost value_in = { event_in };
@@ -80,7 +80,7 @@ impl InLine for EventKind {
         }
     }
 
-    ghost reads_back = { λ event h. event_back event };
+    ghost reads_back = { λ event h. event_reads_back event };
 
     ghost has_no_float = { λ event. refl };
 

@@ -4,10 +4,10 @@ ghost use Rattle.serde_json.specs.View.{view};
 ghost use Rattle.entry_lines.specs.Finding.{Finds};
 ghost use Rattle.entry_lines.specs.Lists.{items_in};
 ghost use Rattle.entry_lines.specs.Parts.{file_data, file_in, HoldsFile, chunk_data, chunk_of, chunk_in, HoldsChunk, last_data, last_in, HoldsLast, outcome_data, outcome_in, HoldsOutcome};
-ghost use Rattle.entry_lines.specs.PartLaws.{file_back, file_shallow, chunk_back, chunk_shallow, last_back, last_never_null, last_plain, last_shallow, outcome_back, outcome_plain, outcome_shallow};
+ghost use Rattle.entry_lines.specs.PartLaws.{file_reads_back, file_is_shallow, chunk_reads_back, chunk_is_shallow, last_reads_back, last_never_null, last_has_no_float, last_is_shallow, outcome_reads_back, outcome_has_no_float, outcome_is_shallow};
 
 use crate::LineFault;
-use crate::in_line::{InLine, NeverNull};
+use crate::line_field::{LineField, NotNull};
 use crate::lists::items_of;
 use crate::members::{read_field, with_field};
 use dimensions::{Seq, Text};
@@ -17,7 +17,7 @@ use swarm_model::{Chunk, Last, Outcome, TaskState};
 use task_props::File;
 
 /// A file, as `{"digest": DIGEST, "path": PATH, "size": SIZE}`.
-impl InLine for File {
+impl LineField for File {
     ghost data_of = { file_data };
 
     ghost value_in = { file_in };
@@ -40,11 +40,11 @@ impl InLine for File {
         Ok(File { path, digest, size })
     }
 
-    ghost reads_back = { file_back };
+    ghost reads_back = { file_reads_back };
 
     ghost has_no_float = { λ file. refl };
 
-    ghost within_levels = { file_shallow };
+    ghost within_levels = { file_is_shallow };
 }
 
 fn read_chunk(alloc: Global, items: &[Value]) -> Result<Chunk, LineFault>
@@ -54,7 +54,7 @@ fn read_chunk(alloc: Global, items: &[Value]) -> Result<Chunk, LineFault>
         [start, size, digest] => {
             let start = u32::from_value(alloc, start)?;
             let size = u32::from_value(alloc, size)?;
-            let digest = <[u8; 32] as InLine>::from_value(alloc, digest)?;
+            let digest = <[u8; 32] as LineField>::from_value(alloc, digest)?;
             Ok(Chunk {
                 start,
                 size,
@@ -66,7 +66,7 @@ fn read_chunk(alloc: Global, items: &[Value]) -> Result<Chunk, LineFault>
 }
 
 /// A piece of output, as `[START, SIZE, DIGEST]`.
-impl InLine for Chunk {
+impl LineField for Chunk {
     ghost data_of = { chunk_data };
 
     ghost value_in = { chunk_in };
@@ -87,19 +87,19 @@ impl InLine for Chunk {
         read_chunk(alloc, items)
     }
 
-    ghost reads_back = { chunk_back };
+    ghost reads_back = { chunk_reads_back };
 
     ghost has_no_float = { λ chunk. refl };
 
-    ghost within_levels = { chunk_shallow };
+    ghost within_levels = { chunk_is_shallow };
 }
 
-impl NeverNull for Chunk {
+impl NotNull for Chunk {
     ghost never_null = { λ chunk. refl };
 }
 
 /// A report, an object of its fields by their names.
-impl InLine for Last {
+impl LineField for Last {
     ghost data_of = { last_data };
 
     ghost value_in = { last_in };
@@ -137,19 +137,19 @@ impl InLine for Last {
         })
     }
 
-    ghost reads_back = { last_back };
+    ghost reads_back = { last_reads_back };
 
-    ghost has_no_float = { last_plain };
+    ghost has_no_float = { last_has_no_float };
 
-    ghost within_levels = { last_shallow };
+    ghost within_levels = { last_is_shallow };
 }
 
-impl NeverNull for Last {
+impl NotNull for Last {
     ghost never_null = { last_never_null };
 }
 
 /// The place of a slice as a number, or the name of a state.
-impl InLine for Outcome {
+impl LineField for Outcome {
     ghost data_of = { outcome_data };
 
     ghost value_in = { outcome_in };
@@ -174,9 +174,9 @@ impl InLine for Outcome {
         Ok(Outcome::Slice(place))
     }
 
-    ghost reads_back = { outcome_back };
+    ghost reads_back = { outcome_reads_back };
 
-    ghost has_no_float = { outcome_plain };
+    ghost has_no_float = { outcome_has_no_float };
 
-    ghost within_levels = { outcome_shallow };
+    ghost within_levels = { outcome_is_shallow };
 }

@@ -4,16 +4,16 @@ ghost use Rattle.std.specs.Option.{option_and_then};
 ghost use Rattle.serde_json.specs.Data.{string, boolean};
 ghost use Rattle.serde_json.specs.Find.{as_str, as_bool};
 ghost use Rattle.entry_lines.specs.Finding.{whole, number_in, signed, signed_in, IsInt, digest_data, digest_in, IsDigest};
-ghost use Rattle.entry_lines.specs.Numbers.{number_back, zero_le, signed_back, signed_plain, digest_back};
+ghost use Rattle.entry_lines.specs.Numbers.{number_reads_back, zero_le, signed_reads_back, signed_has_no_float, digest_reads_back};
 
 use crate::LineFault;
-use crate::in_line::{InLine, NeverNull};
+use crate::line_field::{LineField, NotNull};
 use dimensions::Text;
 use hex::FromHex;
 use serde_json::Value;
 use std::alloc::{AllocError, Global};
 
-impl InLine for u32 {
+impl LineField for u32 {
     ghost data_of = { whole };
 
     ghost value_in = { number_in (2 ^ 32) };
@@ -40,14 +40,14 @@ impl InLine for u32 {
         }
     }
 
-    ghost reads_back = { number_back (2 ^ 32) };
+    ghost reads_back = { number_reads_back (2 ^ 32) };
 
     ghost has_no_float = { λ n. refl };
 
     ghost within_levels = { λ n. zero_le 0 };
 }
 
-impl InLine for Text {
+impl LineField for Text {
     ghost data_of = { string };
 
     ghost value_in = { as_str };
@@ -74,7 +74,7 @@ impl InLine for Text {
     ghost within_levels = { λ t. zero_le 0 };
 }
 
-impl InLine for u64 {
+impl LineField for u64 {
     ghost data_of = { whole };
 
     ghost value_in = { number_in (2 ^ 64) };
@@ -95,14 +95,14 @@ impl InLine for u64 {
         }
     }
 
-    ghost reads_back = { number_back (2 ^ 64) };
+    ghost reads_back = { number_reads_back (2 ^ 64) };
 
     ghost has_no_float = { λ n. refl };
 
     ghost within_levels = { λ n. zero_le 0 };
 }
 
-impl InLine for i32 {
+impl LineField for i32 {
     ghost data_of = { signed };
 
     ghost value_in = { signed_in };
@@ -126,14 +126,14 @@ impl InLine for i32 {
         Ok(number as i32)
     }
 
-    ghost reads_back = { signed_back };
+    ghost reads_back = { signed_reads_back };
 
-    ghost has_no_float = { signed_plain };
+    ghost has_no_float = { signed_has_no_float };
 
     ghost within_levels = { λ z. zero_le 0 };
 }
 
-impl InLine for bool {
+impl LineField for bool {
     ghost data_of = { boolean };
 
     ghost value_in = { as_bool };
@@ -158,7 +158,7 @@ impl InLine for bool {
 }
 
 /// A digest of 32 bytes, in lower-case hexadecimal.
-impl InLine for [u8; 32] {
+impl LineField for [u8; 32] {
     ghost data_of = { digest_data };
 
     ghost value_in = { digest_in };
@@ -182,25 +182,25 @@ impl InLine for [u8; 32] {
         }
     }
 
-    ghost reads_back = { digest_back };
+    ghost reads_back = { digest_reads_back };
 
     ghost has_no_float = { λ d. refl };
 
     ghost within_levels = { λ d. zero_le 0 };
 }
 
-impl NeverNull for [u8; 32] {
+impl NotNull for [u8; 32] {
     ghost never_null = { λ d. refl };
 }
 
-impl NeverNull for u64 {
+impl NotNull for u64 {
     ghost never_null = { λ n. refl };
 }
 
-impl NeverNull for u32 {
+impl NotNull for u32 {
     ghost never_null = { λ n. refl };
 }
 
-impl NeverNull for Text {
+impl NotNull for Text {
     ghost never_null = { λ t. refl };
 }

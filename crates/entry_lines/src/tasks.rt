@@ -4,12 +4,12 @@ ghost use Rattle.serde_json.specs.Data.{Members};
 ghost use Rattle.serde_json.specs.View.{view, members_view};
 ghost use Rattle.entry_lines.specs.Finding.{Finds};
 ghost use Rattle.entry_lines.specs.Parts.{cache_data, cache_in};
-ghost use Rattle.entry_lines.specs.PartLaws.{cache_shallow};
+ghost use Rattle.entry_lines.specs.PartLaws.{cache_is_shallow};
 ghost use Rattle.entry_lines.specs.Tasks.{later_members as spec_later_members, HoldsLaterMembers, properties_data, properties_in, HoldsProperties, slice_data, slice_in, HoldsSlice, request_data, request_in, HoldsRequest};
-ghost use Rattle.entry_lines.specs.Tasks.{properties_back, properties_plain, properties_shallow, slice_back, slice_plain, slice_shallow};
+ghost use Rattle.entry_lines.specs.Tasks.{properties_reads_back, properties_has_no_float, properties_is_shallow, slice_reads_back, slice_has_no_float, slice_is_shallow};
 
 use crate::LineFault;
-use crate::in_line::InLine;
+use crate::line_field::LineField;
 use crate::members::{read_field, with_field};
 use dimensions::{DimSet, Seq, Text};
 use serde_json::{Map, Value};
@@ -17,7 +17,7 @@ use std::alloc::{AllocError, Global};
 use task_props::{Cache, File, NewTask, Properties, Slice};
 
 /// A cache, as `{"name": NAME, "path": PATH}`.
-impl InLine for Cache {
+impl LineField for Cache {
     ghost data_of = { cache_data };
 
     ghost value_in = { cache_in };
@@ -42,7 +42,7 @@ impl InLine for Cache {
 
     ghost has_no_float = { λ cache. refl };
 
-    ghost within_levels = { cache_shallow };
+    ghost within_levels = { cache_is_shallow };
 }
 
 /// The members from `grace_period_secs` on.
@@ -69,7 +69,7 @@ fn later_members(alloc: Global, properties: &Properties) -> Result<Map<String, V
 }
 
 /// An object of the fields by their names.
-impl InLine for Properties {
+impl LineField for Properties {
     ghost data_of = { properties_data };
 
     ghost value_in = { properties_in };
@@ -120,15 +120,15 @@ impl InLine for Properties {
         })
     }
 
-    ghost reads_back = { properties_back };
+    ghost reads_back = { properties_reads_back };
 
-    ghost has_no_float = { properties_plain };
+    ghost has_no_float = { properties_has_no_float };
 
-    ghost within_levels = { properties_shallow };
+    ghost within_levels = { properties_is_shallow };
 }
 
 /// An object of the fields by their names.
-impl InLine for Slice {
+impl LineField for Slice {
     ghost data_of = { slice_data };
 
     ghost value_in = { slice_in };
@@ -160,11 +160,11 @@ impl InLine for Slice {
         })
     }
 
-    ghost reads_back = { slice_back };
+    ghost reads_back = { slice_reads_back };
 
-    ghost has_no_float = { slice_plain };
+    ghost has_no_float = { slice_has_no_float };
 
-    ghost within_levels = { slice_shallow };
+    ghost within_levels = { slice_is_shallow };
 }
 
 /// The request without its uuid, which stands beside it in a line.

@@ -14,8 +14,8 @@ use Rattle.swarm_model.specs.declared.entry.EntryKind.TheVariants as kind
 use Rattle.swarm_model.specs.Deadlines.{blob_end}
 use Rattle.swarm_model.specs.Effects.{life, blobs_in, put_chunk, with_blobs, fresh_chunk, attempt_of, after}
 use Rattle.swarm_model.specs.Soundness.{IsSound}
-use Rattle.swarm_laws.proofs.Lists.{Among, Found, find_is, found_once, filter_is, filter_has, among_left, among_map, each_append, each_one, each_map}
-use Rattle.swarm_laws.proofs.Sound.{sound_after}
+use Rattle.pool_laws.proofs.Lists.{Among, Found, find_is, found_once, filter_is, filter_has, among_left, among_map, each_append, each_one, each_map}
+use Rattle.pool_laws.proofs.Sound.{sound_after}
 use Rattle.index_laws.specs.BlobDeadlines.{blob_of_chunk, touched_blob, BlobDeadlinesFollow}
 use Rattle.index_laws.proofs.Keys.{among_of, contains_of}
 

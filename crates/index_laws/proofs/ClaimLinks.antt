@@ -13,12 +13,12 @@ use Rattle.swarm_model.specs.Finding.{task_of}
 use Rattle.swarm_model.specs.Answers.{claimed, is_claim, is_claimed}
 use Rattle.swarm_model.specs.Effects.{after}
 use Rattle.swarm_model.specs.Soundness.{IsSound, claim_key}
-use Rattle.swarm_laws.proofs.Alike.{same_is}
-use Rattle.swarm_laws.proofs.Lists.{Among, Found, find_is}
-use Rattle.swarm_laws.proofs.Preconditions.{Finds}
-use Rattle.swarm_laws.proofs.EntryPreconditions.{finds}
-use Rattle.swarm_laws.proofs.Rows.{find_task}
-use Rattle.swarm_laws.proofs.Claimed.{claim_found}
+use Rattle.pool_laws.proofs.Alike.{same_is}
+use Rattle.pool_laws.proofs.Lists.{Among, Found, find_is}
+use Rattle.pool_laws.proofs.Preconditions.{Finds}
+use Rattle.pool_laws.proofs.EntryPreconditions.{finds}
+use Rattle.pool_laws.proofs.Rows.{find_task}
+use Rattle.pool_laws.proofs.Claimed.{claim_found}
 use Rattle.pool_index.specs.declared.claim_link.ClaimLink.{ClaimLink}
 use Rattle.pool_index.specs.Claims.{HasClaim, HasNone, key_of, links_with}
 use Rattle.index_laws.specs.Keys.{HasKey}

@@ -12,11 +12,11 @@ use Rattle.swarm_model.specs.Deadlines.{next_of}
 use Rattle.swarm_model.specs.Effects.{task_after, added_tasks, expired_slice, new_row, opening, after}
 use Rattle.swarm_model.specs.History.{replay, IsCaused, MayFollow}
 use Rattle.swarm_model.specs.Soundness.{IsSound}
-use Rattle.swarm_laws.proofs.Lists.{Among, here, later, all, each_append, each_map, each_one}
-use Rattle.swarm_laws.proofs.Preconditions.{Finds}
-use Rattle.swarm_laws.proofs.EntryPreconditions.{finds}
-use Rattle.swarm_laws.proofs.Rows.{task_by}
-use Rattle.swarm_laws.proofs.Sound.{sound_after, opening_sound}
+use Rattle.pool_laws.proofs.Lists.{Among, here, later, all, each_append, each_map, each_one}
+use Rattle.pool_laws.proofs.Preconditions.{Finds}
+use Rattle.pool_laws.proofs.EntryPreconditions.{finds}
+use Rattle.pool_laws.proofs.Rows.{task_by}
+use Rattle.pool_laws.proofs.Sound.{sound_after, opening_sound}
 use Rattle.index_laws.specs.TaskSources.{AreCreatedInOrder, CreatedInOrder}
 use Rattle.index_laws.proofs.Keys.{contains_of}
 

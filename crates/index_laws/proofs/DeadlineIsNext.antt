@@ -13,8 +13,8 @@ use Rattle.swarm_model.specs.Finding.{has_state, state_place}
 use Rattle.swarm_model.specs.Deadlines.{is_earlier, earlier, sooner, slice_end, silence_end, bot_end, blob_end, deadlines}
 use Rattle.swarm_model.specs.Effects.{no_of_task, no_of_bot}
 use Rattle.swarm_model.specs.Soundness.{IsSound}
-use Rattle.swarm_laws.proofs.Lists.{Among, here, later, Found, find_is, has_number}
-use Rattle.swarm_laws.proofs.Rows.{find_task, find_bot}
+use Rattle.pool_laws.proofs.Lists.{Among, here, later, Found, find_is, has_number}
+use Rattle.pool_laws.proofs.Rows.{find_task, find_bot}
 use Rattle.pool_index.specs.Deadlines.{earlier_of, deadline_at, IsFirstOf}
 use Rattle.pool_index.specs.QueuedDeadlines.{IsEarliestOf}
 use Rattle.pool_index.proofs.DeadlineOrder.{chain, one_way, earlier_chain}

@@ -15,12 +15,12 @@ use Rattle.swarm_model.specs.Deadlines.{slice_end, silence_limit, silence_end, b
 use Rattle.swarm_model.specs.Effects.{no_of_task, no_of_bot, task_after, added_tasks, bot_after, added_bots, after}
 use Rattle.swarm_model.specs.History.{MayFollow}
 use Rattle.swarm_model.specs.Soundness.{IsSound, runner}
-use Rattle.swarm_laws.proofs.Lists.{Among, Found, find_is, find_none, each_append, each_map}
-use Rattle.swarm_laws.proofs.Preconditions.{runs, waits}
-use Rattle.swarm_laws.proofs.EntryPreconditions.{finds, fitting}
-use Rattle.swarm_laws.proofs.Rows.{agree, task_is}
-use Rattle.swarm_laws.proofs.Bots.{settings_same}
-use Rattle.swarm_laws.proofs.Numbers.{task_no, bot_no, tasks_numbered, bots_numbered}
+use Rattle.pool_laws.proofs.Lists.{Among, Found, find_is, find_none, each_append, each_map}
+use Rattle.pool_laws.proofs.Preconditions.{runs, waits}
+use Rattle.pool_laws.proofs.EntryPreconditions.{finds, fitting}
+use Rattle.pool_laws.proofs.Rows.{agree, task_is}
+use Rattle.pool_laws.proofs.Bots.{settings_same}
+use Rattle.pool_laws.proofs.Numbers.{task_no, bot_no, tasks_numbered, bots_numbered}
 use Rattle.index_laws.specs.Touched.{touched_task, touched_bot}
 use Rattle.index_laws.specs.RowDeadlines.{task_deadline, task_deadline_of, bot_deadline_of, TaskDeadlinesFollow, BotDeadlinesFollow}
 use Rattle.index_laws.proofs.Untouched.{same_task, same_bot, same_contact, added_touched, added_bot_touched, added_bot_next}

@@ -16,8 +16,8 @@ use Rattle.swarm_model.specs.declared.pool_state.PoolState.{PoolState}
 use Rattle.swarm_model.specs.Finding.{has_state, task_of}
 use Rattle.swarm_model.specs.Slices.{current_slice, takes_slice, waits_for, goes_before, foremost, first}
 use Rattle.swarm_model.specs.Soundness.{IsSound}
-use Rattle.swarm_laws.proofs.Lists.{Among, here, later, filter_is, filter_has}
-use Rattle.swarm_laws.proofs.Rows.{one_task, find_task}
+use Rattle.pool_laws.proofs.Lists.{Among, here, later, filter_is, filter_has}
+use Rattle.pool_laws.proofs.Rows.{one_task, find_task}
 use Rattle.dim_queue.specs.declared.waiting.Waiting.{Waiting}
 use Rattle.dim_queue.specs.Order.{goes_first}
 use Rattle.dim_queue.specs.Plain.{QueueState, Waits, IsNextOf}

@@ -7,7 +7,7 @@ use Rattle.swarm_model.specs.declared.task_row.TaskRow.{TaskRow}
 use Rattle.swarm_model.specs.Numbers.{AreNumbered}
 use Rattle.swarm_model.specs.Reuse.{newer}
 use Rattle.swarm_model.specs.Effects.{no_of_task}
-use Rattle.swarm_laws.proofs.Lists.{Among, here, later}
+use Rattle.pool_laws.proofs.Lists.{Among, here, later}
 
 -- it holds of the number, and of no greater one
 pub record IsGreatest (P : ℕ → Type 0) (n : ℕ) : Type 0 where

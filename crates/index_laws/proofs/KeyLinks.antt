@@ -1,7 +1,7 @@
 -- Links that follow the keys of rows.
 use Rattle.std.proofs.Common.{◌≡◌, ◌↔◌, ◌⊎◌, inl, inr, List, [], ◌∷◌, ◌++◌, refl, sym, ap, ◌∙◌, subst, Option, Some, None, MatchOption}
 use Rattle.std.proofs.lemmas.Option.{same_Some}
-use Rattle.swarm_laws.proofs.Lists.{Among, here, each_append, each_one, among_left, among_right}
+use Rattle.pool_laws.proofs.Lists.{Among, here, each_append, each_one, among_left, among_right}
 
 -- each key has a link, and a link tells its key
 module _ {L X : Type 0} (link : X → L) (key : L → X) (tells : (x : X) → key (link x) ≡ x) where

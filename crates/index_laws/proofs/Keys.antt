@@ -9,11 +9,11 @@ use Rattle.swarm_model.specs.Finding.{is_task, task_of}
 use Rattle.swarm_model.specs.Effects.{task_after, added_tasks, after}
 use Rattle.swarm_model.specs.History.{MayFollow}
 use Rattle.swarm_model.specs.Soundness.{IsSound}
-use Rattle.swarm_laws.proofs.Lists.{Among, here, later, Found, find_is, each_append, each_map, among_left, among_map}
-use Rattle.swarm_laws.proofs.EntryPreconditions.{finds}
-use Rattle.swarm_laws.proofs.Rows.{find_task}
-use Rattle.swarm_laws.proofs.Numbers.{task_no}
-use Rattle.swarm_laws.proofs.Sound.{sound_after}
+use Rattle.pool_laws.proofs.Lists.{Among, here, later, Found, find_is, each_append, each_map, among_left, among_map}
+use Rattle.pool_laws.proofs.EntryPreconditions.{finds}
+use Rattle.pool_laws.proofs.Rows.{find_task}
+use Rattle.pool_laws.proofs.Numbers.{task_no}
+use Rattle.pool_laws.proofs.Sound.{sound_after}
 use Rattle.index_laws.specs.Touched.{touched_task}
 use Rattle.index_laws.specs.Keys.{HasKey, KeysGrow}
 use Rattle.index_laws.proofs.Untouched.{same_task, added_touched}

@@ -14,13 +14,13 @@ use Rattle.swarm_model.specs.declared.entry.Outcome.{Outcome}
 use Rattle.swarm_model.specs.declared.entry.Outcome.TheVariants as outcome
 use Rattle.swarm_model.specs.Finding.{is_state}
 use Rattle.swarm_model.specs.Deadlines.{next_of}
-use Rattle.swarm_model.specs.Effects.{task_after, added_tasks, expired_slice, started_run, killed, longer, closed, new_row, after}
+use Rattle.swarm_model.specs.Effects.{task_after, added_tasks, expired_slice, started_run, killed, with_chunk, with_last_report, new_row, after}
 use Rattle.swarm_model.specs.History.{MayFollow}
 use Rattle.swarm_model.specs.Soundness.{IsSound}
-use Rattle.swarm_laws.proofs.Lists.{Among, each_one, among_left, among_right, among_map, here}
-use Rattle.swarm_laws.proofs.Preconditions.{Finds, HasTask, waits}
-use Rattle.swarm_laws.proofs.EntryPreconditions.{finds}
-use Rattle.swarm_laws.proofs.Rows.{task_by, task_is, row_is, claim_waits, fits_in}
+use Rattle.pool_laws.proofs.Lists.{Among, each_one, among_left, among_right, among_map, here}
+use Rattle.pool_laws.proofs.Preconditions.{Finds, HasTask, waits}
+use Rattle.pool_laws.proofs.EntryPreconditions.{finds}
+use Rattle.pool_laws.proofs.Rows.{task_by, task_is, row_is, claim_waits, fits_in}
 use Rattle.index_laws.specs.Keys.{HasKey, KeysGrow}
 use Rattle.index_laws.specs.TaskClaims.{Claimed, claimed_of, claim_to_come}
 use Rattle.index_laws.specs.TaskUuids.{Sent, sent_of, uuid_to_come}
@@ -56,8 +56,8 @@ module _ (s : PoolState) (m : ℕ) (o : IsSound s) where
         begins = λ b t id is found w. absurd (cc (q, ap is_claiming is));
         cancels = λ w. refl;
         marks = λ w. claim_kept killed x.no (λ a. refl) x.attempt;
-        grows = λ chunk g w. claim_kept (longer chunk) x.no (λ a. refl) x.attempt;
-        finishes = λ chunk last y w e. claim_kept (closed chunk last) y.no (λ a. refl) y.attempt ∙ e;
+        grows = λ chunk g w. claim_kept (with_chunk chunk) x.no (λ a. refl) x.attempt;
+        finishes = λ chunk last y w e. claim_kept (with_last_report chunk last) y.no (λ a. refl) y.attempt ∙ e;
       })
     where
       by_outcome : (to : Outcome) → claimed_of (expired_slice m to x) ≡ claimed_of x

@@ -5,7 +5,7 @@ use Rattle.std.proofs.lemmas.Bool.{cases_eq, cases_lt}
 use Rattle.std.proofs.lemmas.List.{get_or-set_same, get_or-set_other, get_or_past, length-set}
 use Rattle.swarm_model.specs.Numbers.{AreNumbered}
 use Rattle.swarm_model.specs.declared.deadline.Deadline.{Deadline}
-use Rattle.swarm_laws.proofs.Lists.{Among, Found, find_is, number_finds, number_within, among_left, among_map, each_append, each_map, has_number}
+use Rattle.pool_laws.proofs.Lists.{Among, Found, find_is, number_finds, number_within, among_left, among_map, each_append, each_map, has_number}
 use Rattle.pool_index.specs.Deadlines.{deadline_at}
 use Rattle.index_laws.specs.RowDeadlines.{put_deadline}
 

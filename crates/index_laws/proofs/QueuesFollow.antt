@@ -7,7 +7,7 @@ use Rattle.task_props.specs.declared.slice.Slice.{Slice}
 use Rattle.swarm_model.specs.declared.task_row.TaskRow.{TaskRow}
 use Rattle.swarm_model.specs.Slices.{current_slice}
 use Rattle.swarm_model.specs.Effects.{after}
-use Rattle.swarm_laws.proofs.Preconditions.{waits}
+use Rattle.pool_laws.proofs.Preconditions.{waits}
 use Rattle.dim_queue.specs.declared.waiting.Waiting.{Waiting}
 use Rattle.dim_queue.specs.Plain.{Waits}
 use Rattle.index_laws.specs.Keys.{HasKey}

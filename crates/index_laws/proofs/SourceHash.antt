@@ -21,13 +21,13 @@ use Rattle.swarm_model.specs.Slices.{admit}
 use Rattle.swarm_model.specs.Deadlines.{last_state, next_of}
 use Rattle.swarm_model.specs.Reuse.{ended_well}
 use Rattle.swarm_model.specs.Views.{last_of}
-use Rattle.swarm_model.specs.Effects.{no_of_task, task_after, added_tasks, new_row, expired_slice, lost_run, canceled, kill_marked, started_run, lengthened, longer, closed, reported, ended_run, end_state, fresh_chunk, attempt_of, run_of_bot}
+use Rattle.swarm_model.specs.Effects.{no_of_task, task_after, added_tasks, new_row, expired_slice, lost_run, canceled, kill_marked, started_run, lengthened, with_chunk, with_last_report, reported, ended_run, end_state, fresh_chunk, attempt_of, run_of_bot}
 use Rattle.swarm_model.specs.Soundness.{IsSound}
-use Rattle.swarm_laws.proofs.Lists.{Among, Found, find_is, each_append, each_map, each_one}
-use Rattle.swarm_laws.proofs.Preconditions.{Finds, FindsUpdate}
-use Rattle.swarm_laws.proofs.EntryPreconditions.{finds}
-use Rattle.swarm_laws.proofs.Rows.{find_task, goes_to, lost_by, reported_task, update_task}
-use Rattle.swarm_laws.proofs.Numbers.{task_no, tasks_numbered}
+use Rattle.pool_laws.proofs.Lists.{Among, Found, find_is, each_append, each_map, each_one}
+use Rattle.pool_laws.proofs.Preconditions.{Finds, FindsUpdate}
+use Rattle.pool_laws.proofs.EntryPreconditions.{finds}
+use Rattle.pool_laws.proofs.Rows.{find_task, goes_to, lost_by, reported_task, update_task}
+use Rattle.pool_laws.proofs.Numbers.{task_no, tasks_numbered}
 use Rattle.index_laws.specs.Touched.{touched_task}
 use Rattle.index_laws.specs.TaskSources.{slice_hash_of, link_under, source_of, ends_well, link_by_report, source_link_before, SourceHashIsKnownBefore}
 use Rattle.index_laws.proofs.NumberedRows.{changed_found}
@@ -118,7 +118,7 @@ module _ (s : PoolState) (o : IsSound s) (m : ℕ) where
 
   -- whether a run ends well is known before its report
   well_known : (chunk : Option Chunk) (last : Last) (r : Option Attempt) →
-      (is_state (end_state r (reported last)) Completed && option_map_or (λ (l : Last). int_eq l.exit_code (pos 0)) (option_and_then (λ (a : Attempt). a.last) (option_map (closed chunk last) r)) false)
+      (is_state (end_state r (reported last)) Completed && option_map_or (λ (l : Last). int_eq l.exit_code (pos 0)) (option_and_then (λ (a : Attempt). a.last) (option_map (with_last_report chunk last) r)) false)
       ≡ option_map_or (ends_well last) r false
   well_known chunk last None = and_right (is_state (reported last) Completed) false refl
   well_known chunk last (Some a) = by_tests a.kill (last.hard_timeout || last.io_timeout)
@@ -129,7 +129,7 @@ module _ (s : PoolState) (o : IsSound s) (m : ℕ) where
       by_tests false false = refl
 
   -- the output of a run has no part in it
-  well_longer : (last : Last) (chunk : Chunk) (r : Option Attempt) → option_map_or (ends_well last) (option_map (longer chunk) r) false ≡ option_map_or (ends_well last) r false
+  well_longer : (last : Last) (chunk : Chunk) (r : Option Attempt) → option_map_or (ends_well last) (option_map (with_chunk chunk) r) false ≡ option_map_or (ends_well last) r false
   well_longer last chunk None = refl
   well_longer last chunk (Some a) = refl
 
@@ -142,7 +142,7 @@ module _ (s : PoolState) (o : IsSound s) (m : ℕ) where
     ended_link None chunk last = link_if (ended_well (ended_run m chunk last x)) (option_map_or (ends_well last) x.attempt false) (well_known chunk last x.attempt)
     ended_link (Some c) chunk last =
         link_if (ended_well (ended_run m chunk last (lengthened c x))) (option_map_or (ends_well last) x.attempt false)
-        (well_known chunk last (option_map (longer c) x.attempt) ∙ well_longer last c x.attempt)
+        (well_known chunk last (option_map (with_chunk c) x.attempt) ∙ well_longer last c x.attempt)
 
     running_link : is_state x.state Completed ≡ false → (fresh chunk : Option Chunk) → source_of (reported_task m fresh chunk None x) ≡ None
     running_link e None chunk = none_unless_completed x e

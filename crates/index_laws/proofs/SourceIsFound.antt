@@ -10,8 +10,8 @@ use Rattle.swarm_model.specs.Finding.{task_of}
 use Rattle.swarm_model.specs.Reuse.{ended_well, is_young, ran_hash, is_source, newer}
 use Rattle.swarm_model.specs.Effects.{no_of_task}
 use Rattle.swarm_model.specs.Soundness.{IsSound}
-use Rattle.swarm_laws.proofs.Lists.{Among, here, later}
-use Rattle.swarm_laws.proofs.Rows.{find_task}
+use Rattle.pool_laws.proofs.Lists.{Among, here, later}
+use Rattle.pool_laws.proofs.Rows.{find_task}
 use Rattle.index_laws.specs.TaskSources.{has_source_hash, last_source, if_young, AreCreatedInOrder, SourceIsFound}
 use Rattle.index_laws.proofs.CreatedInOrder.{first_in_order, rest_in_order}
 

@@ -19,9 +19,9 @@ use Rattle.swarm_model.specs.Effects.{no_of_task, after}
 use Rattle.swarm_model.specs.History.{MayFollow}
 use Rattle.swarm_model.specs.Numbers.{AreNumbered}
 use Rattle.swarm_model.specs.Soundness.{IsSound}
-use Rattle.swarm_laws.proofs.Alike.{same_is, is_same}
-use Rattle.swarm_laws.proofs.EntryPreconditions.{finds}
-use Rattle.swarm_laws.proofs.Numbers.{tasks_numbered}
+use Rattle.pool_laws.proofs.Alike.{same_is, is_same}
+use Rattle.pool_laws.proofs.EntryPreconditions.{finds}
+use Rattle.pool_laws.proofs.Numbers.{tasks_numbered}
 use Rattle.pool_index.specs.declared.source_link.SourceLink.{SourceLink}
 use Rattle.pool_index.specs.Sources.{newest_in, greater_of, IsNoted, AreWith}
 use Rattle.index_laws.specs.Touched.{touched_task}

@@ -12,9 +12,9 @@ use Rattle.swarm_model.specs.Finding.{task_of}
 use Rattle.swarm_model.specs.Effects.{no_of_task, task_after, added_tasks, after}
 use Rattle.swarm_model.specs.History.{MayFollow}
 use Rattle.swarm_model.specs.Soundness.{IsSound}
-use Rattle.swarm_laws.proofs.Lists.{Among, here, later, Found, find_is, has_number, number_within}
-use Rattle.swarm_laws.proofs.EntryPreconditions.{finds}
-use Rattle.swarm_laws.proofs.Numbers.{task_no, tasks_numbered}
+use Rattle.pool_laws.proofs.Lists.{Among, here, later, Found, find_is, has_number, number_within}
+use Rattle.pool_laws.proofs.EntryPreconditions.{finds}
+use Rattle.pool_laws.proofs.Numbers.{task_no, tasks_numbered}
 use Rattle.index_laws.specs.Touched.{touched_task}
 use Rattle.index_laws.specs.StateCounts.{touched_row}
 use Rattle.index_laws.specs.RowSums.{weight_of_row, SumsFollow}

@@ -19,12 +19,12 @@ use Rattle.swarm_model.specs.Slices.{admit, current_slice}
 use Rattle.swarm_model.specs.Deadlines.{next_of, last_state}
 use Rattle.swarm_model.specs.Effects.{no_of_task, task_after, added_tasks, new_row, expired_slice, lost_run, lost_run_at, canceled, kill_marked, started_run, ended_run, lengthened, fresh_chunk, attempt_of, end_state, if_some, run_of_bot, after}
 use Rattle.swarm_model.specs.Soundness.{IsSound}
-use Rattle.swarm_laws.proofs.Lists.{Among, Found, find_is, each_append, each_map, each_one, number_within}
-use Rattle.swarm_laws.proofs.Preconditions.{Finds, waits, runs}
-use Rattle.swarm_laws.proofs.EntryPreconditions.{finds}
-use Rattle.swarm_laws.proofs.Rows.{agree, find_task, row_is, goes_to, reported_task, update_task, update_runs, has_runner, HasRun, run_is}
-use Rattle.swarm_laws.proofs.Tasks.{end_final, finished_final, last_final, not_pending}
-use Rattle.swarm_laws.proofs.Numbers.{task_no}
+use Rattle.pool_laws.proofs.Lists.{Among, Found, find_is, each_append, each_map, each_one, number_within}
+use Rattle.pool_laws.proofs.Preconditions.{Finds, waits, runs}
+use Rattle.pool_laws.proofs.EntryPreconditions.{finds}
+use Rattle.pool_laws.proofs.Rows.{agree, find_task, row_is, goes_to, reported_task, update_task, update_runs, has_runner, HasRun, run_is}
+use Rattle.pool_laws.proofs.Tasks.{end_final, finished_final, last_final, not_pending}
+use Rattle.pool_laws.proofs.Numbers.{task_no}
 use Rattle.dim_queue.specs.declared.waiting.Waiting.{Waiting}
 use Rattle.index_laws.specs.Touched.{touched_task}
 use Rattle.index_laws.specs.TaskQueues.{waiting_of, place_in, touched_place}

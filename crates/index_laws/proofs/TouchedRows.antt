@@ -11,9 +11,9 @@ use Rattle.swarm_model.specs.declared.entry.EntryKind.TheVariants as kind
 use Rattle.swarm_model.specs.Finding.{is_state, is_final}
 use Rattle.swarm_model.specs.Effects.{no_of_task, run_of_bot}
 use Rattle.swarm_model.specs.Soundness.{IsSound}
-use Rattle.swarm_laws.proofs.Lists.{Among, number_within}
-use Rattle.swarm_laws.proofs.Preconditions.{Finds, HasTask, waits, runs}
-use Rattle.swarm_laws.proofs.Rows.{HasRun, agree, row_is, run_is, has_runner, claim_waits, update_runs}
+use Rattle.pool_laws.proofs.Lists.{Among, number_within}
+use Rattle.pool_laws.proofs.Preconditions.{Finds, HasTask, waits, runs}
+use Rattle.pool_laws.proofs.Rows.{HasRun, agree, row_is, run_is, has_runner, claim_waits, update_runs}
 use Rattle.index_laws.specs.Touched.{touched_task}
 
 waits_on : (state : TaskState) → is_state state Pending ≡ true → is_final state ≡ false

@@ -14,9 +14,9 @@ use Rattle.swarm_model.specs.Finding.{task_of, bot_of}
 use Rattle.swarm_model.specs.Answers.{run_on}
 use Rattle.swarm_model.specs.Effects.{task_after, added_tasks, bot_after, added_bots, expired_slice, lost_run, lost_run_at, canceled, kill_marked, started_run, fresh_chunk, attempt_of, silent_bot, dead_bot, session_row, polled, assigned_bot, heard, event_effect, terminated, if_some, run_of_bot, runs_task, new_row}
 use Rattle.swarm_model.specs.Soundness.{IsSound, runner}
-use Rattle.swarm_laws.proofs.Lists.{Among, each_one}
-use Rattle.swarm_laws.proofs.Preconditions.{Finds, FindsClaim, FindsUpdate, HasTask, IsNewcomer, IsOld, runs}
-use Rattle.swarm_laws.proofs.Rows.{agree, one_bot, find_task, find_bot, reported_task, reporting_bot, update_task, update_bot, goes_on_runs}
+use Rattle.pool_laws.proofs.Lists.{Among, each_one}
+use Rattle.pool_laws.proofs.Preconditions.{Finds, FindsClaim, FindsUpdate, HasTask, IsNewcomer, IsOld, runs}
+use Rattle.pool_laws.proofs.Rows.{agree, one_bot, find_task, find_bot, reported_task, reporting_bot, update_task, update_bot, goes_on_runs}
 use Rattle.index_laws.specs.Touched.{touched_task, touched_bot}
 
 -- a change at a number leaves the row of another number

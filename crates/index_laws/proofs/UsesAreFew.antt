@@ -18,7 +18,7 @@ use Rattle.swarm_model.specs.Entries.{weight, weight_of, digest_weight, file_wei
 use Rattle.swarm_model.specs.Effects.{fresh_chunk, opening, after}
 use Rattle.swarm_model.specs.History.{replay, IsCaused, MayFollow}
 use Rattle.swarm_model.specs.Soundness.{IsSound}
-use Rattle.swarm_laws.proofs.Sound.{sound_after, opening_sound}
+use Rattle.pool_laws.proofs.Sound.{sound_after, opening_sound}
 use Rattle.index_laws.specs.TaskUses.{inputs_with, uses_in, attempt_in, chunk_use, uses_to_come, touched_has_ended, UsesWeigh, UsesAreFew}
 use Rattle.index_laws.proofs.UsesChange.{uses_where_ended, uses_where_not_ended}
 

@@ -19,13 +19,13 @@ use Rattle.swarm_model.specs.declared.entry.Outcome.TheVariants as outcome
 use Rattle.swarm_model.specs.Numbers.{AreNumbered}
 use Rattle.swarm_model.specs.Finding.{is_state, is_final, is_task, task_of}
 use Rattle.swarm_model.specs.Uses.{is_chunk_of}
-use Rattle.swarm_model.specs.Effects.{no_of_task, task_after, added_tasks, new_row, expired_slice, lost_run, lost_run_at, canceled, killed, kill_marked, started_run, longer, closed, ended_run, fresh_chunk, attempt_of, if_some, run_of_bot}
+use Rattle.swarm_model.specs.Effects.{no_of_task, task_after, added_tasks, new_row, expired_slice, lost_run, lost_run_at, canceled, killed, kill_marked, started_run, with_chunk, with_last_report, ended_run, fresh_chunk, attempt_of, if_some, run_of_bot}
 use Rattle.swarm_model.specs.Soundness.{IsSound}
-use Rattle.swarm_laws.proofs.Lists.{Among, here, Found, find_is, find_none, number_finds, number_within, among_right, each_append, each_map}
-use Rattle.swarm_laws.proofs.Preconditions.{Finds, waits}
-use Rattle.swarm_laws.proofs.EntryPreconditions.{finds}
-use Rattle.swarm_laws.proofs.Rows.{fits_in, task_is, one_task, row_is, claim_waits, reported_task, update_task}
-use Rattle.swarm_laws.proofs.Numbers.{task_no, tasks_numbered}
+use Rattle.pool_laws.proofs.Lists.{Among, here, Found, find_is, find_none, number_finds, number_within, among_right, each_append, each_map}
+use Rattle.pool_laws.proofs.Preconditions.{Finds, waits}
+use Rattle.pool_laws.proofs.EntryPreconditions.{finds}
+use Rattle.pool_laws.proofs.Rows.{fits_in, task_is, one_task, row_is, claim_waits, reported_task, update_task}
+use Rattle.pool_laws.proofs.Numbers.{task_no, tasks_numbered}
 use Rattle.index_laws.specs.Touched.{touched_task}
 use Rattle.index_laws.specs.RowSums.{weight_of_row}
 use Rattle.index_laws.specs.TaskUses.{uses_of_slices, chunks_with, times_named, uses_of, chunk_use, uses_to_come, row_before, row_after, touched_has_ended, UsesOfTouched, NamesOfTouched, UsesWhereEnded, UsesWhereNotEnded}
@@ -55,12 +55,12 @@ module _ (digest : List ℕ) where
   killed_same (Some a) = refl
 
   -- and so does one that ends by a report
-  closed_same : (chunk : Option Chunk) (last : Last) (r : Option Attempt) → of_output (option_map (closed chunk last) r) ≡ of_output r
+  closed_same : (chunk : Option Chunk) (last : Last) (r : Option Attempt) → of_output (option_map (with_last_report chunk last) r) ≡ of_output r
   closed_same chunk last None = refl
   closed_same chunk last (Some a) = refl
 
   -- a chunk that goes on from it adds its use
-  longer_more : (chunk : Chunk) (a : Attempt) → of_output (Some (longer chunk a)) ≡ of_output (Some a) + chunk_use digest chunk
+  longer_more : (chunk : Chunk) (a : Attempt) → of_output (Some (with_chunk chunk a)) ≡ of_output (Some a) + chunk_use digest chunk
   longer_more chunk a = sum_by_push (λ (c : Chunk). cond (is_chunk_of digest c) 1 0) a.chunks chunk
 
   -- a task that waits has no output yet
@@ -73,17 +73,17 @@ module _ (digest : List ℕ) where
   abbrev of_fresh : Option Chunk → ℕ
   of_fresh fresh = option_map_or (chunk_use digest) fresh 0
 
-  longer_on : (chunk : Chunk) (r : Option Attempt) (a : Attempt) → r ≡ Some a → of_output (option_map (longer chunk) r) ≡ of_output r + chunk_use digest chunk
+  longer_on : (chunk : Chunk) (r : Option Attempt) (a : Attempt) → r ≡ Some a → of_output (option_map (with_chunk chunk) r) ≡ of_output r + chunk_use digest chunk
   longer_on chunk None a e = absurd (cc (e))
   longer_on chunk (Some b) a e = longer_more chunk b
 
   reported_more : (m : ℕ) (fresh chunk : Option Chunk) (last : Option Last) (x : TaskRow) (a : Attempt) → x.attempt ≡ Some a → times_named digest (reported_task m fresh chunk last x) ≡ times_named digest x + of_fresh fresh
   reported_more m None chunk None x a e = plus_none (times_named digest x) (times_named digest x) refl
   reported_more m None chunk (Some last) x a e = plus_none (times_named digest (ended_run m chunk last x)) (times_named digest x) (ap (λ (n : ℕ). uses_of_slices digest x.request.task_slices + n) (closed_same chunk last x.attempt))
-  reported_more m (Some c) chunk None x a e = plus_more (uses_of_slices digest x.request.task_slices) (of_output (option_map (longer c) x.attempt)) (of_output x.attempt) (chunk_use digest c) (longer_on c x.attempt a e)
+  reported_more m (Some c) chunk None x a e = plus_more (uses_of_slices digest x.request.task_slices) (of_output (option_map (with_chunk c) x.attempt)) (of_output x.attempt) (chunk_use digest c) (longer_on c x.attempt a e)
   reported_more m (Some c) chunk (Some last) x a e =
-      plus_more (uses_of_slices digest x.request.task_slices) (of_output (option_map (closed chunk last) (option_map (longer c) x.attempt))) (of_output x.attempt) (chunk_use digest c)
-      (closed_same chunk last (option_map (longer c) x.attempt) ∙ longer_on c x.attempt a e)
+      plus_more (uses_of_slices digest x.request.task_slices) (of_output (option_map (with_last_report chunk last) (option_map (with_chunk c) x.attempt))) (of_output x.attempt) (chunk_use digest c)
+      (closed_same chunk last (option_map (with_chunk c) x.attempt) ∙ longer_on c x.attempt a e)
 
   module _ (s : PoolState) (o : IsSound s) (m : ℕ) where
     -- what the touched row names after an entry

@@ -13,12 +13,12 @@ use Rattle.swarm_model.specs.Finding.{task_of}
 use Rattle.swarm_model.specs.Reuse.{sent, is_sent}
 use Rattle.swarm_model.specs.Effects.{after}
 use Rattle.swarm_model.specs.Soundness.{IsSound}
-use Rattle.swarm_laws.proofs.Alike.{same_is}
-use Rattle.swarm_laws.proofs.Lists.{Among, Found, find_is}
-use Rattle.swarm_laws.proofs.Preconditions.{Finds}
-use Rattle.swarm_laws.proofs.EntryPreconditions.{finds}
-use Rattle.swarm_laws.proofs.Rows.{find_task}
-use Rattle.swarm_laws.proofs.UuidLaw.{sent_found}
+use Rattle.pool_laws.proofs.Alike.{same_is}
+use Rattle.pool_laws.proofs.Lists.{Among, Found, find_is}
+use Rattle.pool_laws.proofs.Preconditions.{Finds}
+use Rattle.pool_laws.proofs.EntryPreconditions.{finds}
+use Rattle.pool_laws.proofs.Rows.{find_task}
+use Rattle.pool_laws.proofs.UuidLaw.{sent_found}
 use Rattle.pool_index.specs.declared.uuid_link.UuidLink.{UuidLink}
 use Rattle.pool_index.specs.Uuids.{HasUuid, HasNone, key_of, links_with}
 use Rattle.index_laws.specs.Keys.{HasKey}

@@ -10,7 +10,7 @@ use Rattle.swarm_model.specs.declared.reply.Reply.TheVariants as reply
 use Rattle.swarm_model.specs.declared.task_state.TaskState.{TaskState}
 use Rattle.swarm_model.specs.declared.pool_state.PoolState.{PoolState}
 use Rattle.swarm_model.specs.Finding.{task_of}
-use Rattle.swarm_model.specs.Examples.{small_task, exits}
+use Rattle.swarm_model.specs.Examples.{small_task, exited_with}
 use Rattle.model_examples.specs.BotExamples.{script, greets, claims}
 
 -- what bot b1 reports on task 1
@@ -40,7 +40,7 @@ of_priority number = ask.New (record (small_task 600) { priority = number })
 
 -- bot b1 claims a task, and reports the end of that of a number
 abbrev pub turn : List ℕ → ℕ → List (ℕ × Request)
-turn claim number = (1000, claims (codes "b1") claim) ∷ (1000, ask.Update (codes "b1") number 1 None (Some (exits (pos 0)))) ∷ []
+turn claim number = (1000, claims (codes "b1") claim) ∷ (1000, ask.Update (codes "b1") number 1 None (Some (exited_with (pos 0)))) ∷ []
 
 abbrev pub task_run : Reply → Option ℕ
 task_run (reply.Run task try_no slice tolerance properties) = Some task

@@ -6,7 +6,7 @@ use Rattle.swarm_model.specs.declared.pool_settings.PoolSettings.{PoolSettings}
 use Rattle.swarm_model.specs.declared.request.Request.{Request}
 use Rattle.swarm_model.specs.declared.request.Request.TheVariants as ask
 use Rattle.swarm_model.specs.declared.reply.Reply.{Reply}
-use Rattle.swarm_model.specs.Examples.{settings, properties, small_task, exits}
+use Rattle.swarm_model.specs.Examples.{settings, properties, small_task, exited_with}
 use Rattle.model_examples.specs.BotExamples.{from, greets, claims}
 use Rattle.model_examples.specs.EndExamples.{reports}
 
@@ -39,7 +39,7 @@ asks = ask.New (pure_task true)
 -- bot b1 runs the task at 1000, and it ends with this exit code
 abbrev pub ran : ℤ → List (ℕ × Request)
 ran code =
-    (1000, greets (codes "b1") (codes "s")) ∷ (1000, asks) ∷ (1000, claims (codes "b1") (codes "c1")) ∷ (1001, reports (Some (exits code))) ∷ []
+    (1000, greets (codes "b1") (codes "s")) ∷ (1000, asks) ∷ (1000, claims (codes "b1") (codes "c1")) ∷ (1001, reports (Some (exited_with code))) ∷ []
 
 -- what follows is answered
 abbrev pub replies_after : ℤ → List (ℕ × Request) → List Reply

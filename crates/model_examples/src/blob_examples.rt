@@ -8,7 +8,7 @@ ghost use Rattle.swarm_model.specs.declared.task_state.TaskState.TheVariants.{Pe
 ghost use Rattle.swarm_model.specs.Bytes.{new_digest, removed_digest};
 ghost use Rattle.swarm_model.specs.Effects.{opening};
 ghost use Rattle.swarm_model.specs.Entries.{weight_of, file_weight};
-ghost use Rattle.swarm_model.specs.Examples.{exits};
+ghost use Rattle.swarm_model.specs.Examples.{exited_with};
 ghost use Rattle.model_examples.specs.EndExamples.{begun, reports};
 ghost use Rattle.model_examples.specs.BlobExamples.{brief, pool_after, replies_to, puts, kept_until, with_input, writes, shown_from};
 
@@ -30,7 +30,7 @@ pub fn a_blob_is_removed_at_its_deadline()
 pub fn a_blob_that_a_task_needs_is_kept()
     ensures input { kept_until (codes "a") (pool_after ((1000, puts (codes "a")) ∷ (1001, ask.New (with_input (codes "a") 5)) ∷ (1060, ask.Count None) ∷ [])) ≡ Some 1120 }
     ensures output { kept_until (codes "a") (pool_after (begun ++ (1001, writes 0 (codes "a")) ∷ (1061, ask.Count None) ∷ [])) ≡ Some 1121 }
-    ensures ended { kept_until (codes "a") (pool_after (begun ++ (1001, writes 0 (codes "a")) ∷ (1002, reports (Some (exits (pos 0)))) ∷ (1061, ask.Count None) ∷ [])) ≡ None }
+    ensures ended { kept_until (codes "a") (pool_after (begun ++ (1001, writes 0 (codes "a")) ∷ (1002, reports (Some (exited_with (pos 0)))) ∷ (1061, ask.Count None) ∷ [])) ≡ None }
 {}
 
 /// An input is there where a blob has its digest and its size.

@@ -6,7 +6,7 @@ ghost use Rattle.swarm_model.specs.declared.reply.Reply.TheVariants as reply;
 ghost use Rattle.swarm_model.specs.declared.rule.Rule.TheVariants as rule;
 ghost use Rattle.swarm_model.specs.declared.permission.Permission.TheVariants as permission;
 ghost use Rattle.swarm_model.specs.declared.task_state.TaskState.TheVariants.{Pending, Running, TimedOut, BotDied, Canceled, Completed, Killed};
-ghost use Rattle.swarm_model.specs.Examples.{small_task, exits};
+ghost use Rattle.swarm_model.specs.Examples.{small_task, exited_with};
 ghost use Rattle.model_examples.specs.BotExamples.{script, greets, polls, claims, comes_to};
 ghost use Rattle.swarm_model.specs.Answers.{answer};
 ghost use Rattle.swarm_model.specs.Finding.{bot_of};
@@ -15,9 +15,9 @@ ghost use Rattle.model_examples.specs.EndExamples.{reports, replies_after, pool_
 /// A run that was asked to stop was killed, however it ends: its bot is told to stop, and reports
 /// an end, falls silent or comes with another session.
 pub fn a_killed_run_was_killed()
-    ensures told { replies_after ((1001, ask.Cancel 1 0 true) ∷ (1002, reports None) ∷ (1003, reports (Some (exits (pos 0)))) ∷ [])
+    ensures told { replies_after ((1001, ask.Cancel 1 0 true) ∷ (1002, reports None) ∷ (1003, reports (Some (exited_with (pos 0)))) ∷ [])
         ≡ reply.Canceled true true ∷ reply.Updated true ∷ reply.Updated true ∷ [] }
-    ensures reported { state_after ((1001, ask.Cancel 1 0 true) ∷ (1003, reports (Some (exits (pos 0)))) ∷ []) ≡ Some Killed }
+    ensures reported { state_after ((1001, ask.Cancel 1 0 true) ∷ (1003, reports (Some (exited_with (pos 0)))) ∷ []) ≡ Some Killed }
     ensures silent { state_after ((1001, ask.Cancel 1 0 true) ∷ (2200, ask.Count None) ∷ []) ≡ Some Killed }
     ensures another_session { state_after ((1001, ask.Cancel 1 0 true) ∷ (1002, greets (codes "b1") (codes "t")) ∷ []) ≡ Some Killed }
 {}
@@ -25,29 +25,29 @@ pub fn a_killed_run_was_killed()
 /// A run that ended by itself is complete, whatever it exits with; one that was stopped for its
 /// time has timed out.
 pub fn reports_end_runs()
-    ensures success { state_after ((1001, reports (Some (exits (pos 0)))) ∷ []) ≡ Some Completed }
-    ensures failure { state_after ((1001, reports (Some (exits (pos 1)))) ∷ []) ≡ Some Completed }
-    ensures too_long { state_after ((1001, reports (Some (record (exits (pos 0)) { hard_timeout = true }))) ∷ []) ≡ Some TimedOut }
-    ensures too_quiet { state_after ((1001, reports (Some (record (exits (pos 0)) { io_timeout = true }))) ∷ []) ≡ Some TimedOut }
+    ensures success { state_after ((1001, reports (Some (exited_with (pos 0)))) ∷ []) ≡ Some Completed }
+    ensures failure { state_after ((1001, reports (Some (exited_with (pos 1)))) ∷ []) ≡ Some Completed }
+    ensures too_long { state_after ((1001, reports (Some (record (exited_with (pos 0)) { hard_timeout = true }))) ∷ []) ≡ Some TimedOut }
+    ensures too_quiet { state_after ((1001, reports (Some (record (exited_with (pos 0)) { io_timeout = true }))) ∷ []) ≡ Some TimedOut }
     ensures progress { state_after ((1001, reports None) ∷ []) ≡ Some Running }
-    ensures idle_bot { option_map (λ bot. bot.task) (bot_of (pool_after ((1001, reports (Some (exits (pos 0)))) ∷ [])) 1) ≡ Some None }
+    ensures idle_bot { option_map (λ bot. bot.task) (bot_of (pool_after ((1001, reports (Some (exited_with (pos 0)))) ∷ [])) 1) ≡ Some None }
 {}
 
 /// The report that ended a run may be sent again; any other is refused from then on, and each sign
 /// of the bot is one.
 pub fn a_last_report_acts_once()
-    ensures replies { replies_after ((1001, reports (Some (exits (pos 0)))) ∷ (1002, reports (Some (exits (pos 0)))) ∷ (1003, reports (Some (exits (pos 1)))) ∷ (1003, reports None) ∷ [])
+    ensures replies { replies_after ((1001, reports (Some (exited_with (pos 0)))) ∷ (1002, reports (Some (exited_with (pos 0)))) ∷ (1003, reports (Some (exited_with (pos 1)))) ∷ (1003, reports None) ∷ [])
         ≡ reply.Updated false ∷ reply.Updated false ∷ reply.No (rule.AttemptOver Completed) ∷ reply.No (rule.AttemptOver Completed) ∷ [] }
-    ensures heard { option_map (λ bot. bot.contact) (bot_of (pool_after ((1001, reports (Some (exits (pos 0)))) ∷ (1002, reports (Some (exits (pos 0)))) ∷ (1003, reports None) ∷ [])) 1) ≡ Some 1002 }
-    ensures stays { state_after ((1001, reports (Some (exits (pos 0)))) ∷ (1002, reports (Some (exits (pos 1)))) ∷ []) ≡ Some Completed }
-    ensures silent { replies_after ((2200, reports (Some (exits (pos 0)))) ∷ []) ≡ reply.No (rule.AttemptOver BotDied) ∷ [] }
+    ensures heard { option_map (λ bot. bot.contact) (bot_of (pool_after ((1001, reports (Some (exited_with (pos 0)))) ∷ (1002, reports (Some (exited_with (pos 0)))) ∷ (1003, reports None) ∷ [])) 1) ≡ Some 1002 }
+    ensures stays { state_after ((1001, reports (Some (exited_with (pos 0)))) ∷ (1002, reports (Some (exited_with (pos 1)))) ∷ []) ≡ Some Completed }
+    ensures silent { replies_after ((2200, reports (Some (exited_with (pos 0)))) ∷ []) ≡ reply.No (rule.AttemptOver BotDied) ∷ [] }
 {}
 
 /// Only the bot that claimed a run may report on it.
 pub fn another_bot_reports()
-    ensures replies { replies_after ((1001, greets (codes "b2") (codes "s")) ∷ (1002, ask.Update (codes "b2") 1 1 None (Some (exits (pos 0)))) ∷ (1002, ask.Update (codes "b3") 1 1 None None) ∷ (1002, ask.Update (codes "b2") 2 1 None None) ∷ [])
+    ensures replies { replies_after ((1001, greets (codes "b2") (codes "s")) ∷ (1002, ask.Update (codes "b2") 1 1 None (Some (exited_with (pos 0)))) ∷ (1002, ask.Update (codes "b3") 1 1 None None) ∷ (1002, ask.Update (codes "b2") 2 1 None None) ∷ [])
         ≡ reply.Shaken (codes "b2") ∷ reply.No (rule.NotClaimant (codes "b1")) ∷ reply.No rule.NoBot ∷ reply.No rule.NoTask ∷ [] }
-    ensures stays { state_after ((1001, greets (codes "b2") (codes "s")) ∷ (1002, ask.Update (codes "b2") 1 1 None (Some (exits (pos 0)))) ∷ []) ≡ Some Running }
+    ensures stays { state_after ((1001, greets (codes "b2") (codes "s")) ∷ (1002, ask.Update (codes "b2") 1 1 None (Some (exited_with (pos 0)))) ∷ []) ≡ Some Running }
 {}
 
 /// A task that waits ends as it is canceled, and no bot gets it; one that runs goes on, unless its
@@ -58,7 +58,7 @@ pub fn cancels_by_state()
     ensures canceled { comes_to (script ((1000, ask.New (small_task 600)) ∷ (1001, ask.Cancel 1 0 true) ∷ [])) 1 ≡ Some (Canceled, 0) }
     ensures running { replies_after ((1001, ask.Cancel 1 0 false) ∷ (1002, reports None) ∷ (1003, ask.Cancel 1 1 true) ∷ (1004, ask.Cancel 1 0 true) ∷ (1005, ask.Cancel 1 0 false) ∷ [])
         ≡ reply.Canceled false true ∷ reply.Updated false ∷ reply.Canceled true true ∷ reply.Canceled true true ∷ reply.Canceled false true ∷ [] }
-    ensures ended { replies_after ((1001, reports (Some (exits (pos 0)))) ∷ (1002, ask.Cancel 1 0 true) ∷ (1002, ask.Cancel 1 0 false) ∷ [])
+    ensures ended { replies_after ((1001, reports (Some (exited_with (pos 0)))) ∷ (1002, ask.Cancel 1 0 true) ∷ (1002, ask.Cancel 1 0 false) ∷ [])
         ≡ reply.Updated false ∷ reply.Canceled false false ∷ reply.Canceled false false ∷ [] }
 {}
 
@@ -78,6 +78,6 @@ pub fn lower_priorities_first()
 
 /// A bot that is to end finishes its run first.
 pub fn a_terminating_bot_finishes_its_run()
-    ensures { replies_after ((1001, ask.Terminate (codes "b1")) ∷ (1002, polls (codes "b1")) ∷ (1003, reports (Some (exits (pos 0)))) ∷ (1004, polls (codes "b1")) ∷ [])
+    ensures { replies_after ((1001, ask.Terminate (codes "b1")) ∷ (1002, polls (codes "b1")) ∷ (1003, reports (Some (exited_with (pos 0)))) ∷ (1004, polls (codes "b1")) ∷ [])
         ≡ reply.Terminating ∷ reply.No (rule.BotBusy 1 1) ∷ reply.Updated false ∷ reply.Terminate ∷ [] }
 {}

@@ -3,7 +3,7 @@ ghost use Rattle.std.specs.Prelude.{◌≡◌, ◌∷◌, [], Some, None, true, 
 ghost use Rattle.swarm_model.specs.declared.entry.EntryKind.TheVariants as kind;
 ghost use Rattle.swarm_model.specs.declared.entry.Outcome.TheVariants as outcome;
 ghost use Rattle.swarm_model.specs.declared.task_state.TaskState.TheVariants.{Pending, Running, Expired, BotDied, Canceled, Killed};
-ghost use Rattle.swarm_model.specs.Examples.{exits};
+ghost use Rattle.swarm_model.specs.Examples.{exited_with};
 ghost use Rattle.model_examples.specs.RowExamples.{accepted, claimed, session, chunk, shown, output};
 
 /// A task comes to its second slice at the end of the first one, and stays at it where it expires.
@@ -23,8 +23,8 @@ pub fn output_grows_by_what_is_new()
 /// report is kept too, and remembered.
 pub fn a_run_stops_with_its_last_report()
     ensures marked { shown (claimed ((1025, kind.Kill 1) ∷ [])) ≡ Some (Running, (0, (1000, None))) }
-    ensures killed { shown (claimed ((1025, kind.Kill 1) ∷ (1030, kind.Update 1 1 1 (Some (chunk 0 3)) (Some (exits (pos 0)))) ∷ [])) ≡ Some (Killed, (0, (1000, Some 1030))) }
-    ensures last_chunk { output (claimed ((1020, kind.Update 1 1 1 (Some (chunk 0 9)) None) ∷ (1025, kind.Kill 1) ∷ (1030, kind.Update 1 1 1 (Some (chunk 9 3)) (Some (exits (pos 0)))) ∷ [])) ≡ Some (true, (12, (2, Some 9))) }
+    ensures killed { shown (claimed ((1025, kind.Kill 1) ∷ (1030, kind.Update 1 1 1 (Some (chunk 0 3)) (Some (exited_with (pos 0)))) ∷ [])) ≡ Some (Killed, (0, (1000, Some 1030))) }
+    ensures last_chunk { output (claimed ((1020, kind.Update 1 1 1 (Some (chunk 0 9)) None) ∷ (1025, kind.Kill 1) ∷ (1030, kind.Update 1 1 1 (Some (chunk 9 3)) (Some (exited_with (pos 0)))) ∷ [])) ≡ Some (true, (12, (2, Some 9))) }
 {}
 
 /// A task that waits ends as it is canceled. A run ends with its bot's silence, or with its bot's

@@ -32,7 +32,7 @@ impl Model for CacheTable {
     ghost invariant = { λ t. t.caches.cap ≡ 2 ^ 64 - 1 };
 }
 
-// Whether the sizes add up to at most `most`.
+/// Whether the sizes add up to at most `most`.
 fn sizes_fit(caches: &LruCache<String, u64>, most: u64) -> bool
     ensures { IsTrue result ↔ (bytes_of (by_bytes caches.now.entries) ≤ most) }
 {
@@ -46,7 +46,7 @@ fn sizes_fit(caches: &LruCache<String, u64>, most: u64) -> bool
     true
 }
 
-// Whether both limits hold.
+/// Whether both limits hold.
 #[tactic(auto, using(crate::proofs::Entries::length_by_bytes))]
 fn is_within(caches: &LruCache<String, u64>, most: u32, most_bytes: u64) -> bool
     ensures { IsTrue result ↔ IsWithin (record { entries = by_bytes caches.now.entries; most = most; most_bytes = most_bytes }) }
@@ -54,7 +54,7 @@ fn is_within(caches: &LruCache<String, u64>, most: u32, most_bytes: u64) -> bool
     caches.len() <= most as usize && sizes_fit(caches, most_bytes)
 }
 
-// Takes the pair of a name out.
+/// Takes the pair of a name out.
 fn take_out(caches: &mut LruCache<String, u64>, name: &str) -> Option<u64>
     ensures size { result ≡ lookup (bytes_eq name.now) (by_bytes caches.old.entries) }
     ensures rest { by_bytes caches.new.entries ≡ remove_entry (bytes_eq name.now) (by_bytes caches.old.entries) }
@@ -63,7 +63,7 @@ fn take_out(caches: &mut LruCache<String, u64>, name: &str) -> Option<u64>
     caches.pop(name)
 }
 
-// Takes the last pair out, where there is one.
+/// Takes the last pair out, where there is one.
 fn take_last(caches: &mut LruCache<String, u64>) -> Option<(Text, u64)>
     ensures none { IfNone result (caches.new ≡ caches.old) }
     ensures empty { IfNone result (caches.old.entries ≡ []) }
@@ -74,7 +74,7 @@ fn take_last(caches: &mut LruCache<String, u64>) -> Option<(Text, u64)>
     Some((Text::from_string(name), size))
 }
 
-// Puts a name first, in place of the same name.
+/// Puts a name first, in place of the same name.
 fn put_first(caches: &mut LruCache<String, u64>, name: String, size: u64) -> Result<(), String>
     requires roomy { caches.old.cap ≡ 2 ^ 64 - 1 }
     ensures ok { OnOk result (by_bytes caches.new.entries ≡ (string_bytes name, size) ∷ remove_entry (bytes_eq (string_bytes name)) (by_bytes caches.old.entries)) }
@@ -89,7 +89,7 @@ fn put_first(caches: &mut LruCache<String, u64>, name: String, size: u64) -> Res
     }
 }
 
-// The names, in the order of their last use.
+/// The names, in the order of their last use.
 fn copy_names(alloc: Global, caches: &LruCache<String, u64>) -> Result<Seq<Text>, AllocError>
     ensures { IfOk result (λ names. names ≡ names_of (by_bytes caches.now.entries)) }
 {

@@ -19,11 +19,11 @@ use Rattle.swarm_model.specs.Effects.{life, blobs_in, with_rows, put_chunk, with
 use Rattle.swarm_model.specs.Finding.{blob_of}
 use Rattle.swarm_model.specs.History.{MayFollow}
 use Rattle.swarm_model.specs.Soundness.{IsSound}
-use Rattle.swarm_laws.proofs.Preconditions.{Finds}
-use Rattle.swarm_laws.proofs.EntryPreconditions.{finds}
-use Rattle.swarm_laws.proofs.Outputs.{fresh_next}
-use Rattle.swarm_laws.proofs.BlobChanges.{update_attempt, update_takes}
-use Rattle.swarm_laws.proofs.BlobLaws.{chunk_fits}
+use Rattle.pool_laws.proofs.Preconditions.{Finds}
+use Rattle.pool_laws.proofs.EntryPreconditions.{finds}
+use Rattle.pool_laws.proofs.Outputs.{fresh_next}
+use Rattle.pool_laws.proofs.BlobChanges.{update_attempt, update_takes}
+use Rattle.pool_laws.proofs.BlobLaws.{chunk_fits}
 use Rattle.row_changes.specs.Output.{run_of, StaysShort}
 use Rattle.content_store.specs.Plain.{ContentStoreState}
 use Rattle.content_store.specs.StoredRows.{BlobsState}

@@ -10,7 +10,7 @@ use Rattle.swarm_model.specs.declared.pool_state.PoolState.{PoolState}
 use Rattle.swarm_model.specs.Bytes.{brings}
 use Rattle.swarm_model.specs.Effects.{opening, after}
 use Rattle.swarm_model.specs.History.{replay}
-use Rattle.swarm_laws.proofs.BlobLaws.{placed_few}
+use Rattle.pool_laws.proofs.BlobLaws.{placed_few}
 use Rattle.pool_changes.specs.Blobs.{AreBrought}
 
 replay_push : (s : PoolState) (log : List Entry) (entry : Entry) → replay s (log ++ entry ∷ []) ≡ after (replay s log) entry

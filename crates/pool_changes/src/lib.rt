@@ -5,7 +5,7 @@
 //! words of `swarm_model`. A machine takes from `proofs/`: `BlobEffects`, that an entry that may
 //! follow can change the blobs, and that they are then those of the pool after it; `Storing`, what
 //! the rows of the blobs tell of the bytes that are held; `Legality` and `Growing`, that a log stays
-//! legal and its replay is the pool after the entry that is added. The crate stands on `swarm_laws`,
+//! legal and its replay is the pool after the entry that is added. The crate stands on `pool_laws`,
 //! `row_changes` and `content_store`.
 #![tactic(auto)]
 

@@ -1,6 +1,6 @@
 //! The request for which a kept entry stands.
 ghost use Rattle.std.specs.Prelude.{◌≡◌, IfOk, unwrap_or, option_map};
-ghost use Rattle.swarm_model.specs.Entries.{asks, poll_of, claim_of, handshake_of, event_of, terminate_of, cancel_of, update_of, by_nobody};
+ghost use Rattle.swarm_model.specs.Entries.{asks, poll_of, claim_of, handshake_of, event_of, terminate_of, cancel_of, update_of, without_caller};
 ghost use Rattle.swarm_model.specs.Finding.{task_of};
 ghost use Rattle.pool_loading.specs.Asking.{as_asked};
 
@@ -20,7 +20,7 @@ pub(crate) struct EntryRequest {
 
 /// A request whose caller no answer looks at.
 fn without_caller(alloc: Global, request: Request) -> EntryRequest
-    ensures { as_asked result ≡ by_nobody request }
+    ensures { as_asked result ≡ without_caller request }
 {
     EntryRequest {
         caller: Text::new(alloc),
@@ -144,7 +144,7 @@ fn handshake_request(
     dims: &BotDims,
     quarantined: &Text,
 ) -> Result<EntryRequest, AllocError>
-    ensures { IfOk result (λ r. as_asked r ≡ by_nobody (Request.Handshake name.now session.now dims.now quarantined.now)) }
+    ensures { IfOk result (λ r. as_asked r ≡ without_caller (Request.Handshake name.now session.now dims.now quarantined.now)) }
 {
     let bot = name.try_copy(alloc)?;
     let session = session.try_copy(alloc)?;
@@ -160,7 +160,7 @@ fn handshake_request(
 }
 
 fn put_request(alloc: Global, digest: &Digest, size: u32) -> EntryRequest
-    ensures { as_asked result ≡ by_nobody (Request.PutBlob digest.now digest.now size) }
+    ensures { as_asked result ≡ without_caller (Request.PutBlob digest.now digest.now size) }
 {
     let request = Request::PutBlob {
         named: *digest,

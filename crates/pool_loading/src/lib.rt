@@ -11,7 +11,7 @@
 //! bytes come with the entries of a replay, so that all bytes that the machine holds in the end are
 //! those of the keeper (`filling`).
 //!
-//! The crate stands on `entry_lines`, `request_fits`, `swarm_keeper`, `swarm_laws` and
+//! The crate stands on `entry_lines`, `request_fits`, `swarm_keeper`, `pool_laws` and
 //! `swarm_model`. It holds for every machine and every keeper that keep their traits' contracts.
 #![tactic(auto)]
 

@@ -2,7 +2,7 @@
 ghost use Rattle.std.specs.Prelude.{◌≡◌, IfOk};
 ghost use Rattle.swarm_model.specs.declared.rule.Rule.TheVariants as rule;
 ghost use Rattle.swarm_model.specs.Finding.{blob_of, has_blob};
-ghost use Rattle.swarm_model.specs.Answers.{with, show_blob, is_missing, find_missing};
+ghost use Rattle.swarm_model.specs.Answers.{or_refuse, show_blob, is_missing, find_missing};
 
 use crate::PoolQueries;
 use crate::replies::{refusal, reply_only};
@@ -23,7 +23,7 @@ pub fn has_blob<P: PoolQueries>(pool: &P, digest: &Digest, size: u32) -> bool
 
 /// What a caller is told who asks for the bytes of a blob.
 pub fn get_blob<P: PoolQueries>(pool: &P, digest: &Digest) -> Decision
-    ensures { result ≡ with (blob_of (P.state pool.now) digest.now) (rule.BlobMissing digest.now) show_blob }
+    ensures { result ≡ or_refuse (blob_of (P.state pool.now) digest.now) (rule.BlobMissing digest.now) show_blob }
 {
     match pool.blob_of(digest) {
         None => refusal(Rule::BlobMissing { digest: *digest }),

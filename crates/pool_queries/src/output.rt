@@ -5,7 +5,7 @@ ghost use Rattle.std.specs.Option.{option_copied};
 ghost use Rattle.swarm_model.specs.declared.rule.Rule.TheVariants as rule;
 ghost use Rattle.swarm_model.specs.Blobs.{lacks_chunk};
 ghost use Rattle.swarm_model.specs.Output.{lies_within, chunks_within, part_of, parts_within};
-ghost use Rattle.swarm_model.specs.Answers.{with, named_task, output_between, chunks_shown, stdout_of};
+ghost use Rattle.swarm_model.specs.Answers.{or_refuse, named_task, output_between, chunks_shown, stdout_of};
 
 use crate::PoolQueries;
 use crate::blobs::has_blob;
@@ -153,7 +153,7 @@ pub fn stdout<P: PoolQueries, L: Ledger>(
     length: u32,
     steps: &mut Steps<L>,
 ) -> Result<Decision, AllocError>
-    ensures { IfOk result (λ decision. decision ≡ with (named_task (P.state pool.now) number try_no) rule.NoTask (stdout_of (P.state pool.now) who.now offset length)) }
+    ensures { IfOk result (λ decision. decision ≡ or_refuse (named_task (P.state pool.now) number try_no) rule.NoTask (stdout_of (P.state pool.now) who.now offset length)) }
 {
     match named_task(pool, number, try_no, steps) {
         None => Ok(refusal(Rule::NoTask)),

@@ -2,7 +2,7 @@ ghost use Rattle.std.specs.Prelude.{◌≡◌, IfOk};
 ghost use Rattle.std.specs.Option.{option_copied};
 ghost use Rattle.swarm_model.specs.declared.rule.Rule.TheVariants as rule;
 ghost use Rattle.swarm_model.specs.Finding.{bot_named};
-ghost use Rattle.swarm_model.specs.Answers.{if_named, named_task, with, result_of, count_tasks, show_bot};
+ghost use Rattle.swarm_model.specs.Answers.{if_named, named_task, or_refuse, result_of, count_tasks, show_bot};
 
 use crate::PoolQueries;
 use crate::permitting::{denied, may};
@@ -62,7 +62,7 @@ pub fn task_result<P: PoolQueries, L: Ledger>(
     try_no: u32,
     steps: &mut Steps<L>,
 ) -> Result<Decision, AllocError>
-    ensures { IfOk result (λ decision. decision ≡ with (named_task (P.state pool.now) number try_no) rule.NoTask (result_of (P.state pool.now) who.now)) }
+    ensures { IfOk result (λ decision. decision ≡ or_refuse (named_task (P.state pool.now) number try_no) rule.NoTask (result_of (P.state pool.now) who.now)) }
 {
     match named_task(pool, number, try_no, steps) {
         None => Ok(refusal(Rule::NoTask)),
@@ -86,7 +86,7 @@ pub fn show_bot<P: PoolQueries, L: Ledger>(
     name: &Text,
     steps: &mut Steps<L>,
 ) -> Result<Decision, AllocError>
-    ensures { IfOk result (λ decision. decision ≡ with (bot_named (P.state pool.now) name.now) rule.NoBot (show_bot (P.state pool.now))) }
+    ensures { IfOk result (λ decision. decision ≡ or_refuse (bot_named (P.state pool.now) name.now) rule.NoBot (show_bot (P.state pool.now))) }
 {
     match pool.bot_named(name) {
         None => Ok(refusal(Rule::NoBot)),

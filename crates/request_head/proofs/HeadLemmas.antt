@@ -19,7 +19,7 @@ use Rattle.head_fields.specs.declared.number.Number.{Number}
 use Rattle.head_fields.specs.Fields.{lacks}
 use Rattle.head_fields.specs.Numbers.{value_or_zero}
 use Rattle.request_head.specs.HeadFields.{is_visible, is_caller, is_closing, method_named, length_told, limit_at, closes, caller_told, after_told, fields_of, method_of, size_of, closes_of, caller_of, after_of, HeadRefusal, refusal, head_refusal}
-use Rattle.request_head.specs.Judging.{Covers, Says, IsWholeHead, IsJudged, IsJudgedHead, IsDue, Refuses}
+use Rattle.request_head.specs.HeadChecks.{Covers, IsHeadOf, IsWholeHead, IsChecked, IsCheckedHead, IsDue, Refuses}
 use Rattle.request_head.specs.declared.head_check.HeadCheck.{HeadCheck}
 use Rattle.request_head.specs.declared.head_check.HeadCheck.TheVariants.{Bad, LengthRequired, TooLarge, Good}
 use Rattle.request_head.specs.declared.head.Head.{Head}
@@ -75,7 +75,7 @@ pub says_read : {text : List ℕ} {r : RequestSpans} {headers : List HeaderSpan}
     → head.method ≡ method_named (span_bytes text r.method) → head.target.now ≡ span_bytes text r.path
     → head.size ≡ value_or_zero (length_told (map (header_bytes text) headers)) → head.closes ≡ closes r.version (map (header_bytes text) headers)
     → option_map (λ c. c.now) head.caller ≡ caller_told (map (header_bytes text) headers) → head.after ≡ after_told (map (header_bytes text) headers)
-    → Says h head
+    → IsHeadOf h head
 unfolding method_of size_of closes_of caller_of after_of
 says_read {text = text} {r = r} {headers = headers} {h = h} covers head method target size closing caller after = record {
   method = method ∙ ap method_named covers.method;
@@ -91,7 +91,7 @@ pub covers_whole : (text : List ℕ) (headers : List HeaderSpan) (r : RequestSpa
 covers_whole text headers r w = record { method = w.at.method; target = w.at.path; minor = w.at.version; fields = w.at.fields }
 
 -- an answer that is due to a head is due to its text
-pub judged_head : (text : List ℕ) (answer : HeadCheck) → IsJudgedHead text answer → IsJudged text answer
+pub judged_head : (text : List ℕ) (answer : HeadCheck) → IsCheckedHead text answer → IsChecked text answer
 judged_head text Bad head_check = inr head_check
 judged_head text LengthRequired head_check = head_check
 judged_head text (TooLarge limit) head_check = head_check

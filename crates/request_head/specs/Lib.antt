@@ -1,3 +1,3 @@
 pub mod Heads
 pub mod HeadFields
-pub mod Judging
+pub mod HeadChecks

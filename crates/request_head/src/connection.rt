@@ -56,7 +56,7 @@ fn is_closing(text: &[u8], header: &HeaderSpan) -> bool
     is_named(text, header, b"connection") && has_close(header.value.of(text))
 }
 
-// Whether some Connection field has the token `close`.
+/// Whether some Connection field has the token `close`.
 fn asks_to_close(text: &[u8], headers: &[HeaderSpan]) -> bool
     requires { All (IsHeaderWithin (length text.now)) headers.now }
     ensures { result ≡ spec_asks_to_close (map (header_bytes text.now) headers.now) }

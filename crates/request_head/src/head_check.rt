@@ -4,7 +4,7 @@ ghost use Rattle.httparse.specs.Spans.{IsWithin, IsHeaderWithin, span_bytes, hea
 ghost use Rattle.request_head.specs.Heads.{IsNoHead};
 ghost use Rattle.request_head.specs.HeadFields.{limit_at as spec_limit_at, caller_told as spec_caller_told, refusal};
 ghost use Rattle.head_fields.specs.Numbers.{value_or_zero};
-ghost use Rattle.request_head.specs.Judging.{IsJudged, IsDue, Refuses, Covers, IsWholeHead};
+ghost use Rattle.request_head.specs.HeadChecks.{IsChecked, IsDue, Refuses, Covers, IsWholeHead};
 
 use crate::caller::caller_of;
 use crate::connection::closes;
@@ -31,7 +31,7 @@ pub enum HeadCheck<'a> {
     Good(Head<'a>),
 }
 
-// Where the parts of the one head stand that the text is.
+/// Where the parts of the one head stand that the text is.
 fn whole_head(text: &[u8], headers: &mut [HeaderSpan]) -> Option<RequestSpans>
     requires { length headers.old ≡ 64 }
     ensures { MatchOption result (IsNoHead text.now) (λ r. IsWholeHead text.now headers.new r) }
@@ -67,7 +67,7 @@ fn caller_told<'a>(text: &'a [u8], headers: &[HeaderSpan]) -> Option<&'a str>
     caller_of(caller.of(text))
 }
 
-// The bytes of the body, or the refusal that is due.
+/// The bytes of the body, or the refusal that is due.
 fn body_size<'a>(
     method: Method,
     length: Number,
@@ -91,8 +91,12 @@ fn body_size<'a>(
     Ok(size as u32)
 }
 
-// The answer that is due to the head that these spans cover.
-fn judge_head<'a>(text: &'a [u8], head: &RequestSpans, headers: &[HeaderSpan]) -> HeadCheck<'a>
+/// The answer that is due to the head that these spans cover.
+fn check_whole_head<'a>(
+    text: &'a [u8],
+    head: &RequestSpans,
+    headers: &[HeaderSpan],
+) -> HeadCheck<'a>
     requires method { IsWithin (length text.now) head.now.method }
     requires path { IsWithin (length text.now) head.now.path }
     requires path_text { IsUtf8 (span_bytes text.now head.now.path) }
@@ -119,11 +123,11 @@ fn judge_head<'a>(text: &'a [u8], head: &RequestSpans, headers: &[HeaderSpan]) -
 
 /// Judges the bytes through the end of a head. It takes no memory.
 pub fn check_head(text: &[u8]) -> HeadCheck<'_>
-    ensures { IsJudged text.now result }
+    ensures { IsChecked text.now result }
 {
     let mut headers = [EMPTY_HEADER_SPAN; 64];
     match whole_head(text, &mut headers) {
-        Some(head) => judge_head(text, &head, &headers[..head.headers]),
+        Some(head) => check_whole_head(text, &head, &headers[..head.headers]),
         None => HeadCheck::Bad,
     }
 }

@@ -2,7 +2,7 @@
 ghost use Rattle.std.specs.Prelude.{◌≡◌, length, map, IfSome, OnOk};
 ghost use Rattle.reserved_vec.specs.Room.{Takes};
 ghost use Rattle.swarm_model.specs.Numbers.{AreNumbered};
-ghost use Rattle.swarm_model.specs.Effects.{no_of_task, fresh_chunk, longer, lengthened, chunk_at, ended_run_at, if_some};
+ghost use Rattle.swarm_model.specs.Effects.{no_of_task, fresh_chunk, with_chunk, lengthened, chunk_at, ended_run_at, if_some};
 ghost use Rattle.row_changes.specs.Output.{run_of, FitsBehind, StaysShort, TakesChunk, TakesFresh};
 
 use crate::{Finish, change_row, place_of, row_of};
@@ -33,7 +33,7 @@ pub fn fresh_chunk(rows: &[TaskRow], no: u32, chunk: Option<Chunk>) -> Option<Ch
 fn lengthen_run(attempt: &mut Attempt, chunk: Chunk, spare: &mut SpareBuffer<Chunk>)
     requires room { Takes (length attempt.old.chunks) spare.old }
     requires short { FitsBehind chunk attempt.old }
-    ensures { attempt.new ≡ longer chunk attempt.old }
+    ensures { attempt.new ≡ with_chunk chunk attempt.old }
 {
     attempt.length += chunk.size;
     attempt.chunks.push_reserved(chunk, spare);

@@ -1,7 +1,7 @@
 //! What an entry does to the row of one task, and the row that it adds.
 ghost use Rattle.std.specs.Prelude.{◌≡◌, ◌≤◌, [], length};
 ghost use Rattle.std.specs.Option.{option_map};
-ghost use Rattle.swarm_model.specs.Effects.{end_at, new_row, expired_slice, end_state, lost_run, started_run, reported, closed, ended_run};
+ghost use Rattle.swarm_model.specs.Effects.{end_at, new_row, expired_slice, end_state, lost_run, started_run, reported, with_last_report, ended_run};
 
 use crate::{Change, Row};
 use dimensions::Text;
@@ -232,14 +232,14 @@ fn reported(last: &Last) -> TaskState
 }
 
 fn close(attempt: &mut Attempt, chunk: Option<Chunk>, last: Last)
-    ensures { attempt.new ≡ closed chunk last attempt.old }
+    ensures { attempt.new ≡ with_last_report chunk last attempt.old }
 {
     attempt.last_chunk = chunk;
     drop(mem::replace(&mut attempt.last, Some(last)));
 }
 
 fn close_if_some(attempt: &mut Option<Attempt>, chunk: Option<Chunk>, last: Last)
-    ensures { attempt.new ≡ option_map (closed chunk last) attempt.old }
+    ensures { attempt.new ≡ option_map (with_last_report chunk last) attempt.old }
 {
     match attempt {
         None => drop(last),

@@ -13,7 +13,7 @@ use Rattle.server_calls.specs.declared.told.Told.{Told as ToldValue}
 use Rattle.server_calls.specs.Reading.{told_of}
 use Rattle.server_calls.specs.declared.exchanged.Exchanged.{Exchanged}
 use Rattle.server_calls.specs.declared.exchanged.Exchanged.TheVariants as exchanged
-use Rattle.server_calls.specs.Exchanges.{Tells, TellsNothing, Converses, HasTalked, HasAsked, IsUntouched, IsExchanged}
+use Rattle.server_calls.specs.Exchanges.{Tells, TellsNothing, ExchangesOver, ExchangedBytes, HasAsked, IsUntouched, IsExchanged}
 
 -- what is said of the bytes taken and those left is said of all
 all_told : (a b : Option (List ℕ)) (taken : List ℕ) (P : List ℕ → Type 0) → Consumes a b taken → IfSome b (λ l. P (taken ++ l)) → IfSome a P
@@ -47,7 +47,7 @@ told_same e = cc
 
 -- the link held a reply that tells this
 pub told_this : {s t : LinkState} {request taken : List ℕ} (route : Route) (x : ToldValue) (code : ℕ) (body : List ℕ) → Talks s t request taken
-    → ((more : List ℕ) → IsReply (taken ++ more) code body) → told_of route code body ≡ Some x → Converses route s t request (exchanged.Told x)
+    → ((more : List ℕ) → IsReply (taken ++ more) code body) → told_of route code body ≡ Some x → ExchangesOver route s t request (exchanged.Told x)
 told_this {s = s} {t = t} {request = request} {taken = taken} route x code body k reply tells = record {
   taken = taken;
   sent = request;
@@ -60,7 +60,7 @@ told_this {s = s} {t = t} {request = request} {taken = taken} route x code body 
 }
 
 -- the link held no reply that tells anything
-pub told_nothing : {s t : LinkState} {request taken : List ℕ} (route : Route) → Talks s t request taken → IfSome t.left (λ l. TellsNothing route (taken ++ l)) → Converses route s t request exchanged.NoReply
+pub told_nothing : {s t : LinkState} {request taken : List ℕ} (route : Route) → Talks s t request taken → IfSome t.left (λ l. TellsNothing route (taken ++ l)) → ExchangesOver route s t request exchanged.NoReply
 told_nothing {s = s} {t = t} {request = request} {taken = taken} route k nothing = record {
   taken = taken;
   sent = request;
@@ -106,8 +106,8 @@ was_written : (answers : Option (List (List ℕ))) (link last : LinkState) (sent
 was_written None link last sent e x = tt
 was_written (Some all) link last sent e x = appended link.written last.written sent (ap (λ k. k.written) e) x
 
-talked : {route : Route} {link last : LinkState} {s m t : DialerState} {address request : List ℕ} {r : Exchanged} (back : List ℕ) → Dials link address s m → (c : Converses route link last request r)
-    → Hangs last m t → c.back ≡ back → HasTalked s t address request back
+talked : {route : Route} {link last : LinkState} {s m t : DialerState} {address request : List ℕ} {r : Exchanged} (back : List ℕ) → Dials link address s m → (c : ExchangesOver route link last request r)
+    → Hangs last m t → c.back ≡ back → ExchangedBytes s t address request back
 talked {link = link} {last = last} {s = s} {m = m} {t = t} {address = address} back d c h is = record {
   link = last;
   sent = c.sent;
@@ -120,7 +120,7 @@ talked {link = link} {last = last} {s = s} {m = m} {t = t} {address = address} b
 }
 
 -- a fresh link on which no call failed leaves the count as it was
-asked : {route : Route} {link last : LinkState} {s m t : DialerState} {address request : List ℕ} {r : Exchanged} → Dials link address s m → (c : Converses route link last request r)
+asked : {route : Route} {link last : LinkState} {s m t : DialerState} {address request : List ℕ} {r : Exchanged} → Dials link address s m → (c : ExchangesOver route link last request r)
     → Hangs last m t → c.back ≡ [] → NoFault link last → HasAsked s t address request
 asked d c h is quiet = record {
   talked = talked [] d c h is;
@@ -134,7 +134,7 @@ lost_so : {link last : LinkState} {m t : DialerState} → IsFresh link → Rose 
 lost_so {link = link} {last = last} fresh (inl r) h = h.rose (omega (arith, rose_above link.read_faults last.read_faults fresh.reads r))
 lost_so {link = link} {last = last} fresh (inr r) h = h.rose (omega (arith, rose_above link.write_faults last.write_faults fresh.writes r))
 
-pub exchanged_so : (route : Route) (link last : LinkState) (s m t : DialerState) (address request : List ℕ) (r : Exchanged) → Dials link address s m → Converses route link last request r → Hangs last m t
+pub exchanged_so : (route : Route) (link last : LinkState) (s m t : DialerState) (address request : List ℕ) (r : Exchanged) → Dials link address s m → ExchangesOver route link last request r → Hangs last m t
     → IsExchanged s t address request route r
 exchanged_so route link last s m t address request (exchanged.Told x) d c h =
     let k = c.told x refl in (asked d c h k.0 k.1, of_answer s.answers link (λ b. Tells route b x) d.given k.2)

@@ -52,8 +52,8 @@ bot_place_in d = do
   Ok (place_of_run run)
 
 -- whether it is dead, and whether it is to end
-unfoldable pub bot_marks_in : Data → Result (Bool × Bool) PropFault
-bot_marks_in d = do
+unfoldable pub bot_flags_in : Data → Result (Bool × Bool) PropFault
+bot_flags_in d = do
   is_dead ← flag_in (codes "is_dead") d
   terminating ← flag_in (codes "terminating") d
   Ok (is_dead, terminating)
@@ -64,7 +64,7 @@ bot_view_in d = do
   o ← checked_bot d
   bot ← bot_id_in d
   dimensions ← dimensions_in d
-  marks ← bot_marks_in d
+  marks ← bot_flags_in d
   last_seen ← last_seen_in d
   quarantined ← quarantined_in d
   run ← bot_run_in d

@@ -20,7 +20,7 @@ abbrev pub TellsNothing : Route → List ℕ → Type 0
 TellsNothing route bytes = (code : ℕ) (body : List ℕ) → IsReply bytes code body → told_of route code body ≡ None
 
 -- one link carried the request and the reply
-pub record Converses (route : Route) (s t : LinkState) (request : List ℕ) (result : Exchanged) : Type 0 where
+pub record ExchangesOver (route : Route) (s t : LinkState) (request : List ℕ) (result : Exchanged) : Type 0 where
   pub taken : List ℕ
   pub sent : List ℕ
   pub back : List ℕ
@@ -32,7 +32,7 @@ pub record Converses (route : Route) (s t : LinkState) (request : List ℕ) (res
 
 -- A link was dialed and has ended, to which the request was written but for `back`. Nothing is left
 -- open by that.
-pub record HasTalked (s t : DialerState) (address request back : List ℕ) : Type 0 where
+pub record ExchangedBytes (s t : DialerState) (address request back : List ℕ) : Type 0 where
   pub link : LinkState
   pub sent : List ℕ
   pub dialed : Gains s.dialed t.dialed (address ∷ [])
@@ -44,7 +44,7 @@ pub record HasTalked (s t : DialerState) (address request back : List ℕ) : Typ
 
 -- a link carried the whole request, and no call on it failed
 pub record HasAsked (s t : DialerState) (address request : List ℕ) : Type 0 where
-  pub talked : HasTalked s t address request []
+  pub talked : ExchangedBytes s t address request []
   pub faults : t.faults ≡ s.faults
 
 -- no link was dialed
@@ -55,13 +55,13 @@ pub record IsUntouched (s t : DialerState) : Type 0 where
   pub out : t.out ≡ s.out
 
 -- no link was dialed, or one was and a front of the request was written to it
-abbrev pub MayHaveTalked : DialerState → DialerState → List ℕ → List ℕ → Type 0
-MayHaveTalked s t address request = IsUntouched s t ⊎ ((back : List ℕ) × HasTalked s t address request back)
+abbrev pub MayHaveExchanged : DialerState → DialerState → List ℕ → List ℕ → Type 0
+MayHaveExchanged s t address request = IsUntouched s t ⊎ ((back : List ℕ) × ExchangedBytes s t address request back)
 
 -- What all the bytes of the dialed link tell of the call, read or not, or that they tell nothing: both
 -- only where no call failed. A failed call raised the count of the dialer.
 abbrev pub IsExchanged : DialerState → DialerState → List ℕ → List ℕ → Route → Exchanged → Type 0
 IsExchanged s t address request route (Told x) = HasAsked s t address request × IfSome s.answers (λ all. Tells route (first_answer all) x)
 IsExchanged s t address request route NoReply = HasAsked s t address request × IfSome s.answers (λ all. TellsNothing route (first_answer all))
-IsExchanged s t address request route Lost = Rose s.faults t.faults × MayHaveTalked s t address request
-IsExchanged s t address request route Memory = MayHaveTalked s t address request
+IsExchanged s t address request route Lost = Rose s.faults t.faults × MayHaveExchanged s t address request
+IsExchanged s t address request route Memory = MayHaveExchanged s t address request

@@ -3,7 +3,7 @@ ghost use Rattle.std.specs.Prelude.{◌≡◌, []};
 ghost use Rattle.serde_json.specs.View.{view};
 ghost use Rattle.json_fields.specs.Readings.{GivesUnlessMemory, Reads};
 ghost use Rattle.server_calls.specs.Members.{with_keys};
-ghost use Rattle.server_calls.specs.Bots.{bot_pair_in, checked_bot, bot_id_in, quarantined_in, dimensions_in, last_seen_in, bot_run_in, bot_place_in, bot_marks_in, bot_view_in, bot_in, shaken_in, terminating_in, noted_in, updated_in};
+ghost use Rattle.server_calls.specs.Bots.{bot_pair_in, checked_bot, bot_id_in, quarantined_in, dimensions_in, last_seen_in, bot_run_in, bot_place_in, bot_flags_in, bot_view_in, bot_in, shaken_in, terminating_in, noted_in, updated_in};
 
 use crate::Told;
 use crate::ids::RunId;
@@ -95,9 +95,9 @@ fn read_dimensions(alloc: Global, bot: &Value) -> Result<Seq<(Text, Seq<Text>)>,
     read_objects::<BotPairs>(alloc, bot, "dimensions")
 }
 
-#[tactic(auto, unfolding(crate::specs::Bots::bot_marks_in))]
-fn read_bot_marks(alloc: Global, bot: &Value) -> Result<(bool, bool), PropFault>
-    ensures { Reads result (bot_marks_in (view bot.now)) }
+#[tactic(auto, unfolding(crate::specs::Bots::bot_flags_in))]
+fn read_bot_flags(alloc: Global, bot: &Value) -> Result<(bool, bool), PropFault>
+    ensures { Reads result (bot_flags_in (view bot.now)) }
 {
     let is_dead = read_flag(alloc, bot, "is_dead")?;
     let terminating = read_flag(alloc, bot, "terminating")?;
@@ -112,7 +112,7 @@ pub(crate) fn read_bot_view(alloc: Global, bot: &Value) -> Result<BotView, PropF
     check_bot_keys(alloc, bot)?;
     let bot_id = read_bot_id(alloc, bot)?;
     let pairs = read_dimensions(alloc, bot)?;
-    let (is_dead, terminating) = read_bot_marks(alloc, bot)?;
+    let (is_dead, terminating) = read_bot_flags(alloc, bot)?;
     let last_seen_ts = read_last_seen(alloc, bot)?;
     let quarantined = read_quarantined(alloc, bot)?;
     let run = read_bot_run(alloc, bot)?;

@@ -1,5 +1,5 @@
 //! One exchange over a link that is dialed for it.
-ghost use Rattle.server_calls.specs.Exchanges.{Converses, IsExchanged};
+ghost use Rattle.server_calls.specs.Exchanges.{ExchangesOver, IsExchanged};
 
 use crate::{Exchanged, read_reply};
 use link_writer::send_flushed;
@@ -9,8 +9,8 @@ use std::alloc::Global;
 use sw_base::{Dialer, Link, StartFault};
 
 // Writes the request and reads the reply.
-fn converse<L: Link>(alloc: Global, link: &mut L, request: &[u8], route: Route) -> Exchanged
-    ensures { Converses route (L.state link.old) (L.state link.new) request.now result }
+fn exchange_over<L: Link>(alloc: Global, link: &mut L, request: &[u8], route: Route) -> Exchanged
+    ensures { ExchangesOver route (L.state link.old) (L.state link.new) request.now result }
 {
     if send_flushed(link, request).is_err() {
         return Exchanged::Lost;
@@ -40,7 +40,7 @@ pub fn exchange<W: Dialer>(
 {
     match dialer.dial(address) {
         Ok(mut link) => {
-            let exchanged = converse(alloc, &mut link, request, route);
+            let exchanged = exchange_over(alloc, &mut link, request, route);
             dialer.end(link);
             exchanged
         }

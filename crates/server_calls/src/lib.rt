@@ -36,6 +36,6 @@ mod told;
 
 pub use exchanged::Exchanged;
 pub use exchanging::exchange;
-pub use reading::{one_thing_is_told, read_reply};
+pub use reading::{a_reply_has_one_reading, read_reply};
 pub use refusals::number_of;
 pub use told::Told;

@@ -52,7 +52,7 @@ pub(crate) fn read_run_id(alloc: Global, body: &Value, key: &str) -> Result<RunI
     run_of(alloc, text)
 }
 
-fn some_run_of(alloc: Global, text: &Option<Text>) -> Result<Option<RunId>, PropFault>
+fn optional_run(alloc: Global, text: &Option<Text>) -> Result<Option<RunId>, PropFault>
     ensures { Reads result (some_run text.now) }
 {
     match text {
@@ -74,7 +74,7 @@ pub(crate) fn read_run_or_none(
     ensures { Reads result (run_or_none key.now (view body.now)) }
 {
     let text = read_text_or_none(alloc, body, key)?;
-    some_run_of(alloc, &text)
+    optional_run(alloc, &text)
 }
 
 fn task_numbered(number: Option<u64>) -> Option<TaskId>

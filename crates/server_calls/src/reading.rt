@@ -103,6 +103,6 @@ pub fn read_reply(
 }
 
 /// What is told depends on the route, the status and the body alone: of one reply one thing is told.
-pub fn one_thing_is_told()
+pub fn a_reply_has_one_reading()
     ensures one { (call : SpecRoute) (status : ℕ) (body : List ℕ) (one other : SpecTold) → told_of call status body ≡ Some one → told_of call status body ≡ Some other → one ≡ other }
 {}

@@ -6,7 +6,7 @@ use Rattle.swarm_model.specs.declared.request.Request.{Request}
 use Rattle.swarm_model.specs.Answers.{answer}
 use Rattle.swarm_model.specs.Deadlines.{due_entry}
 use Rattle.swarm_model.specs.MachineState.{MachineState}
-use Rattle.swarm_history.specs.Settling.{Adds, Stays}
+use Rattle.swarm_history.specs.Settling.{Adds, IsUnchanged}
 use Rattle.turnstile.specs.declared.pass.Pass.{Pass}
 use Rattle.turnstile.specs.declared.turn.Turn.{Turn}
 use Rattle.turnstile.specs.declared.turnstile.Turnstile.{Turnstile}
@@ -88,7 +88,7 @@ module _ {V : Type 0} (state : V → MachineState) where
       standing_is = subst IsStanding (sym lasting_is) ready.standing
 
       -- it was written to, and nothing was added
-      pub ready_still : (w : V) → Stays (state v) (state w) → lasting_of (state w) ≡ lasting_of (state v) → IsDesk state sure (turn_with t w)
+      pub ready_still : (w : V) → IsUnchanged (state v) (state w) → lasting_of (state w) ≡ lasting_of (state v) → IsDesk state sure (turn_with t w)
       ready_still w stays lasting = record {
         is_sure = ready.is_sure;
         turn = IsTurn-turn_with (λ x. lasting_of (state x)) t w ready.turn;

@@ -10,10 +10,10 @@ use Rattle.swarm_model.specs.declared.pool_settings.PoolSettings.{PoolSettings}
 use Rattle.swarm_model.specs.declared.request.Request.{Request}
 use Rattle.swarm_model.specs.Fits.{fits}
 use Rattle.swarm_model.specs.Points.{Call, Growth}
-use Rattle.swarm_door.specs.declared.door.Answered.{Answered}
-use Rattle.swarm_door.specs.declared.door.CallFault.{CallFault}
-use Rattle.swarm_door.specs.declared.door.CallFault.TheVariants as fault
-use Rattle.swarm_door.specs.Doors.{CountsKeeper, HasNoOthers, HasNoOthersAt, IsPoolCall, IsCall, Logs, Writer}
+use Rattle.pool_doors.specs.declared.door.Answered.{Answered}
+use Rattle.pool_doors.specs.declared.door.CallFault.{CallFault}
+use Rattle.pool_doors.specs.declared.door.CallFault.TheVariants as fault
+use Rattle.pool_doors.specs.Doors.{CountsKeeper, HasNoOthers, HasNoOthersAt, IsPoolCall, IsCall, Logs, Writer}
 use Rattle.turnstile.specs.declared.pass.Pass.{Pass}
 use Rattle.turnstile.specs.declared.turnstile.Turnstile.{Turnstile}
 use Rattle.turnstile.specs.Passes.{fixed_of, number, seen, told, turns}

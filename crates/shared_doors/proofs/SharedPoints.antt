@@ -14,11 +14,11 @@ use Rattle.swarm_model.specs.Effects.{opening}
 use Rattle.swarm_model.specs.History.{replay, moment_of}
 use Rattle.swarm_model.specs.MachineState.{MachineState}
 use Rattle.swarm_model.specs.Points.{Call, Growth, added, IsByOther, Grows, IsPoint, IsSettled, IsStopped, IsFrontAhead, IsServed, LacksRoom, is_ahead, next_entry, taken_by, Finds}
-use Rattle.swarm_door.specs.declared.door.Answered.{Answered}
-use Rattle.swarm_door.specs.declared.door.CallFault.{CallFault}
-use Rattle.swarm_door.specs.declared.door.CallFault.TheVariants as fault
-use Rattle.swarm_door.specs.Doors.{is_log_full, CountsKeeper, IsAnsweredCall, IsPoolCall}
-use Rattle.swarm_history.specs.Settling.{IsOwnPoint, IsOwnStop, Shows}
+use Rattle.pool_doors.specs.declared.door.Answered.{Answered}
+use Rattle.pool_doors.specs.declared.door.CallFault.{CallFault}
+use Rattle.pool_doors.specs.declared.door.CallFault.TheVariants as fault
+use Rattle.pool_doors.specs.Doors.{is_log_full, CountsKeeper, IsAnsweredCall, IsPoolCall}
+use Rattle.swarm_history.specs.Settling.{IsPointAlone, IsOwnStop, HasFrontAndPieces}
 use Rattle.swarm_history.proofs.OwnPoints.{answered_call}
 use Rattle.turnstile.specs.Numbers.{Continues}
 use Rattle.shared_doors.specs.SharedDoors.{IsTurnCall}
@@ -43,7 +43,7 @@ module _ (start : PoolState) (call : Call) (seen others : List Entry) (by_others
   refound n s g reply true h = record { reply = h.reply; settled_is = h.settled_is; own_is = h.own_is }
   refound n s g reply false h = record { due_first = h.due_first; nothing_due = h.nothing_due; reply = h.reply; entry = h.entry }
 
-  pub shared_point : (new : List Entry) (reply : Reply) → (p : IsOwnPoint start call (seen ++ others) new reply) → IsPoint start call seen new (after others p.growth) reply
+  pub shared_point : (new : List Entry) (reply : Reply) → (p : IsPointAlone start call (seen ++ others) new reply) → IsPoint start call seen new (after others p.growth) reply
   shared_point new reply p = record {
     grows = grows new p.growth p.point.grows p.no_others;
     finds = refound (length (seen ++ others)) (replay start (seen ++ others)) p.growth reply (is_ahead (length (seen ++ others)) call.after)
@@ -61,7 +61,7 @@ module _ (start : PoolState) (call : Call) (seen others : List Entry) (by_others
 
 module _ (pool : PoolSettings) (call : Call) (seen others : List Entry) (by_others : AllByRecursion (IsByOther call.pass) others) (told : ℕ) (fresh : told ≤ length (seen ++ others)) where
   shared_call : (new : MachineState) (result : Result Answered CallFault)
-      → IfOk result (λ a. IsOwnPoint (opening pool) call (seen ++ others) new.log a.reply) → IfOk result (Shows new)
+      → IfOk result (λ a. IsPointAlone (opening pool) call (seen ++ others) new.log a.reply) → IfOk result (HasFrontAndPieces new)
       → IfErr result (λ f. IsOwnStop (opening pool) call (seen ++ others) new.log (is_log_full f))
       → IsTurnCall pool call seen new.log told result
   shared_call new (Ok a) point shows stop =
@@ -92,11 +92,11 @@ module _ (pool : PoolSettings) (call : Call) (seen others : List Entry) (by_othe
 -- the same of a call that a turn found
 pub turn_call : (pool pool_there : PoolSettings) (call call_there : Call) (seen found log new : List Entry) (there : MachineState) (told : ℕ) (result : Result Answered CallFault)
     → Continues (λ e. e.pass) call.pass seen found → told ≤ length found → pool_there ≡ pool → call_there ≡ call → log ≡ found → there.log ≡ new
-    → IfOk result (λ a. IsOwnPoint (opening pool_there) call_there log there.log a.reply) → IfOk result (Shows there)
+    → IfOk result (λ a. IsPointAlone (opening pool_there) call_there log there.log a.reply) → IfOk result (HasFrontAndPieces there)
     → IfErr result (λ f. IsOwnStop (opening pool_there) call_there log there.log (is_log_full f))
     → IsTurnCall pool call seen new told result
 turn_call pool pool_there call call_there seen found log new there told result c fresh pool_is call_is log_is new_is point shows stop =
-    let P : PoolSettings → Call → List Entry → Type 0 = λ p k l. IfOk result (λ a. IsOwnPoint (opening p) k l there.log a.reply) in
+    let P : PoolSettings → Call → List Entry → Type 0 = λ p k l. IfOk result (λ a. IsPointAlone (opening p) k l there.log a.reply) in
     let S : PoolSettings → Call → List Entry → Type 0 = λ p k l. IfErr result (λ f. IsOwnStop (opening p) k l there.log (is_log_full f)) in
     subst (λ l. IsTurnCall pool call seen l told result) new_is
     (shared_call pool call seen c.others c.by_others told (subst (λ (l : List Entry). told ≤ length l) c.parts fresh) there result

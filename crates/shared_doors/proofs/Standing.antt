@@ -13,8 +13,8 @@ use Rattle.swarm_model.specs.declared.pool_state.PoolState.{PoolState}
 use Rattle.swarm_model.specs.MachineState.{MachineState, AreHeld}
 use Rattle.swarm_model.specs.Settings.{is_grant, is_pool_name, keeps_rules}
 use Rattle.swarm_model.specs.Words.{is_between}
-use Rattle.swarm_history.specs.Records.{AreTold}
-use Rattle.swarm_history.specs.Settling.{Adds, Stays}
+use Rattle.swarm_history.specs.Records.{AreMachineRecords}
+use Rattle.swarm_history.specs.Settling.{Adds, IsUnchanged}
 use Rattle.shared_doors.specs.declared.view.Lasting.{Lasting}
 use Rattle.shared_doors.specs.Lasting.{are_held, lasting_of}
 
@@ -63,13 +63,13 @@ with_settings settings whole = record { settings = settings; is_whole = whole }
 same_lasting : (s t : PoolSettings) (v w : Bool) → s ≡ t → v ≡ w → with_settings s v ≡ with_settings t w
 same_lasting s t v w settings whole = rw (settings, whole) refl
 
-same_settings : {T E : Type 0} (result : Result T E) (old new : MachineState) (entry : Entry) → OnOk result (Adds old new entry) → OnErr result (Stays old new)
+same_settings : {T E : Type 0} (result : Result T E) (old new : MachineState) (entry : Entry) → OnOk result (Adds old new entry) → OnErr result (IsUnchanged old new)
     → new.pool.settings ≡ old.pool.settings
 same_settings (Ok done) old new entry adds stays = adds.settings
 same_settings (Err fault) old new entry adds stays = ap (λ (s : PoolState). s.settings) stays.pool
 
 -- neither an entry that is added nor one that is not changes it
-pub lasting_stays : {T E : Type 0} (result : Result T E) (old new : MachineState) (entry : Entry) → OnOk result (Adds old new entry) → OnErr result (Stays old new)
+pub lasting_stays : {T E : Type 0} (result : Result T E) (old new : MachineState) (entry : Entry) → OnOk result (Adds old new entry) → OnErr result (IsUnchanged old new)
     → AreHeld new → IsTrue (are_held old) → lasting_of new ≡ lasting_of old
 lasting_stays result old new entry adds stays held whole =
     same_lasting new.pool.settings old.pool.settings (are_held new) (are_held old) (same_settings result old new entry adds stays)
@@ -78,6 +78,6 @@ lasting_stays result old new entry adds stays held whole =
 -- ---- a keeper that never fails
 
 -- it tells no records
-pub untold_records : (sure tells : Bool) (told : Option Tables) (kept : MachineState) → (sure && tells) ≡ false → is_some told ≡ tells → sure ≡ true → AreTold told kept
+pub untold_records : (sure tells : Bool) (told : Option Tables) (kept : MachineState) → (sure && tells) ≡ false → is_some told ≡ tells → sure ≡ true → AreMachineRecords told kept
 untold_records sure tells None kept untold is sure_is = tt
 untold_records sure tells (Some t) kept untold is sure_is = absurd (cc)

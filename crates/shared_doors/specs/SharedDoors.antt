@@ -3,9 +3,9 @@ use Rattle.std.specs.Prelude.{◌≤◌, ℕ, false, List, [], ◌∷◌, ◌++�
 use Rattle.swarm_model.specs.declared.entry.Entry.{Entry}
 use Rattle.swarm_model.specs.declared.pool_settings.PoolSettings.{PoolSettings}
 use Rattle.swarm_model.specs.Points.{Call, Growth}
-use Rattle.swarm_door.specs.declared.door.Answered.{Answered}
-use Rattle.swarm_door.specs.declared.door.CallFault.{CallFault}
-use Rattle.swarm_door.specs.Doors.{DoorState, IsPoolCall}
+use Rattle.pool_doors.specs.declared.door.Answered.{Answered}
+use Rattle.pool_doors.specs.declared.door.CallFault.{CallFault}
+use Rattle.pool_doors.specs.Doors.{DoorState, IsPoolCall}
 use Rattle.turnstile.specs.declared.turnstile.Turnstile.{Turnstile}
 use Rattle.turnstile.specs.Passes.{fixed_of, identity_of}
 use Rattle.shared_doors.specs.declared.view.Lasting.{Lasting}

@@ -3,12 +3,12 @@ ghost use Rattle.sha2.specs.Sha256.{sha256};
 ghost use Rattle.swarm_model.specs.Bytes.{brings, new_digest};
 ghost use Rattle.swarm_model.specs.History.{MayFollow, has_room};
 ghost use Rattle.swarm_model.specs.MachineState.{IsHistory};
-ghost use Rattle.swarm_history.specs.Settling.{Stays, Adds};
+ghost use Rattle.swarm_history.specs.Settling.{IsUnchanged, Adds};
 ghost use Rattle.shared_doors.specs.Lasting.{lasting_of, IsStanding};
 
 use crate::view::Lasting;
+use pool_doors::CallFault;
 use std::alloc::Global;
-use swarm_door::CallFault;
 use swarm_history::add_entry;
 use swarm_keeper::Keeper;
 use swarm_model::{Entry, Machine};
@@ -54,7 +54,7 @@ impl<M: Machine + Drop, K: Keeper + Drop> Kept<M, K> {
         ensures lasting { lasting_of (M.kept self.new.machine) ≡ lasting_of (M.kept self.old.machine) }
         ensures added { OnOk result (Adds (M.kept self.old.machine) (M.kept self.new.machine) entry) }
         ensures short { OnOk result (length (M.kept self.old.machine).log < 2 ^ 32) }
-        ensures stays { OnErr result (Stays (M.kept self.old.machine) (M.kept self.new.machine)) }
+        ensures stays { OnErr result (IsUnchanged (M.kept self.old.machine) (M.kept self.new.machine)) }
         ensures full { IsErrOf result CallFault.LogFull ↔ (has_room (M.kept self.old.machine).pool.settings (M.kept self.old.machine).log entry ≡ false) }
         ensures no_fault { ¬ IsErrOf result CallFault.Keeper }
     {

@@ -104,7 +104,7 @@ impl<R: Files + Processes + Clock + AllocGlobal> ChildRun<R> {
         Ok(())
     }
 
-    // The exit code that the shell has written.
+    /// The exit code that the shell has written.
     fn written_code(&self, rt: &R) -> io::Result<Option<i32>> {
         let path = format!(in rt.alloc(); "{}/status", self.folder)?;
         let Some(bytes) = read_file(rt, path.as_str(), 16)? else {
@@ -121,8 +121,8 @@ impl<R: Files + Processes + Clock + AllocGlobal> ChildRun<R> {
         }
     }
 
-    // The exit code of a child whose shell is gone: that of a signal to the whole group, where it
-    // has written none.
+    /// The exit code of a child whose shell is gone: that of a signal to the whole group, where it
+    /// has written none.
     fn code_of_group(&mut self, rt: &R) -> io::Result<Option<i32>> {
         let Some(child) = &mut self.child else {
             return Err(io::Error::from(ErrorKind::NotFound));
@@ -144,7 +144,7 @@ impl<R: Files + Processes + Clock + AllocGlobal> ChildRun<R> {
         }
     }
 
-    // The exit code of a child that has ended.
+    /// The exit code of a child that has ended.
     fn exit_code(&mut self, rt: &R) -> io::Result<Option<i32>> {
         if self.ended.is_none() {
             self.ended = self.written_code(rt)?;
@@ -155,7 +155,7 @@ impl<R: Files + Processes + Clock + AllocGlobal> ChildRun<R> {
         Ok(self.ended)
     }
 
-    // What comes next of the output, up to the most that is shown of a run.
+    /// What comes next of the output, up to the most that is shown of a run.
     fn read_output(&mut self, into: &mut [u8]) -> io::Result<usize>
         ensures fits { IfOk result (λ n. n ≤ length into.new) }
         ensures same { length into.new ≡ length into.old }

@@ -60,7 +60,7 @@ impl<'a, R: Files + Processes + Clock + AllocGlobal + Clone + Drop, G: Log> Shel
         }
     }
 
-    // A path in the folder of the bot.
+    /// A path in the folder of the bot.
     fn path(&self, name: &str) -> io::Result<String> {
         match &self.folder {
             Some(folder) => Ok(format!(in self.rt.alloc(); "{}/{name}", folder.as_str())?),
@@ -88,7 +88,7 @@ impl<'a, R: Files + Processes + Clock + AllocGlobal + Clone + Drop, G: Log> Shel
         Ok(())
     }
 
-    // Ends the child of the run, where one was started.
+    /// Ends the child of the run, where one was started.
     fn end_child(&mut self) -> io::Result<()>
         ensures { self.new.faults ≡ self.old.faults }
     {
@@ -150,7 +150,7 @@ impl<'a, R: Files + Processes + Clock + AllocGlobal + Clone + Drop, G: Log> Shel
         }
     }
 
-    // Whether there was a child to send the signal to.
+    /// Whether there was a child to send the signal to.
     fn send(&self, signal: Signal) -> io::Result<bool> {
         let name = match signal {
             Signal::Term => "TERM",
@@ -196,7 +196,7 @@ impl<'a, R: Files + Processes + Clock + AllocGlobal + Clone + Drop, G: Log> Shel
         keep_caches(self.rt, kept.as_str(), names)
     }
 
-    // Counts and logs a call that failed.
+    /// Counts and logs a call that failed.
     fn count(&mut self, call: &str, object: &str, error: &io::Error)
         ensures { Rose self.old.faults self.new.faults }
     {

@@ -5,26 +5,26 @@ use Rattle.sw_base.specs.Link.{LinkState}
 use Rattle.sw_base.specs.Told.{Adds, IsOut}
 use Rattle.swarm_model.specs.declared.pool_settings.Settings.{Settings}
 use Rattle.swarm_model.specs.declared.pool_settings.PoolSettings.{PoolSettings}
-use Rattle.swarm_door.specs.Doors.{Logs, DoorState}
+use Rattle.pool_doors.specs.Doors.{Logs, DoorState}
 use Rattle.swarm_http.specs.Answered.{KeepsDoor}
 use Rattle.swarm_history.specs.declared.load_fault.LoadFault.{LoadFault}
 use Rattle.swarm_history.specs.declared.load_fault.LoadFault.TheVariants as load
 use Rattle.pool_summaries.specs.Summaries.{summary_of}
 use Rattle.swarm_cli.specs.declared.door_command.DoorCommand.{DoorCommand}
 use Rattle.swarm_cli.specs.declared.door_command.DoorCommand.TheVariants as command
-use Rattle.swarm_cli.specs.declared.serving.Used.{Used}
-use Rattle.swarm_cli.specs.declared.serving.Used.TheVariants as used
-use Rattle.swarm_cli.specs.Outside.{Outside, PrintsMade}
-use Rattle.swarm_cli.specs.Deeds.{Does, ServesConsole, ServesNothing, served, not_served, work_status}
-use Rattle.swarm_cli.specs.Handling.{IsUsed, IsConcluded, deed_of}
+use Rattle.swarm_cli.specs.declared.serving.DoorResult.{DoorResult}
+use Rattle.swarm_cli.specs.declared.serving.DoorResult.TheVariants as used
+use Rattle.swarm_cli.specs.Streams.{Streams, PrintsMade}
+use Rattle.swarm_cli.specs.ServerWork.{CarriesOutWork, ServesConsole, ServesNothing, served, not_served, work_status}
+use Rattle.swarm_cli.specs.Handling.{IsUsed, IsFinished, work_of}
 use Rattle.swarm_cli.specs.KeptRecords.{TellsFault}
 use Rattle.swarm_cli.specs.SettingsFile.{RunsNew, no_memory}
 
 -- the console as it is now
-abbrev pub with_console : Outside → LinkState → Outside
+abbrev pub with_console : Streams → LinkState → Streams
 with_console o t = record { console = t; clock = o.clock; listener = o.listener }
 
-pub same_console : (o : Outside) (t : LinkState) → t ≡ o.console → with_console o t ≡ o
+pub same_console : (o : Streams) (t : LinkState) → t ≡ o.console → with_console o t ≡ o
 same_console o t same = ap (with_console o) same
 
 -- one is out where one was given more
@@ -36,14 +36,14 @@ pub keeps_within : {m n : ℕ} {d e : DoorState} → KeepsDoor m d e → m ≤ n
 keeps_within k within = record { settings = k.settings; writer = k.writer; no_other_blobs = k.no_other_blobs; faults = k.faults; calls = omega (arith, k.calls, within) }
 
 -- after the door was used, the rest is printed
-pub does_all : (what : DoorCommand) (before after : DoorState) (o m : Outside) (t : LinkState) (result : Used) (status : ℕ) (text : List ℕ)
-    → IsUsed what before after o m result → IsConcluded result text m.console t status → text ≡ summary_of before.settings.pools after.seen
-    → Does (deed_of what) before after o (with_console m t) status
+pub does_all : (what : DoorCommand) (before after : DoorState) (o m : Streams) (t : LinkState) (result : DoorResult) (status : ℕ) (text : List ℕ)
+    → IsUsed what before after o m result → IsFinished result text m.console t status → text ≡ summary_of before.settings.pools after.seen
+    → CarriesOutWork (work_of what) before after o (with_console m t) status
 does_all command.Session before after o m t (used.Ended good) status text x y is =
-    subst (λ (u : Outside). ServesConsole before after o u status) (sym (same_console m t y.1)) (subst (λ (n : ℕ). ServesConsole before after o m n) (sym y.0) x)
+    subst (λ (u : Streams). ServesConsole before after o u status) (sym (same_console m t y.1)) (subst (λ (n : ℕ). ServesConsole before after o m n) (sym y.0) x)
 does_all command.Session before after o m t (used.Worked stop) status text x y is = absurd x
 does_all (command.Serve address connections) before after o m t (used.Ended good) status text x y is =
-    not_served (subst (λ (u : Outside). ServesNothing before after o u status) (sym (same_console m t y.1)) (subst (λ (n : ℕ). ServesNothing before after o m n) (sym y.0) x))
+    not_served (subst (λ (u : Streams). ServesNothing before after o u status) (sym (same_console m t y.1)) (subst (λ (n : ℕ). ServesNothing before after o m n) (sym y.0) x))
 does_all (command.Serve address connections) before after o m t (used.Worked stop) status text x y is = served (record {
   stopped = stop;
   serves = x.0;
@@ -59,7 +59,7 @@ summary_is settings before after pools logs pools_are settings_are same =
     ∙ ap (λ (l : Logs). summary_of before.settings.pools l) (fun_ext same)
 
 -- no door was made over keepers that keep nothing
-pub none_made : (what : DoorCommand) (settings : Settings) (o : Outside) (t : LinkState) (status : ℕ) (fault : LoadFault) → TellsFault fault o.console t status → fault ≡ load.Memory
-    → RunsNew (deed_of what) settings o (with_console o t) status
+pub none_made : (what : DoorCommand) (settings : Settings) (o : Streams) (t : LinkState) (status : ℕ) (fault : LoadFault) → TellsFault fault o.console t status → fault ≡ load.Memory
+    → RunsNew (work_of what) settings o (with_console o t) status
 none_made what settings o t status fault told is =
     let k = subst (λ (f : LoadFault). TellsFault f o.console t status) is told in no_memory k.0 (same_console o t k.1)

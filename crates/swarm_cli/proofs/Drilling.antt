@@ -7,20 +7,20 @@ use Rattle.sw_base.specs.Link.{LinkState, opened}
 use Rattle.swarm_model.specs.declared.pool_settings.Settings.{Settings}
 use Rattle.swarm_model.specs.declared.pool_settings.PoolSettings.{PoolSettings}
 use Rattle.swarm_model.specs.MachineState.{MachineState}
-use Rattle.swarm_door.specs.Doors.{DoorState, IsFreshDoor}
-use Rattle.swarm_http.specs.declared.counted.Counted.{Counted}
+use Rattle.pool_doors.specs.Doors.{DoorState, IsFreshDoor}
+use Rattle.swarm_http.specs.declared.connection_counts.ConnectionCounts.{ConnectionCounts}
 use Rattle.swarm_http.specs.Exchange.{is_accepted}
 use Rattle.swarm_http.specs.Answered.{KeepsDoor}
 use Rattle.swarm_http.specs.Counting.{IsCounted}
 use Rattle.swarm_history.specs.Machines.{logs_of}
 use Rattle.pool_summaries.specs.Summaries.{summary_of}
-use Rattle.swarm_cli.specs.Outside.{PrintsMade}
+use Rattle.swarm_cli.specs.Streams.{PrintsMade}
 use Rattle.swarm_cli.specs.Drills.{Drills, drilled, drill_settings, drill_status, drill_text}
 use Rattle.swarm_cli.proofs.Doing.{summary_is}
 use Rattle.swarm_cli.proofs.Sessions.{fresh_of_nothing}
 
 pub drilled_so : {M : Type 0} (kept : M → MachineState) (machines items : List M) (start cycles : ℕ) (input : List ℕ) (link last s t : LinkState) (ahead : ℕ → Option (List ℕ)) (status : ℕ)
-    (settings : Settings) (pools : List PoolSettings) (counted : Counted) {n : ℕ} {before after : DoorState}
+    (settings : Settings) (pools : List PoolSettings) (counted : ConnectionCounts) {n : ℕ} {before after : DoorState}
     → KeepsDoor n before after → IsFreshDoor settings before.seen before → ((p : ℕ) → before.seen p ≡ []) → settings ≡ drill_settings → link ≡ opened (Some input) (Some [])
     → input ≡ drill_bytes start cycles
     → IsCounted (record { link = link; clock = λ k. Some (steps_from 1000 1 k); door = before }) (record { link = last; clock = ahead; door = after }) counted

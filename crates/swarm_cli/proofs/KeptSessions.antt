@@ -13,20 +13,20 @@ use Rattle.swarm_keeper.specs.Stores.{StoreState}
 use Rattle.swarm_model.specs.declared.pool_settings.Settings.{Settings}
 use Rattle.swarm_model.specs.declared.pool_settings.PoolSettings.{PoolSettings}
 use Rattle.swarm_model.specs.MachineState.{MachineState}
-use Rattle.swarm_door.specs.Doors.{DoorState, IsFreshDoor, HasNoOthersAt, AddsNoOthers}
+use Rattle.pool_doors.specs.Doors.{DoorState, IsFreshDoor, HasNoOthersAt, AddsNoOthers}
 use Rattle.swarm_http.specs.Answered.{KeepsDoor}
 use Rattle.swarm_history.specs.Machines.{logs_of}
-use Rattle.swarm_history.specs.Records.{AreKept, TellsBadStore}
+use Rattle.swarm_history.specs.Records.{AreKept, IsFirstBadRecord}
 use Rattle.pool_summaries.specs.Summaries.{summary_of}
 use Rattle.swarm_cli.specs.declared.door_command.DoorCommand.{DoorCommand}
-use Rattle.swarm_cli.specs.declared.serving.Used.{Used}
-use Rattle.swarm_cli.specs.Handling.{deed_of, IsUsed, IsConcluded}
+use Rattle.swarm_cli.specs.declared.serving.DoorResult.{DoorResult}
+use Rattle.swarm_cli.specs.Handling.{work_of, IsUsed, IsFinished}
 use Rattle.swarm_cli.specs.SettingsFile.{RunsNew, done}
 use Rattle.swarm_cli.proofs.Sessions.{fresh_of_nothing}
 use Rattle.swarm_history.specs.declared.load_fault.LoadFault.{LoadFault}
 use Rattle.swarm_history.specs.declared.load_fault.LoadFault.TheVariants as load
-use Rattle.swarm_cli.specs.Outside.{Outside}
-use Rattle.swarm_cli.specs.Deeds.{Deed, start_status}
+use Rattle.swarm_cli.specs.Streams.{Streams}
+use Rattle.swarm_cli.specs.ServerWork.{ServerWork, start_status}
 use Rattle.swarm_cli.specs.Attaching.{Kept, KeepsOthers, CountsKeepers, AttachesAll, AttachesNone, DetachesAll}
 use Rattle.swarm_cli.specs.KeptRecords.{DoesOver, NoDoor, no_memory, failed, bad_store, TellsFault, RunsOver, with_door, without_door, RunsUnserved, RunsKept, served, unserved}
 use Rattle.swarm_cli.proofs.Doing.{with_console, same_console, does_all, summary_is}
@@ -44,13 +44,13 @@ others_kept {settings = settings} d e is same told then adds p has =
     (subst (λ (s : Settings). HasNoOthersAt s.pools e.records e.seen p) (same ∙ is) (adds p start))
 
 -- a command was carried out over the records
-pub kept_ran : {M : Type 0} (kept : M → MachineState) (machines items : List M) (what : DoorCommand) (settings : Settings) (records_before records_after : List (Option Tables)) (faults : ℕ) (o m : Outside) (t : LinkState)
-    (result : Used) (status : ℕ) (pools : List PoolSettings) {n : ℕ} {before after : DoorState}
+pub kept_ran : {M : Type 0} (kept : M → MachineState) (machines items : List M) (what : DoorCommand) (settings : Settings) (records_before records_after : List (Option Tables)) (faults : ℕ) (o m : Streams) (t : LinkState)
+    (result : DoorResult) (status : ℕ) (pools : List PoolSettings) {n : ℕ} {before after : DoorState}
     → KeepsDoor n before after → IsFreshDoor settings before.seen before → AreKept records_before before.seen → before.records ≡ records_before
     → IsUsed what before after o m result → machines ≡ items → ((p : ℕ) → logs_of (map kept items) p ≡ after.seen p)
     → AreKept records_after after.seen → records_after ≡ after.records → faults ≡ after.faults
-    → pools ≡ settings.pools → IsConcluded result (summary_of pools (logs_of (map kept machines))) m.console t status
-    → DoesOver (deed_of what) settings records_before records_after faults o (with_console m t) status
+    → pools ≡ settings.pools → IsFinished result (summary_of pools (logs_of (map kept machines))) m.console t status
+    → DoesOver (work_of what) settings records_before records_after faults o (with_console m t) status
 kept_ran {M = M} kept machines items what settings records_before records_after faults o m t result status pools {before = before} {after = after} keeps fresh lines records used_so are logs lines_then told counted pools_are concluded = record {
   before = before;
   after = after;
@@ -64,12 +64,12 @@ kept_ran {M = M} kept machines items what settings records_before records_after 
 }
 
 -- a command was carried out over new logs
-pub new_ran : {M : Type 0} (kept : M → MachineState) (machines items : List M) (what : DoorCommand) (settings : Settings) (o m : Outside) (t : LinkState)
-    (result : Used) (status : ℕ) (pools : List PoolSettings) {n : ℕ} {before after : DoorState}
+pub new_ran : {M : Type 0} (kept : M → MachineState) (machines items : List M) (what : DoorCommand) (settings : Settings) (o m : Streams) (t : LinkState)
+    (result : DoorResult) (status : ℕ) (pools : List PoolSettings) {n : ℕ} {before after : DoorState}
     → KeepsDoor n before after → IsFreshDoor settings before.seen before → ((p : ℕ) → before.seen p ≡ [])
     → IsUsed what before after o m result → machines ≡ items → ((p : ℕ) → logs_of (map kept items) p ≡ after.seen p)
-    → pools ≡ settings.pools → IsConcluded result (summary_of pools (logs_of (map kept machines))) m.console t status
-    → RunsNew (deed_of what) settings o (with_console m t) status
+    → pools ≡ settings.pools → IsFinished result (summary_of pools (logs_of (map kept machines))) m.console t status
+    → RunsNew (work_of what) settings o (with_console m t) status
 new_ran {M = M} kept machines items what settings o m t result status pools {before = before} {after = after} keeps fresh nothing used_so are logs pools_are concluded = done (record {
   before = before;
   after = after;
@@ -79,8 +79,8 @@ new_ran {M = M} kept machines items what settings o m t result status pools {bef
 })
 
 -- a fault of the load
-pub not_loaded : (settings : Settings) (records : List (Option Tables)) (m n : ℕ) (o : Outside) (t : LinkState) (status : ℕ) (fault : LoadFault)
-    → TellsFault fault o.console t status → TellsBadStore settings records fault → (fault ≡ load.Failed → Rose m n) → NoDoor settings records m n o (with_console o t) status
+pub not_loaded : (settings : Settings) (records : List (Option Tables)) (m n : ℕ) (o : Streams) (t : LinkState) (status : ℕ) (fault : LoadFault)
+    → TellsFault fault o.console t status → IsFirstBadRecord settings records fault → (fault ≡ load.Failed → Rose m n) → NoDoor settings records m n o (with_console o t) status
 not_loaded settings records m n o t status load.Memory told bad rose = no_memory told.0 (same_console o t told.1)
 not_loaded settings records m n o t status load.Failed told bad rose = failed (rose refl) told.0 (same_console o t told.1)
 not_loaded settings records m n o t status (load.BadStore place at) told bad rose = bad_store place at bad told (record { clock = refl; listener = refl })
@@ -101,13 +101,13 @@ same_length tables xs ys same = omega (arith, length-map xs tables, length-map y
 -- ---- over a store
 
 -- nothing was attached
-pub not_attached : (deed : Deed) (settings : Settings) (folder : List ℕ) (p q : StoreState) (o : Outside) (status : ℕ) (fault : StartFault)
-    → AttachesNone p q fault → status ≡ start_status fault → RunsKept deed settings folder p q o o status
-not_attached deed settings folder p q o status start.Memory x is = unserved (record { cause = no_memory is refl; kept = x.kept })
-not_attached deed settings folder p q o status start.Failed x is = unserved (record { cause = failed (x.failed refl) is refl; kept = x.kept })
+pub not_attached : (work : ServerWork) (settings : Settings) (folder : List ℕ) (p q : StoreState) (o : Streams) (status : ℕ) (fault : StartFault)
+    → AttachesNone p q fault → status ≡ start_status fault → RunsKept work settings folder p q o o status
+not_attached work settings folder p q o status start.Memory x is = unserved (record { cause = no_memory is refl; kept = x.kept })
+not_attached work settings folder p q o status start.Failed x is = unserved (record { cause = failed (x.failed refl) is refl; kept = x.kept })
 
 -- no door was made, and what was attached was taken back
-given_back : (settings : Settings) (folder : List ℕ) (p mid q : StoreState) (o u : Outside) (status m n : ℕ) (before after : List (Option Tables))
+given_back : (settings : Settings) (folder : List ℕ) (p mid q : StoreState) (o u : Streams) (status m n : ℕ) (before after : List (Option Tables))
     → AttachesAll p mid folder settings.pools before m → NoDoor settings before m n o u status → after ≡ before → DetachesAll mid q folder settings.pools after n
     → RunsUnserved settings folder p q o u status
 given_back settings folder p mid q o u status m n before after x cause same y = record {
@@ -125,14 +125,14 @@ given_back settings folder p mid q o u status m n before after x cause same y = 
     at_store (bad_store place at bad prints same) = bad_store place at bad prints same
 
 -- a command over the keepers that were attached, which were then taken back
-pub kept_over : (deed : Deed) (settings : Settings) (folder : List ℕ) (p mid q : StoreState) (o u : Outside) (status m n : ℕ) (before after : List (Option Tables))
-    → AttachesAll p mid folder settings.pools before m → RunsOver deed settings before after m n o u status
+pub kept_over : (work : ServerWork) (settings : Settings) (folder : List ℕ) (p mid q : StoreState) (o u : Streams) (status m n : ℕ) (before after : List (Option Tables))
+    → AttachesAll p mid folder settings.pools before m → RunsOver work settings before after m n o u status
     → (list_all is_some before ≡ true → list_all is_some after ≡ true) → DetachesAll mid q folder settings.pools after n
-    → RunsKept deed settings folder p q o u status
-kept_over deed settings folder p mid q o u status m n before after x (with_door y) tells z = served (record {
+    → RunsKept work settings folder p q o u status
+kept_over work settings folder p mid q o u status m n before after x (with_door y) tells z = served (record {
   records = after;
   faults = n;
-  does = subst (λ (l : List (Option Tables)). DoesOver deed settings l after n o u status) x.told y;
+  does = subst (λ (l : List (Option Tables)). DoesOver work settings l after n o u status) x.told y;
   told = λ some. z.told (others_tell folder settings.pools p.kept mid.kept x.others some) (all some);
   others = at_places p.kept refl;
   counted = subst (λ (k : ℕ). CountsKeepers n k q.faults) x.same_faults z.counted;
@@ -144,5 +144,5 @@ kept_over deed settings folder p mid q o u status m n before after x (with_door 
     at_places : (k : Option Kept) → p.kept ≡ k → KeepsOthers folder settings.pools p.kept q.kept
     at_places None is = subst (λ (k : Option Kept). KeepsOthers folder settings.pools k q.kept) (sym is) tt
     at_places (Some k) is = others-trans folder settings.pools p.kept mid.kept q.kept x.others (z.others (all (ap is_some is)))
-kept_over deed settings folder p mid q o u status m n before after x (without_door cause same) tells z =
+kept_over work settings folder p mid q o u status m n before after x (without_door cause same) tells z =
     unserved (given_back settings folder p mid q o u status m n before after x cause same z)

@@ -1,4 +1,4 @@
-pub mod BotMisfits
+pub mod BotOptionFaults
 pub mod Names
 pub mod Places
 pub mod Counts
@@ -7,5 +7,5 @@ pub mod Refusals
 pub mod Sessions
 pub mod Doing
 pub mod KeptSessions
-pub mod Misfits
+pub mod OptionFaults
 pub mod Drilling

@@ -4,13 +4,13 @@ use Rattle.std.specs.Prelude.{IsTrue}
 use Rattle.std.specs.List.{flat_map}
 use Rattle.swarm_model.specs.declared.pool_settings.Settings.{Settings}
 use Rattle.swarm_model.specs.declared.entry.Entry.{Entry}
-use Rattle.swarm_door.specs.Doors.{DoorState, IsFreshDoor}
+use Rattle.pool_doors.specs.Doors.{DoorState, IsFreshDoor}
 use Rattle.swarm_http.specs.declared.ended.Ended.{Ended}
 use Rattle.swarm_http.specs.Exchange.{entries_of}
-use Rattle.swarm_http.specs.Answered.{World, IsAnswered}
+use Rattle.swarm_http.specs.Answered.{ConnectionState, IsAnswered}
 
 -- each log grows by the entries of the exchanges
-pub logs_grow : {v w : World} {ended : Ended} → IsTrue v.door.writer.alone → (x : IsAnswered v w ended) → (p : ℕ) → w.door.seen p ≡ v.door.seen p ++ flat_map (entries_of p) x.xs
+pub logs_grow : {v w : ConnectionState} {ended : Ended} → IsTrue v.door.writer.alone → (x : IsAnswered v w ended) → (p : ℕ) → w.door.seen p ≡ v.door.seen p ++ flat_map (entries_of p) x.xs
 logs_grow {v = v} alone x p = let o = x.once p in o.grown ∙ ap (λ (l : List Entry). v.door.seen p ++ l) (o.no_others alone)
 
 -- a door that has seen nothing

@@ -18,9 +18,9 @@ use Rattle.bot_turns.specs.declared.stopped.Stopped.{Stopped}
 use Rattle.bot_turns.specs.Turns.{bot_world}
 use Rattle.bot_turns.specs.Runs.{RunsBot}
 use Rattle.swarm_cli.specs.Clients.{OptionTest, server_test, caller_test, first_unfit}
-use Rattle.swarm_cli.specs.Outside.{PrintsMade}
+use Rattle.swarm_cli.specs.Streams.{PrintsMade}
 use Rattle.swarm_cli.specs.SettingsFile.{settings_line}
-use Rattle.swarm_cli.specs.Surroundings.{Surroundings, OnlyConsole}
+use Rattle.swarm_cli.specs.Environment.{Environment, OnlyConsole}
 
 abbrev pub name_test : List ℕ → OptionTest
 name_test name = (codes "id", is_name name)
@@ -69,45 +69,45 @@ stop_line stopped = codes "bot " ++ (why_word stopped.why ++ (codes " tasks " ++
 -- ---- what is done
 
 -- the files, the store and the listener are as before
-pub record AsideFromBot (x y : Surroundings) : Type 0 where
+pub record AsideFromBot (x y : Environment) : Type 0 where
   pub files : y.files ≡ x.files
   pub store : y.store ≡ x.store
-  pub listener : y.outside.listener ≡ x.outside.listener
+  pub listener : y.streams.listener ≡ x.streams.listener
 
 -- the folder of the bot was opened, the bot ran to its stop, and the line of that was printed
-pub record RanBot (o : BotOptions) (x y : Surroundings) (status : ℕ) : Type 0 where
+pub record RanBot (o : BotOptions) (x y : Environment) (status : ℕ) : Type 0 where
   pub hands : Hands
   pub left : Hands
   pub opened : RunnerState
   pub stopped : Stopped
   pub new : IsNewBot o hands
   pub opens : Performs (Ok tt) x.runner opened (call.Open o.id)
-  pub runs : RunsBot (limits_of o) (bot_world hands x.dialer opened x.outside.clock x.waited) (bot_world left y.dialer y.runner y.outside.clock y.waited) stopped
-  pub prints : PrintsMade (stop_line stopped) (stop_status stopped.why) x.outside.console y.outside.console status
+  pub runs : RunsBot (limits_of o) (bot_world hands x.dialer opened x.streams.clock x.waited) (bot_world left y.dialer y.runner y.streams.clock y.waited) stopped
+  pub prints : PrintsMade (stop_line stopped) (stop_status stopped.why) x.streams.console y.streams.console status
 
 -- the folder of the bot could not be opened, and nothing else was done
-pub record CannotOpen (o : BotOptions) (x y : Surroundings) (status : ℕ) : Type 0 where
+pub record CannotOpen (o : BotOptions) (x y : Environment) (status : ℕ) : Type 0 where
   pub fails : Performs (Err fault.Failed) x.runner y.runner (call.Open o.id)
   pub status_is : status ≡ 4
   pub same : y ≡ record x { runner = y.runner }
 
 -- A bot ran, or its folder could not be opened, or the first of its options that is out of its grammar is told. Want
 -- of memory may come at any place; nothing is printed then.
-pub data RunsBotCommand (o : BotOptions) (x y : Surroundings) (status : ℕ) : Type 0 where
+pub data RunsBotCommand (o : BotOptions) (x y : Environment) (status : ℕ) : Type 0 where
   ran : first_unfit (bot_tests o) ≡ None → RanBot o x y status → AsideFromBot x y → RunsBotCommand o x y status
   cannot_open : first_unfit (bot_tests o) ≡ None → CannotOpen o x y status → RunsBotCommand o x y status
-  refused : (option : List ℕ) → first_unfit (bot_tests o) ≡ Some option → Prints (settings_line option (codes "grammar")) 3 x.outside.console y.outside.console status → OnlyConsole x y
+  refused : (option : List ℕ) → first_unfit (bot_tests o) ≡ Some option → Prints (settings_line option (codes "grammar")) 3 x.streams.console y.streams.console status → OnlyConsole x y
       → RunsBotCommand o x y status
-  no_memory : status ≡ 5 → y.outside.console ≡ x.outside.console → AsideFromBot x y → RunsBotCommand o x y status
+  no_memory : status ≡ 5 → y.streams.console ≡ x.streams.console → AsideFromBot x y → RunsBotCommand o x y status
 
 -- ---- the parts
 
 -- what a bot works with, and the rest of the surroundings
-abbrev pub bot_side : Surroundings → LinkState → (ℕ → Option (List ℕ)) → DialerState → Option ℕ → RunnerState → Surroundings
+abbrev pub bot_side : Environment → LinkState → (ℕ → Option (List ℕ)) → DialerState → Option ℕ → RunnerState → Environment
 bot_side rest console clock dialer waited runner = record {
   files = rest.files;
   store = rest.store;
-  outside = record { console = console; clock = clock; listener = rest.outside.listener };
+  streams = record { console = console; clock = clock; listener = rest.streams.listener };
   dialer = dialer;
   waited = waited;
   runner = runner;

@@ -10,14 +10,14 @@ use Rattle.request_head.specs.HeadFields.{is_caller}
 use Rattle.server_address.specs.Addresses.{address_of}
 use Rattle.swarm_model.specs.declared.task_state.TaskState.{TaskState}
 use Rattle.swarm_model.specs.States.{state_named}
-use Rattle.swarm_client.specs.declared.server.Server.{Server}
-use Rattle.swarm_client.specs.Commands.{Triggers, Cancels, Collects, ListsTasks, ListsBots}
-use Rattle.swarm_client.specs.Plans.{World}
-use Rattle.swarm_cli.specs.declared.misfit.Misfit.{Misfit}
-use Rattle.swarm_cli.specs.declared.misfit.Misfit.TheVariants as misfit
-use Rattle.swarm_cli.specs.Outside.{PrintsMade}
+use Rattle.client_commands.specs.declared.server.Server.{Server}
+use Rattle.client_commands.specs.Commands.{Triggers, Cancels, Collects, ListsTasks, ListsBots}
+use Rattle.client_commands.specs.Plans.{World}
+use Rattle.swarm_cli.specs.declared.option_fault.OptionFault.{OptionFault}
+use Rattle.swarm_cli.specs.declared.option_fault.OptionFault.TheVariants as option_fault
+use Rattle.swarm_cli.specs.Streams.{PrintsMade}
 use Rattle.swarm_cli.specs.SettingsFile.{settings_line}
-use Rattle.swarm_cli.specs.Surroundings.{Surroundings, OnlyConsole}
+use Rattle.swarm_cli.specs.Environment.{Environment, OnlyConsole}
 
 -- the name of an option, and whether its value is in its grammar
 abbrev pub OptionTest : Type 0
@@ -49,8 +49,8 @@ first_unfit [] = None
 first_unfit (test ∷ tests) = if test.1 then first_unfit tests else Some test.0
 
 -- what a client works with
-abbrev pub world_of : Surroundings → World
-world_of x = record { dialer = x.dialer; console = x.outside.console; waited = x.waited }
+abbrev pub world_of : Environment → World
+world_of x = record { dialer = x.dialer; console = x.streams.console; waited = x.waited }
 
 -- it was done with the server that the words name, for their caller
 pub record DoneAt (server caller : List ℕ) (does : Server → Type 0) : Type 0 where
@@ -63,72 +63,72 @@ pub record DoneAt (server caller : List ℕ) (does : Server → Type 0) : Type 0
   pub done : does by
 
 -- the store, the listener and the runner are as before
-pub record AsideFromClient (x y : Surroundings) : Type 0 where
+pub record AsideFromClient (x y : Environment) : Type 0 where
   pub store : y.store ≡ x.store
-  pub listener : y.outside.listener ≡ x.outside.listener
+  pub listener : y.streams.listener ≡ x.streams.listener
   pub runner : y.runner ≡ x.runner
 
 -- a client's command was carried out, or the first of its options that is out of its grammar is told
-pub data RunsClient (tests : List OptionTest) (server caller : List ℕ) (does : Server → Type 0) (x y : Surroundings) (status : ℕ) : Type 0 where
+pub data RunsClient (tests : List OptionTest) (server caller : List ℕ) (does : Server → Type 0) (x y : Environment) (status : ℕ) : Type 0 where
   carried_out : first_unfit tests ≡ None → DoneAt server caller does → AsideFromClient x y → RunsClient tests server caller does x y status
-  refused : (option : List ℕ) → first_unfit tests ≡ Some option → Prints (settings_line option (codes "grammar")) 3 x.outside.console y.outside.console status → OnlyConsole x y
+  refused : (option : List ℕ) → first_unfit tests ≡ Some option → Prints (settings_line option (codes "grammar")) 3 x.streams.console y.streams.console status → OnlyConsole x y
       → RunsClient tests server caller does x y status
   no_memory : status ≡ 5 → y ≡ x → RunsClient tests server caller does x y status
 
-abbrev pub RunsTrigger : List ℕ → List ℕ → List ℕ → Surroundings → Surroundings → ℕ → Type 0
+abbrev pub RunsTrigger : List ℕ → List ℕ → List ℕ → Environment → Environment → ℕ → Type 0
 RunsTrigger server caller file x y status =
     RunsClient (server_test server ∷ caller_test caller ∷ []) server caller (λ by. Triggers by file x.files y.files (world_of x) (world_of y) status) x y status
 
-abbrev pub RunsCollect : List ℕ → List ℕ → ℕ → ℕ → List ℕ → Surroundings → Surroundings → ℕ → Type 0
+abbrev pub RunsCollect : List ℕ → List ℕ → ℕ → ℕ → List ℕ → Environment → Environment → ℕ → Type 0
 RunsCollect server caller polls every id x y status =
     RunsClient (server_test server ∷ caller_test caller ∷ id_test id ∷ []) server caller (λ by. Collects by id polls every (world_of x) (world_of y) status) x y status
 
-abbrev pub RunsCancel : List ℕ → List ℕ → Bool → List ℕ → Surroundings → Surroundings → ℕ → Type 0
+abbrev pub RunsCancel : List ℕ → List ℕ → Bool → List ℕ → Environment → Environment → ℕ → Type 0
 RunsCancel server caller kill id x y status =
     RunsClient (server_test server ∷ caller_test caller ∷ id_test id ∷ []) server caller (λ by. Cancels by id kill (world_of x) (world_of y) status) x y status
 
-abbrev pub RunsTasks : List ℕ → List ℕ → List ℕ → List ℕ → ℕ → Surroundings → Surroundings → ℕ → Type 0
+abbrev pub RunsTasks : List ℕ → List ℕ → List ℕ → List ℕ → ℕ → Environment → Environment → ℕ → Type 0
 RunsTasks server caller pool state limit x y status =
     RunsClient (server_test server ∷ caller_test caller ∷ state_test state ∷ []) server caller
     (λ by. ListsTasks by pool (wanted_state state) limit (world_of x) (world_of y) status) x y status
 
-abbrev pub RunsBots : List ℕ → List ℕ → List ℕ → ℕ → Surroundings → Surroundings → ℕ → Type 0
+abbrev pub RunsBots : List ℕ → List ℕ → List ℕ → ℕ → Environment → Environment → ℕ → Type 0
 RunsBots server caller pool limit x y status =
     RunsClient (server_test server ∷ caller_test caller ∷ []) server caller (λ by. ListsBots by pool limit (world_of x) (world_of y) status) x y status
 
 -- ---- the parts
 
 -- what a client works with, and the rest of the surroundings
-abbrev pub client_side : Surroundings → FilesState → LinkState → (ℕ → Option (List ℕ)) → DialerState → Option ℕ → Surroundings
+abbrev pub client_side : Environment → FilesState → LinkState → (ℕ → Option (List ℕ)) → DialerState → Option ℕ → Environment
 client_side rest files console clock dialer waited = record {
   files = files;
   store = rest.store;
-  outside = record { console = console; clock = clock; listener = rest.outside.listener };
+  streams = record { console = console; clock = clock; listener = rest.streams.listener };
   dialer = dialer;
   waited = waited;
   runner = rest.runner;
 }
 
--- the option of a misfit
-abbrev pub misfit_name : Misfit → List ℕ
-misfit_name misfit.Memory = []
-misfit_name misfit.Server = codes "server"
-misfit_name misfit.Caller = codes "caller"
-misfit_name misfit.Id = codes "id"
-misfit_name misfit.State = codes "state"
-misfit_name misfit.Dimensions = codes "dimensions"
+-- the option of a fault
+abbrev pub option_name : OptionFault → List ℕ
+option_name option_fault.Memory = []
+option_name option_fault.Server = codes "server"
+option_name option_fault.Caller = codes "caller"
+option_name option_fault.Id = codes "id"
+option_name option_fault.State = codes "state"
+option_name option_fault.Dimensions = codes "dimensions"
 
--- the line for a misfit is printed, where there is memory for it
-abbrev pub TellsMisfit : Misfit → LinkState → LinkState → ℕ → Type 0
-TellsMisfit misfit.Memory s t status = (status ≡ 5) × (t ≡ s)
-TellsMisfit why s t status = PrintsMade (settings_line (misfit_name why) (codes "grammar")) 3 s t status
+-- the line for a fault is printed, where there is memory for it
+abbrev pub PrintsOptionFault : OptionFault → LinkState → LinkState → ℕ → Type 0
+PrintsOptionFault option_fault.Memory s t status = (status ≡ 5) × (t ≡ s)
+PrintsOptionFault why s t status = PrintsMade (settings_line (option_name why) (codes "grammar")) 3 s t status
 
 -- it is the first option that isn't in its grammar; of want of memory nothing is said
-abbrev pub IsMisfit : List OptionTest → Misfit → Type 0
-IsMisfit tests misfit.Memory = ⊤
-IsMisfit tests why = first_unfit tests ≡ Some (misfit_name why)
+abbrev pub IsOptionFault : List OptionTest → OptionFault → Type 0
+IsOptionFault tests option_fault.Memory = ⊤
+IsOptionFault tests why = first_unfit tests ≡ Some (option_name why)
 
 -- all options are in their grammars, or the first that isn't is told
-abbrev pub Fits : {T : Type 0} → List OptionTest → Result T Misfit → Type 0
+abbrev pub Fits : {T : Type 0} → List OptionTest → Result T OptionFault → Type 0
 Fits tests (Ok x) = first_unfit tests ≡ None
-Fits tests (Err why) = IsMisfit tests why
+Fits tests (Err why) = IsOptionFault tests why

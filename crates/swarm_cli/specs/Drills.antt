@@ -6,13 +6,13 @@ use Rattle.sw_base.specs.Clock.{steps_from}
 use Rattle.sw_base.specs.Link.{LinkState, opened}
 use Rattle.swarm_model.specs.declared.pool_settings.Settings.{Settings}
 use Rattle.swarm_policy.specs.Open.{open_pool, open_settings}
-use Rattle.swarm_door.specs.Doors.{DoorState, IsFreshDoor}
+use Rattle.pool_doors.specs.Doors.{DoorState, IsFreshDoor}
 use Rattle.swarm_http.specs.declared.ended.Ended.{Ended}
 use Rattle.swarm_http.specs.declared.ended.Ended.TheVariants.{Closed, LastAsked, CutShort, BadHead, Retired, ReadFault, WriteFault, Memory}
 use Rattle.swarm_http.specs.Exchange.{is_accepted}
 use Rattle.swarm_http.specs.Answered.{IsAnswered}
 use Rattle.pool_summaries.specs.Summaries.{summary_of}
-use Rattle.swarm_cli.specs.Outside.{PrintsMade}
+use Rattle.swarm_cli.specs.Streams.{PrintsMade}
 
 -- the open settings, under which no bot is silent for too long in a drill
 abbrev pub drill_settings : Settings

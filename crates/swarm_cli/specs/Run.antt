@@ -5,23 +5,23 @@ use Rattle.swarm_policy.specs.Open.{open_settings}
 use Rattle.command_words.specs.Commands.{CommandValue, session, serve, bot, trigger, collect, cancel, tasks, bots, drill}
 use Rattle.swarm_cli.specs.BotCommands.{RunsBotCommand}
 use Rattle.swarm_cli.specs.Clients.{RunsTrigger, RunsCollect, RunsCancel, RunsTasks, RunsBots}
-use Rattle.swarm_cli.specs.Deeds.{Service, by_one, serving}
-use Rattle.swarm_cli.specs.Deeds as deed
+use Rattle.swarm_cli.specs.ServerWork.{Service, by_one, serving}
+use Rattle.swarm_cli.specs.ServerWork as work
 use Rattle.swarm_cli.specs.Drills.{Drills}
 use Rattle.swarm_cli.specs.SettingsFile.{RunsUnder, RunsFile}
-use Rattle.swarm_cli.specs.Surroundings.{Surroundings, OnlyConsole}
+use Rattle.swarm_cli.specs.Environment.{Environment, OnlyConsole}
 
 -- a command over the pools, under the settings of a file, or the open ones where no file is named
-abbrev pub RunsBy : Service → Option (List ℕ) → Surroundings → Surroundings → ℕ → Type 0
-RunsBy what None x y status = RunsUnder what None open_settings x.store y.store x.outside y.outside status × (y.files ≡ x.files) × (y.dialer ≡ x.dialer) × (y.runner ≡ x.runner)
-RunsBy what (Some path) x y status = RunsFile what path x.files y.files x.store y.store x.outside y.outside status × (y.dialer ≡ x.dialer) × (y.runner ≡ x.runner)
+abbrev pub RunsBy : Service → Option (List ℕ) → Environment → Environment → ℕ → Type 0
+RunsBy what None x y status = RunsUnder what None open_settings x.store y.store x.streams y.streams status × (y.files ≡ x.files) × (y.dialer ≡ x.dialer) × (y.runner ≡ x.runner)
+RunsBy what (Some path) x y status = RunsFile what path x.files y.files x.store y.store x.streams y.streams status × (y.dialer ≡ x.dialer) × (y.runner ≡ x.runner)
 
 -- a command was carried out
-abbrev pub CarriesOut : CommandValue → Surroundings → Surroundings → ℕ → Type 0
-CarriesOut (session settings) x y status = RunsBy (by_one deed.session) settings x y status
+abbrev pub CarriesOut : CommandValue → Environment → Environment → ℕ → Type 0
+CarriesOut (session settings) x y status = RunsBy (by_one work.session) settings x y status
 CarriesOut (serve settings address workers connections) x y status = RunsBy (serving address workers connections) settings x y status
 CarriesOut (bot options) x y status = RunsBotCommand options x y status
-CarriesOut (drill cycles start) x y status = Drills start cycles x.outside.console y.outside.console status × OnlyConsole x y
+CarriesOut (drill cycles start) x y status = Drills start cycles x.streams.console y.streams.console status × OnlyConsole x y
 CarriesOut (trigger server caller file) x y status = RunsTrigger server caller file x y status
 CarriesOut (collect server caller polls every id) x y status = RunsCollect server caller polls every id x y status
 CarriesOut (cancel server caller kill id) x y status = RunsCancel server caller kill id x y status
@@ -29,16 +29,16 @@ CarriesOut (tasks server caller pool state limit) x y status = RunsTasks server 
 CarriesOut (bots server caller pool limit) x y status = RunsBots server caller pool limit x y status
 
 -- the words are no command, and a text is printed that says so
-pub record PrintsRefusal (x y : Surroundings) (status : ℕ) : Type 0 where
+pub record PrintsRefusal (x y : Environment) (status : ℕ) : Type 0 where
   pub text : List ℕ
-  pub prints : Prints text 2 x.outside.console y.outside.console status
+  pub prints : Prints text 2 x.streams.console y.streams.console status
   pub only : OnlyConsole x y
 
 -- the command that the words ask for was carried out, or they ask for none
-abbrev pub RunsCommand : Option CommandValue → Surroundings → Surroundings → ℕ → Type 0
+abbrev pub RunsCommand : Option CommandValue → Environment → Environment → ℕ → Type 0
 RunsCommand None x y status = PrintsRefusal x y status
 RunsCommand (Some command) x y status = CarriesOut command x y status
 
 -- that, or there was no memory to read the words
-abbrev pub Runs : Option CommandValue → Surroundings → Surroundings → ℕ → Type 0
+abbrev pub Runs : Option CommandValue → Environment → Environment → ℕ → Type 0
 Runs command x y status = RunsCommand command x y status ⊎ ((status ≡ 5) × (y ≡ x))

@@ -5,11 +5,11 @@ ghost use Rattle.bot_dimensions.specs.Pairs.{fitting_pairs};
 ghost use Rattle.command_words.specs.Commands.{BotOptions, options_of};
 ghost use Rattle.swarm_cli.specs.Clients.{Fits, first_unfit};
 ghost use Rattle.swarm_cli.specs.BotCommands.{IsNewBot, RunsBotCommand, bot_side, bot_tests, dimensions_test, limits_of, name_test, stop_line as spec_stop_line, stop_status as spec_stop_status, why_word as spec_why_word};
-ghost use Rattle.swarm_cli.specs.Outside.{PrintsMade};
-ghost use Rattle.swarm_cli.specs.Surroundings.{Surroundings};
+ghost use Rattle.swarm_cli.specs.Streams.{PrintsMade};
+ghost use Rattle.swarm_cli.specs.Environment.{Environment};
 
-use crate::misfit::Misfit;
-use crate::options::{server_of, tell_misfit};
+use crate::option_fault::OptionFault;
+use crate::options::{print_option_fault, server_of};
 use bot_core::{BotLimits, StopWhy};
 use bot_dimensions::{PairsFault, read_pairs};
 use bot_requests::Hands;
@@ -25,7 +25,7 @@ use sw_base::{Dialer, StartFault};
 use swarm_http::{Clock, Link};
 use swarm_model::is_name;
 
-fn pairs_of(alloc: Global, words: &Bot) -> Result<Seq<(Text, Text)>, Misfit>
+fn pairs_of(alloc: Global, words: &Bot) -> Result<Seq<(Text, Text)>, OptionFault>
     ensures pairs { IfOk result (λ pairs. fitting_pairs (options_of words.now).id (options_of words.now).pool (options_of words.now).dimensions ≡ Some pairs) }
     ensures fits { Fits (dimensions_test (options_of words.now) ∷ []) result }
 {
@@ -36,19 +36,19 @@ fn pairs_of(alloc: Global, words: &Bot) -> Result<Seq<(Text, Text)>, Misfit>
         words.dimensions.as_str(),
     ) {
         Ok(pairs) => Ok(pairs),
-        Err(PairsFault::Memory) => Err(Misfit::Memory),
-        Err(PairsFault::Grammar) => Err(Misfit::Dimensions),
+        Err(PairsFault::Memory) => Err(OptionFault::Memory),
+        Err(PairsFault::Grammar) => Err(OptionFault::Dimensions),
     }
 }
 
-fn named_pairs(alloc: Global, words: &Bot) -> Result<Seq<(Text, Text)>, Misfit>
+fn named_pairs(alloc: Global, words: &Bot) -> Result<Seq<(Text, Text)>, OptionFault>
     ensures pairs { IfOk result (λ pairs. fitting_pairs (options_of words.now).id (options_of words.now).pool (options_of words.now).dimensions ≡ Some pairs) }
     ensures fits { Fits (name_test (options_of words.now).id ∷ dimensions_test (options_of words.now) ∷ []) result }
 {
     if is_name(words.id.as_str()) {
         pairs_of(alloc, words)
     } else {
-        Err(Misfit::Id)
+        Err(OptionFault::Id)
     }
 }
 
@@ -57,7 +57,7 @@ fn named_pairs(alloc: Global, words: &Bot) -> Result<Seq<(Text, Text)>, Misfit>
 fn server_and_pairs(
     alloc: Global,
     words: &Bot,
-) -> Result<(ServerAddress, Seq<(Text, Text)>), Misfit>
+) -> Result<(ServerAddress, Seq<(Text, Text)>), OptionFault>
     ensures address { IfOk result (λ a. address_of (options_of words.now).server ≡ Some (string_bytes a.0.dial, string_bytes a.0.host)) }
     ensures pairs { IfOk result (λ a. fitting_pairs (options_of words.now).id (options_of words.now).pool (options_of words.now).dimensions ≡ Some a.1) }
     ensures fits { Fits (bot_tests (options_of words.now)) result }
@@ -156,7 +156,7 @@ fn run_hands<L: Link, C: Clock, W: Dialer, R: Runner>(
     dialer: &mut W,
     runner: &mut R,
 ) -> u8
-    ensures { (rest : Surroundings) (o : BotOptions) → first_unfit (bot_tests o) ≡ None → limits ≡ limits_of o → IsNewBot o hands.old → RunsBotCommand o
+    ensures { (rest : Environment) (o : BotOptions) → first_unfit (bot_tests o) ≡ None → limits ≡ limits_of o → IsNewBot o hands.old → RunsBotCommand o
         (bot_side rest (L.state console.old) (C.ahead clock.old) (W.state dialer.old) (C.waited clock.old) (R.state runner.old))
         (bot_side rest (L.state console.new) (C.ahead clock.new) (W.state dialer.new) (C.waited clock.new) (R.state runner.new)) result }
 {
@@ -179,7 +179,7 @@ pub(crate) fn run_bot_command<L: Link, C: Clock, W: Dialer, R: Runner>(
     dialer: &mut W,
     runner: &mut R,
 ) -> u8
-    ensures { (rest : Surroundings) → RunsBotCommand (options_of words.now)
+    ensures { (rest : Environment) → RunsBotCommand (options_of words.now)
         (bot_side rest (L.state console.old) (C.ahead clock.old) (W.state dialer.old) (C.waited clock.old) (R.state runner.old))
         (bot_side rest (L.state console.new) (C.ahead clock.new) (W.state dialer.new) (C.waited clock.new) (R.state runner.new)) result }
 {
@@ -196,6 +196,6 @@ pub(crate) fn run_bot_command<L: Link, C: Clock, W: Dialer, R: Runner>(
             ),
             Err(_) => 5,
         },
-        Err(why) => tell_misfit(alloc, console, why),
+        Err(why) => print_option_fault(alloc, console, why),
     }
 }

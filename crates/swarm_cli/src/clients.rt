@@ -1,13 +1,13 @@
 //! The commands of a client.
 ghost use Rattle.std.specs.Prelude.{◌≤◌, string_bytes};
 ghost use Rattle.swarm_cli.specs.Clients.{RunsTrigger, RunsCollect, RunsCancel, RunsTasks, RunsBots, client_side};
-ghost use Rattle.swarm_cli.specs.Surroundings.{Surroundings};
+ghost use Rattle.swarm_cli.specs.Environment.{Environment};
 
-use crate::options::{server_for_id, server_for_state, server_of, tell_misfit};
+use crate::options::{print_option_fault, server_for_id, server_for_state, server_of};
+use client_commands::{Server, cancel, collect, list_bots, list_tasks, trigger};
 use command_words::{Bots, Cancel, Collect, Tasks, Trigger};
 use std::alloc::Global;
 use sw_base::{Dialer, Files};
-use swarm_client::{Server, cancel, collect, list_bots, list_tasks, trigger};
 use swarm_http::{Clock, Link};
 
 /// Posts a new task, from a file.
@@ -18,9 +18,9 @@ pub(crate) fn run_trigger<L: Link, F: Files, W: Dialer>(
     files: &mut F,
     dialer: &mut W,
 ) -> u8
-    ensures { (rest : Surroundings) → RunsTrigger (string_bytes words.now.server) (string_bytes words.now.caller) (string_bytes words.now.file)
-        (client_side rest (F.state files.old) (L.state console.old) rest.outside.clock (W.state dialer.old) rest.waited)
-        (client_side rest (F.state files.new) (L.state console.new) rest.outside.clock (W.state dialer.new) rest.waited) result }
+    ensures { (rest : Environment) → RunsTrigger (string_bytes words.now.server) (string_bytes words.now.caller) (string_bytes words.now.file)
+        (client_side rest (F.state files.old) (L.state console.old) rest.streams.clock (W.state dialer.old) rest.waited)
+        (client_side rest (F.state files.new) (L.state console.new) rest.streams.clock (W.state dialer.new) rest.waited) result }
 {
     let caller = words.caller.as_str();
     match server_of(alloc, words.server.as_str(), caller) {
@@ -34,7 +34,7 @@ pub(crate) fn run_trigger<L: Link, F: Files, W: Dialer>(
             };
             trigger(alloc, dialer, console, files, &server, words.file.as_str())
         }
-        Err(why) => tell_misfit(alloc, console, why),
+        Err(why) => print_option_fault(alloc, console, why),
     }
 }
 
@@ -46,7 +46,7 @@ pub(crate) fn run_collect<L: Link, C: Clock, W: Dialer>(
     clock: &mut C,
     dialer: &mut W,
 ) -> u8
-    ensures { (rest : Surroundings) → RunsCollect (string_bytes words.now.server) (string_bytes words.now.caller) words.now.polls words.now.every (string_bytes words.now.id)
+    ensures { (rest : Environment) → RunsCollect (string_bytes words.now.server) (string_bytes words.now.caller) words.now.polls words.now.every (string_bytes words.now.id)
         (client_side rest rest.files (L.state console.old) (C.ahead clock.old) (W.state dialer.old) (C.waited clock.old))
         (client_side rest rest.files (L.state console.new) (C.ahead clock.new) (W.state dialer.new) (C.waited clock.new)) result }
 {
@@ -72,7 +72,7 @@ pub(crate) fn run_collect<L: Link, C: Clock, W: Dialer>(
                 words.every,
             )
         }
-        Err(why) => tell_misfit(alloc, console, why),
+        Err(why) => print_option_fault(alloc, console, why),
     }
 }
 
@@ -83,9 +83,9 @@ pub(crate) fn run_cancel<L: Link, W: Dialer>(
     console: &mut L,
     dialer: &mut W,
 ) -> u8
-    ensures { (rest : Surroundings) → RunsCancel (string_bytes words.now.server) (string_bytes words.now.caller) words.now.kill (string_bytes words.now.id)
-        (client_side rest rest.files (L.state console.old) rest.outside.clock (W.state dialer.old) rest.waited)
-        (client_side rest rest.files (L.state console.new) rest.outside.clock (W.state dialer.new) rest.waited) result }
+    ensures { (rest : Environment) → RunsCancel (string_bytes words.now.server) (string_bytes words.now.caller) words.now.kill (string_bytes words.now.id)
+        (client_side rest rest.files (L.state console.old) rest.streams.clock (W.state dialer.old) rest.waited)
+        (client_side rest rest.files (L.state console.new) rest.streams.clock (W.state dialer.new) rest.waited) result }
 {
     let caller = words.caller.as_str();
     let id = words.id.as_str();
@@ -100,7 +100,7 @@ pub(crate) fn run_cancel<L: Link, W: Dialer>(
             };
             cancel(alloc, dialer, console, &server, id, words.kill)
         }
-        Err(why) => tell_misfit(alloc, console, why),
+        Err(why) => print_option_fault(alloc, console, why),
     }
 }
 
@@ -113,9 +113,9 @@ pub(crate) fn run_tasks<L: Link, W: Dialer>(
 ) -> u8
     requires some { 1 ≤ words.now.limit }
     requires few { words.now.limit ≤ 200 }
-    ensures { (rest : Surroundings) → RunsTasks (string_bytes words.now.server) (string_bytes words.now.caller) (string_bytes words.now.pool) (string_bytes words.now.state) words.now.limit
-        (client_side rest rest.files (L.state console.old) rest.outside.clock (W.state dialer.old) rest.waited)
-        (client_side rest rest.files (L.state console.new) rest.outside.clock (W.state dialer.new) rest.waited) result }
+    ensures { (rest : Environment) → RunsTasks (string_bytes words.now.server) (string_bytes words.now.caller) (string_bytes words.now.pool) (string_bytes words.now.state) words.now.limit
+        (client_side rest rest.files (L.state console.old) rest.streams.clock (W.state dialer.old) rest.waited)
+        (client_side rest rest.files (L.state console.new) rest.streams.clock (W.state dialer.new) rest.waited) result }
 {
     let caller = words.caller.as_str();
     let pool = words.pool.as_str();
@@ -130,7 +130,7 @@ pub(crate) fn run_tasks<L: Link, W: Dialer>(
             };
             list_tasks(alloc, dialer, console, &server, pool, wanted, words.limit)
         }
-        Err(why) => tell_misfit(alloc, console, why),
+        Err(why) => print_option_fault(alloc, console, why),
     }
 }
 
@@ -143,9 +143,9 @@ pub(crate) fn run_bots<L: Link, W: Dialer>(
 ) -> u8
     requires some { 1 ≤ words.now.limit }
     requires few { words.now.limit ≤ 200 }
-    ensures { (rest : Surroundings) → RunsBots (string_bytes words.now.server) (string_bytes words.now.caller) (string_bytes words.now.pool) words.now.limit
-        (client_side rest rest.files (L.state console.old) rest.outside.clock (W.state dialer.old) rest.waited)
-        (client_side rest rest.files (L.state console.new) rest.outside.clock (W.state dialer.new) rest.waited) result }
+    ensures { (rest : Environment) → RunsBots (string_bytes words.now.server) (string_bytes words.now.caller) (string_bytes words.now.pool) words.now.limit
+        (client_side rest rest.files (L.state console.old) rest.streams.clock (W.state dialer.old) rest.waited)
+        (client_side rest rest.files (L.state console.new) rest.streams.clock (W.state dialer.new) rest.waited) result }
 {
     let caller = words.caller.as_str();
     let pool = words.pool.as_str();
@@ -160,6 +160,6 @@ pub(crate) fn run_bots<L: Link, W: Dialer>(
             };
             list_bots(alloc, dialer, console, &server, pool, words.limit)
         }
-        Err(why) => tell_misfit(alloc, console, why),
+        Err(why) => print_option_fault(alloc, console, why),
     }
 }

@@ -4,7 +4,7 @@ ghost use Rattle.drill_requests.specs.Texts.{drill_bytes};
 ghost use Rattle.swarm_model.specs.Settings.{are_settings};
 ghost use Rattle.swarm_history.specs.Machines.{logs_of};
 ghost use Rattle.pool_summaries.specs.Summaries.{summary_of};
-ghost use Rattle.swarm_cli.specs.Outside.{PrintsMade};
+ghost use Rattle.swarm_cli.specs.Streams.{PrintsMade};
 ghost use Rattle.swarm_cli.specs.Drills.{Drills, drill_settings as spec_drill_settings, drill_status, drill_text};
 
 use crate::serving::no_keepers;
@@ -15,7 +15,7 @@ use pool_summaries::summary;
 use std::alloc::{AllocError, Global};
 use sw_base::{MemoryLink, StepClock};
 use swarm_history::PlainDoor;
-use swarm_http::{Counted, Ended, Link, counted_session};
+use swarm_http::{ConnectionCounts, Ended, Link, counted_session};
 use swarm_keeper::NoKeeper;
 use swarm_machine::Pool;
 use swarm_model::{Machine, PoolSettings, Settings};
@@ -60,7 +60,7 @@ fn drill_lines<M: Machine>(
     alloc: Global,
     pools: &[PoolSettings],
     machines: &[M],
-    counted: &Counted,
+    counted: &ConnectionCounts,
 ) -> Result<String, AllocError>
     requires count { length machines.now ≡ length pools.now }
     requires few { counted.now.accepted ≤ counted.now.requests }
@@ -75,7 +75,7 @@ fn print_drill<L: Link, M: Machine>(
     pools: &[PoolSettings],
     machines: &[M],
     console: &mut L,
-    counted: &Counted,
+    counted: &ConnectionCounts,
 ) -> u8
     requires count { length machines.now ≡ length pools.now }
     requires few { counted.now.accepted ≤ counted.now.requests }

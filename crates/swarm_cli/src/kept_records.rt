@@ -3,7 +3,7 @@ ghost use Rattle.std.specs.Prelude.{◌≡◌, IsTrue};
 ghost use Rattle.sw_base.specs.Link.{IsClean};
 ghost use Rattle.swarm_model.specs.Settings.{are_settings};
 ghost use Rattle.swarm_policy.specs.Pools.{have_own_names};
-ghost use Rattle.swarm_cli.specs.Handling.{deed_of, HasRange};
+ghost use Rattle.swarm_cli.specs.Handling.{work_of, HasRange};
 ghost use Rattle.swarm_cli.specs.KeptRecords.{RunsKept};
 
 use crate::attaching::{attach_all, detach_all};
@@ -32,7 +32,7 @@ where
     requires own_names { IsTrue (have_own_names settings.now.pools) }
     requires clean { IsClean (L.state console.old) }
     requires range { HasRange command.now }
-    ensures { RunsKept (deed_of command.now) settings.now folder.now (P.state store.old) (P.state store.new)
+    ensures { RunsKept (work_of command.now) settings.now folder.now (P.state store.old) (P.state store.new)
         (record { console = L.state console.old; clock = C.ahead clock.old; listener = N.state listener.old })
         (record { console = L.state console.new; clock = C.ahead clock.new; listener = N.state listener.new }) result }
 {

@@ -4,7 +4,7 @@
 //! [`run`] reads the words of the command line by `command_words` and carries them out. The words
 //! `session` and `serve` are carried out over a door of their own: `session` serves one connection
 //! over the console, by `swarm_http`'s `session`, and `serve` those that come at an address, by
-//! `swarm_workers`' `work`; `Does` of `specs/Deeds.antt` says what each does to the door and to the
+//! `swarm_workers`' `work`; `CarriesOutWork` of `specs/ServerWork.antt` says what each does to the door and to the
 //! outside. With several workers `serve` is `swarm_workers`' `serve_shared`; `RunsShared` of
 //! `specs/Sharing.antt` says what comes of it. Their settings are the open ones, or with
 //! `--settings FILE` those of a file; `RunsFile` of `specs/SettingsFile.antt` says what a file comes
@@ -12,7 +12,7 @@
 //! pool there, and the records grow with the logs; `RunsKept` of `specs/KeptRecords.antt` is that
 //! contract, and `RunsBy` of `specs/Run.antt` holds them together. The word `drill` serves a
 //! session that is made from a number over a link in memory; `Drills` of `specs/Drills.antt` is its
-//! contract. The commands of a client are those of `swarm_client`, once their options are in their
+//! contract. The commands of a client are those of `client_commands`, once their options are in their
 //! grammars; `RunsClient` of `specs/Clients.antt` says so. `bot` is that of `bot_turns`, over a
 //! runner of children, once its options are in their grammars; `RunsBotCommand` of
 //! `specs/BotCommands.antt` says so. `serve` and `drill` end with the summary of the pools, which
@@ -26,7 +26,7 @@ mod door_command;
 mod drill;
 mod kept_records;
 mod listening;
-mod misfit;
+mod option_fault;
 mod options;
 mod printing;
 mod program;

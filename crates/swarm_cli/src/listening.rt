@@ -2,7 +2,7 @@
 ghost use Rattle.std.specs.Prelude.{◌≡◌, ◌+◌, ◌*◌, ◌≤◌, ◌^◌, MatchResult, IsTrue};
 ghost use Rattle.swarm_model.specs.Settings.{are_settings};
 ghost use Rattle.swarm_http.specs.Answered.{KeepsDoor};
-ghost use Rattle.swarm_cli.specs.Deeds.{ServesListener, CannotListen};
+ghost use Rattle.swarm_cli.specs.ServerWork.{ServesListener, CannotListen};
 
 use std::alloc::Global;
 use sw_base::{Listener, StartFault};

@@ -1,9 +1,9 @@
 //! The options of a client's command, and their grammars.
 ghost use Rattle.std.specs.Prelude.{◌≡◌, ◌∷◌, [], None, Some, Err, IfOk, codes, string_bytes};
 ghost use Rattle.server_address.specs.Addresses.{address_of};
-ghost use Rattle.swarm_cli.specs.Clients.{Fits, TellsMisfit, server_test, caller_test, id_test, state_test, wanted_state};
+ghost use Rattle.swarm_cli.specs.Clients.{Fits, PrintsOptionFault, server_test, caller_test, id_test, state_test, wanted_state};
 
-use crate::misfit::Misfit;
+use crate::option_fault::OptionFault;
 use crate::printing::print_grammar;
 use json_fields::read_id;
 use request_head::is_caller;
@@ -13,19 +13,23 @@ use swarm_http::Link;
 use swarm_model::TaskState;
 use task_props::PropFault;
 
-fn address_at(alloc: Global, server: &str) -> Result<ServerAddress, Misfit>
+fn address_at(alloc: Global, server: &str) -> Result<ServerAddress, OptionFault>
     ensures address { IfOk result (λ a. address_of server.now ≡ Some (string_bytes a.dial, string_bytes a.host)) }
     ensures fits { Fits (server_test server.now ∷ []) result }
 {
     match read_address(alloc, server) {
         Ok(address) => Ok(address),
-        Err(AddressFault::Memory) => Err(Misfit::Memory),
-        Err(AddressFault::Grammar) => Err(Misfit::Server),
+        Err(AddressFault::Memory) => Err(OptionFault::Memory),
+        Err(AddressFault::Grammar) => Err(OptionFault::Server),
     }
 }
 
 /// The address of the server, where the caller is in its grammar too.
-pub(crate) fn server_of(alloc: Global, server: &str, caller: &str) -> Result<ServerAddress, Misfit>
+pub(crate) fn server_of(
+    alloc: Global,
+    server: &str,
+    caller: &str,
+) -> Result<ServerAddress, OptionFault>
     ensures address { IfOk result (λ a. address_of server.now ≡ Some (string_bytes a.dial, string_bytes a.host)) }
     ensures fits { Fits (server_test server.now ∷ caller_test caller.now ∷ []) result }
 {
@@ -34,20 +38,20 @@ pub(crate) fn server_of(alloc: Global, server: &str, caller: &str) -> Result<Ser
             if is_caller(caller.as_bytes()) {
                 Ok(address)
             } else {
-                Err(Misfit::Caller)
+                Err(OptionFault::Caller)
             }
         }
         Err(why) => Err(why),
     }
 }
 
-fn check_id(alloc: Global, id: &str) -> Result<(), Misfit>
+fn check_id(alloc: Global, id: &str) -> Result<(), OptionFault>
     ensures { Fits (id_test id.now ∷ []) result }
 {
     match read_id(alloc, id) {
         Ok(_) => Ok(()),
-        Err(PropFault::Memory) => Err(Misfit::Memory),
-        Err(_) => Err(Misfit::Id),
+        Err(PropFault::Memory) => Err(OptionFault::Memory),
+        Err(_) => Err(OptionFault::Id),
     }
 }
 
@@ -57,7 +61,7 @@ pub(crate) fn server_for_id(
     server: &str,
     caller: &str,
     id: &str,
-) -> Result<ServerAddress, Misfit>
+) -> Result<ServerAddress, OptionFault>
     ensures address { IfOk result (λ a. address_of server.now ≡ Some (string_bytes a.dial, string_bytes a.host)) }
     ensures fits { Fits (server_test server.now ∷ caller_test caller.now ∷ id_test id.now ∷ []) result }
 {
@@ -70,7 +74,7 @@ pub(crate) fn server_for_id(
     }
 }
 
-fn state_of(state: &str) -> Result<Option<TaskState>, Misfit>
+fn state_of(state: &str) -> Result<Option<TaskState>, OptionFault>
     ensures wanted { IfOk result (λ wanted. wanted ≡ wanted_state state.now) }
     ensures fits { Fits (state_test state.now ∷ []) result }
 {
@@ -79,7 +83,7 @@ fn state_of(state: &str) -> Result<Option<TaskState>, Misfit>
     }
     match TaskState::from_name(state) {
         Some(wanted) => Ok(Some(wanted)),
-        None => Err(Misfit::State),
+        None => Err(OptionFault::State),
     }
 }
 
@@ -89,7 +93,7 @@ pub(crate) fn server_for_state(
     server: &str,
     caller: &str,
     state: &str,
-) -> Result<(ServerAddress, Option<TaskState>), Misfit>
+) -> Result<(ServerAddress, Option<TaskState>), OptionFault>
     ensures address { IfOk result (λ a. address_of server.now ≡ Some (string_bytes a.0.dial, string_bytes a.0.host)) }
     ensures wanted { IfOk result (λ a. a.1 ≡ wanted_state state.now) }
     ensures fits { Fits (server_test server.now ∷ caller_test caller.now ∷ state_test state.now ∷ []) result }
@@ -104,15 +108,15 @@ pub(crate) fn server_for_state(
 }
 
 /// Prints which option is out of its grammar.
-pub(crate) fn tell_misfit<L: Link>(alloc: Global, console: &mut L, why: Misfit) -> u8
-    ensures { TellsMisfit why (L.state console.old) (L.state console.new) result }
+pub(crate) fn print_option_fault<L: Link>(alloc: Global, console: &mut L, why: OptionFault) -> u8
+    ensures { PrintsOptionFault why (L.state console.old) (L.state console.new) result }
 {
     match why {
-        Misfit::Memory => 5,
-        Misfit::Server => print_grammar(alloc, console, "server"),
-        Misfit::Caller => print_grammar(alloc, console, "caller"),
-        Misfit::Id => print_grammar(alloc, console, "id"),
-        Misfit::State => print_grammar(alloc, console, "state"),
-        Misfit::Dimensions => print_grammar(alloc, console, "dimensions"),
+        OptionFault::Memory => 5,
+        OptionFault::Server => print_grammar(alloc, console, "server"),
+        OptionFault::Caller => print_grammar(alloc, console, "caller"),
+        OptionFault::Id => print_grammar(alloc, console, "id"),
+        OptionFault::State => print_grammar(alloc, console, "state"),
+        OptionFault::Dimensions => print_grammar(alloc, console, "dimensions"),
     }
 }

@@ -3,7 +3,7 @@ ghost use Rattle.std.specs.Prelude.{◌≡◌, ℕ, IfOk, List, Option, codes, s
 ghost use Rattle.sw_base.specs.Listeners.{ListenerState};
 ghost use Rattle.swarm_keeper.specs.Stores.{StoreState};
 ghost use Rattle.link_writer.specs.Printing.{Prints};
-ghost use Rattle.swarm_cli.specs.Outside.{PrintsMade};
+ghost use Rattle.swarm_cli.specs.Streams.{PrintsMade};
 ghost use Rattle.swarm_cli.specs.KeptRecords.{store_line as spec_store_line};
 ghost use Rattle.swarm_cli.specs.SettingsFile.{Refuses, settings_line as spec_settings_line};
 

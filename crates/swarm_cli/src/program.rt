@@ -5,7 +5,7 @@ ghost use Rattle.sw_base.specs.Link.{IsClean};
 ghost use Rattle.runners.specs.Calls.{RunnerState};
 ghost use Rattle.command_words.specs.Commands.{command_of, value_of};
 ghost use Rattle.command_words.specs.Commands as words;
-ghost use Rattle.swarm_cli.specs.Deeds.{serving};
+ghost use Rattle.swarm_cli.specs.ServerWork.{serving};
 ghost use Rattle.swarm_cli.specs.Handling.{HasRanges, service_of};
 ghost use Rattle.swarm_cli.specs.Run.{CarriesOut, Runs, RunsBy};
 
@@ -52,8 +52,8 @@ where
     requires clean { IsClean (L.state console.old) }
     requires range { HasRanges service.now }
     ensures { (dialer : DialerState) (runner : RunnerState) → RunsBy (service_of service.now) (option_map string_bytes settings.now)
-        (record { files = F.state files.old; store = P.state store.old; outside = record { console = L.state console.old; clock = C.ahead clock.old; listener = N.state listener.old }; dialer = dialer; waited = C.waited clock.old; runner = runner })
-        (record { files = F.state files.new; store = P.state store.new; outside = record { console = L.state console.new; clock = C.ahead clock.new; listener = N.state listener.new }; dialer = dialer; waited = C.waited clock.new; runner = runner }) result }
+        (record { files = F.state files.old; store = P.state store.old; streams = record { console = L.state console.old; clock = C.ahead clock.old; listener = N.state listener.old }; dialer = dialer; waited = C.waited clock.old; runner = runner })
+        (record { files = F.state files.new; store = P.state store.new; streams = record { console = L.state console.new; clock = C.ahead clock.new; listener = N.state listener.new }; dialer = dialer; waited = C.waited clock.new; runner = runner }) result }
 {
     match settings {
         None => match open_settings(alloc) {
@@ -121,8 +121,8 @@ where
     requires clean { IsClean (L.state console.old) }
     requires ranges { words.HasRanges (value_of command) }
     ensures { CarriesOut (value_of command)
-        (record { files = F.state files.old; store = P.state store.old; outside = record { console = L.state console.old; clock = C.ahead clock.old; listener = N.state listener.old }; dialer = W.state dialer.old; waited = C.waited clock.old; runner = R.state runner.old })
-        (record { files = F.state files.new; store = P.state store.new; outside = record { console = L.state console.new; clock = C.ahead clock.new; listener = N.state listener.new }; dialer = W.state dialer.new; waited = C.waited clock.new; runner = R.state runner.new }) result }
+        (record { files = F.state files.old; store = P.state store.old; streams = record { console = L.state console.old; clock = C.ahead clock.old; listener = N.state listener.old }; dialer = W.state dialer.old; waited = C.waited clock.old; runner = R.state runner.old })
+        (record { files = F.state files.new; store = P.state store.new; streams = record { console = L.state console.new; clock = C.ahead clock.new; listener = N.state listener.new }; dialer = W.state dialer.new; waited = C.waited clock.new; runner = R.state runner.new }) result }
 {
     match command {
         Command::Session(session) => run_service(
@@ -203,8 +203,8 @@ where
     <N::Acceptor as Acceptor>::Link: Send,
     requires { IsClean (L.state console.old) }
     ensures { Runs (command_of (map string_bytes words.now))
-        (record { files = F.state files.old; store = P.state store.old; outside = record { console = L.state console.old; clock = C.ahead clock.old; listener = N.state listener.old }; dialer = W.state dialer.old; waited = C.waited clock.old; runner = R.state runner.old })
-        (record { files = F.state files.new; store = P.state store.new; outside = record { console = L.state console.new; clock = C.ahead clock.new; listener = N.state listener.new }; dialer = W.state dialer.new; waited = C.waited clock.new; runner = R.state runner.new }) result }
+        (record { files = F.state files.old; store = P.state store.old; streams = record { console = L.state console.old; clock = C.ahead clock.old; listener = N.state listener.old }; dialer = W.state dialer.old; waited = C.waited clock.old; runner = R.state runner.old })
+        (record { files = F.state files.new; store = P.state store.new; streams = record { console = L.state console.new; clock = C.ahead clock.new; listener = N.state listener.new }; dialer = W.state dialer.new; waited = C.waited clock.new; runner = R.state runner.new }) result }
 {
     match read_words(alloc, words) {
         Ok(Words::Command(command)) => carry_out(

@@ -6,9 +6,9 @@ ghost use Rattle.swarm_model.specs.Settings.{are_settings};
 ghost use Rattle.swarm_http.specs.Answered.{KeepsDoor};
 ghost use Rattle.swarm_history.specs.Machines.{logs_of};
 ghost use Rattle.pool_summaries.specs.Summaries.{summary_of};
-ghost use Rattle.swarm_cli.specs.Outside.{PrintsMade};
-ghost use Rattle.swarm_cli.specs.Deeds.{exit_status, work_status, start_status};
-ghost use Rattle.swarm_cli.specs.Handling.{IsUsed, IsConcluded, deed_of, HasRange};
+ghost use Rattle.swarm_cli.specs.Streams.{PrintsMade};
+ghost use Rattle.swarm_cli.specs.ServerWork.{exit_status, work_status, start_status};
+ghost use Rattle.swarm_cli.specs.Handling.{IsUsed, IsFinished, work_of, HasRange};
 ghost use Rattle.swarm_cli.specs.KeptRecords.{RunsOver, TellsFault};
 ghost use Rattle.swarm_cli.specs.SettingsFile.{RunsNew};
 
@@ -28,7 +28,7 @@ use swarm_workers::WorkStop;
 
 /// What comes of the use of a door.
 #[derive(Clone, Copy, Debug, PartialEq, Eq)]
-enum Used {
+enum DoorResult {
     /// Nothing is printed any more, and this is the status.
     Ended(u8),
     /// A worker stopped, and the summary is to be printed.
@@ -74,7 +74,7 @@ fn use_door<D: Door, L: Link, C: Clock, N: Listener>(
     console: &mut L,
     clock: &mut C,
     listener: &mut N,
-) -> Used
+) -> DoorResult
     requires settings { (D.state door.old).settings ≡ settings.now }
     requires rules { IsTrue (are_settings settings.now) }
     requires clean { IsClean (L.state console.old) }
@@ -89,7 +89,7 @@ fn use_door<D: Door, L: Link, C: Clock, N: Listener>(
     match command {
         DoorCommand::Session => {
             let ended = session(alloc, settings, door, clock, console);
-            Used::Ended(exit_status(ended))
+            DoorResult::Ended(exit_status(ended))
         }
         DoorCommand::Serve {
             address,
@@ -105,8 +105,8 @@ fn use_door<D: Door, L: Link, C: Clock, N: Listener>(
                 clock,
                 listener,
             ) {
-                Ok(stop) => Used::Worked(stop),
-                Err(fault) => Used::Ended(start_status(fault)),
+                Ok(stop) => DoorResult::Worked(stop),
+                Err(fault) => DoorResult::Ended(start_status(fault)),
             }
         }
     }
@@ -130,19 +130,25 @@ pub(crate) fn print_summary<L: Link, M: Machine>(
 }
 
 /// Prints what is still to be printed, and answers the status.
-fn conclude<L: Link, M: Machine>(
+fn finish<L: Link, M: Machine>(
     alloc: Global,
     pools: &[PoolSettings],
     machines: &[M],
     console: &mut L,
-    used: Used,
+    used: DoorResult,
 ) -> u8
     requires count { length machines.now ≡ length pools.now }
-    ensures { IsConcluded used (summary_of pools.now (logs_of (map M.kept machines.now))) (L.state console.old) (L.state console.new) result }
+    ensures { IsFinished used (summary_of pools.now (logs_of (map M.kept machines.now))) (L.state console.old) (L.state console.new) result }
 {
     match used {
-        Used::Ended(status) => status,
-        Used::Worked(stop) => print_summary(alloc, pools, machines, console, work_status(stop)),
+        DoorResult::Ended(status) => status,
+        DoorResult::Worked(stop) => print_summary(
+            alloc,
+            pools,
+            machines,
+            console,
+            work_status(stop),
+        ),
     }
 }
 
@@ -171,10 +177,10 @@ pub(crate) fn run_over<L: Link, C: Clock, N: Listener, K: Keeper + Drop>(
     requires clean { IsClean (L.state console.old) }
     requires range { HasRange command.now }
     requires count { length keepers.items ≡ length settings.now.pools }
-    ensures runs { RunsOver (deed_of command.now) settings.now (map K.tables keepers.items) (map K.tables result.1.items) (sum_by K.faults keepers.items) (sum_by K.faults result.1.items)
+    ensures runs { RunsOver (work_of command.now) settings.now (map K.tables keepers.items) (map K.tables result.1.items) (sum_by K.faults keepers.items) (sum_by K.faults result.1.items)
         (record { console = L.state console.old; clock = C.ahead clock.old; listener = N.state listener.old })
         (record { console = L.state console.new; clock = C.ahead clock.new; listener = N.state listener.new }) result.0 }
-    ensures new { IsTrue K.SURE → RunsNew (deed_of command.now) settings.now
+    ensures new { IsTrue K.SURE → RunsNew (work_of command.now) settings.now
         (record { console = L.state console.old; clock = C.ahead clock.old; listener = N.state listener.old })
         (record { console = L.state console.new; clock = C.ahead clock.new; listener = N.state listener.new }) result.0 }
     ensures count { length result.1.items ≡ length settings.now.pools }
@@ -187,7 +193,7 @@ pub(crate) fn run_over<L: Link, C: Clock, N: Listener, K: Keeper + Drop>(
             );
             let (machines, keepers) = door.end();
             let pools = settings.pools.as_slice();
-            (conclude(alloc, pools, &machines, console, used), keepers)
+            (finish(alloc, pools, &machines, console, used), keepers)
         }
         Err((fault, keepers)) => (tell_fault(console, fault), keepers),
     }
@@ -216,7 +222,7 @@ pub(crate) fn run_new<L: Link, C: Clock, N: Listener>(
     requires rules { IsTrue (are_settings settings.now) }
     requires clean { IsClean (L.state console.old) }
     requires range { HasRange command.now }
-    ensures { RunsNew (deed_of command.now) settings.now
+    ensures { RunsNew (work_of command.now) settings.now
         (record { console = L.state console.old; clock = C.ahead clock.old; listener = N.state listener.old })
         (record { console = L.state console.new; clock = C.ahead clock.new; listener = N.state listener.new }) result }
 {

@@ -10,11 +10,11 @@ use Rattle.swarm_model.specs.History.{MayFollow}
 use Rattle.swarm_model.specs.MachineState.{MachineState, IsHistory, AreHeld}
 use Rattle.swarm_model.specs.Points.{IsSettled}
 use Rattle.swarm_model.specs.Soundness.{IsSound}
-use Rattle.swarm_laws.proofs.BlobLaws.{keeps_held}
-use Rattle.swarm_laws.proofs.Bots.{settings_same}
-use Rattle.swarm_history.specs.Records.{AreTold, KeepsEntry, HoldsNoOthers}
+use Rattle.pool_laws.proofs.BlobLaws.{keeps_held}
+use Rattle.pool_laws.proofs.Bots.{settings_same}
+use Rattle.swarm_history.specs.Records.{AreMachineRecords, KeepsEntry, HoldsNoOthers}
 use Rattle.swarm_history.specs.Settling.{Adds, Settles, with_entry}
-use Rattle.swarm_history.proofs.Keeping.{told_after}
+use Rattle.swarm_history.proofs.KeptMachines.{told_after}
 use Rattle.swarm_history.proofs.Others.{keeps_no_others}
 
 pub adds_from : (old ready new : MachineState) (entry : Entry) (held : HeldBytes)
@@ -52,16 +52,16 @@ adds_held old ready new entry bytes r e sound held whole =
     subst AreHeld (sym (e ∙ ap (λ k. with_entry k entry bytes) r)) (keeps_held old entry bytes sound held whole)
 
 -- records say nothing of what is ready
-pub told_ready : (told : Option Tables) (old ready : MachineState) (next : Option Entry) → ready ≡ record old { ready = next } → AreTold told old → AreTold told ready
+pub told_ready : (told : Option Tables) (old ready : MachineState) (next : Option Entry) → ready ≡ record old { ready = next } → AreMachineRecords told old → AreMachineRecords told ready
 told_ready None old ready next r are = tt
 told_ready (Some t) old ready next r are = rw r (record { lines = are.lines; blobs = are.blobs })
 
 -- The records once the line of an entry that was made ready is kept, and the entry is added.
 module _ (old ready new : MachineState) (entry : Entry) (bytes : Option (List ℕ)) (told now : Option Tables)
     (r : ready ≡ record old { ready = Some entry }) (e : new ≡ with_entry ready entry bytes) (keeps : KeepsEntry ready entry bytes told now) where
-  pub adds_records : (IsTrue (is_some (new_digest old.pool entry.kind)) → IsTrue (is_some bytes)) → AreTold told old → AreTold now new
+  pub adds_records : (IsTrue (is_some (new_digest old.pool entry.kind)) → IsTrue (is_some bytes)) → AreMachineRecords told old → AreMachineRecords now new
   adds_records whole are =
-      subst (AreTold now) (sym e)
+      subst (AreMachineRecords now) (sym e)
       (told_after ready told now entry bytes keeps (λ places. whole (subst (λ (k : MachineState). IsTrue (is_some (new_digest k.pool entry.kind))) r places)) (told_ready told old ready (Some entry) r are))
 
   history_ready : IsHistory old → IsHistory ready

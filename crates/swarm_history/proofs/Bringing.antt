@@ -10,7 +10,7 @@ use Rattle.swarm_model.specs.declared.entry.EntryKind.{EntryKind}
 use Rattle.swarm_model.specs.declared.request.Request.{Request}
 use Rattle.swarm_model.specs.Answers.{answer, decide, entry_at}
 use Rattle.swarm_model.specs.Bytes.{Carries, brings, new_digest}
-use Rattle.swarm_laws.proofs.Carrying.{brings_carried}
+use Rattle.pool_laws.proofs.Carrying.{brings_carried}
 
 -- a value that is there is there after a change
 pub still_some : {A B : Type 0} (f : A → B) (o : Option A) → IsTrue (is_some o) → IsTrue (is_some (option_map f o))

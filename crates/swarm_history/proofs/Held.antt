@@ -11,9 +11,9 @@ use Rattle.swarm_model.specs.declared.pool_state.PoolState.{PoolState}
 use Rattle.swarm_model.specs.declared.reply.Part.{Part}
 use Rattle.swarm_model.specs.Finding.{blob_of, has_blob}
 use Rattle.swarm_model.specs.MachineState.{MachineState, AreHeld}
-use Rattle.swarm_laws.proofs.Alike.{same_is}
-use Rattle.swarm_laws.proofs.Lists.{each, find_is}
-use Rattle.swarm_door.specs.Doors.{IsPieceOf}
+use Rattle.pool_laws.proofs.Alike.{same_is}
+use Rattle.pool_laws.proofs.Lists.{each, find_is}
+use Rattle.pool_doors.specs.Doors.{IsPieceOf}
 use Rattle.swarm_history.specs.Pieces.{HasPart}
 
 held_row : (kept : MachineState) → AreHeld kept → (digest : List ℕ) (size : ℕ) (o : Option BlobRow) → blob_of kept.pool digest ≡ o

@@ -8,12 +8,12 @@ use Rattle.sw_base.specs.Faults.{Rose}
 use Rattle.swarm_keeper.specs.Tables.{Tables}
 use Rattle.swarm_model.specs.MachineState.{MachineState}
 use Rattle.pool_loading.specs.Records.{AreLinesOf, AreRecords}
-use Rattle.swarm_door.specs.declared.door.Answered.{Answered}
-use Rattle.swarm_door.specs.declared.door.CallFault.{CallFault}
-use Rattle.swarm_door.specs.declared.door.CallFault.TheVariants as fault
-use Rattle.swarm_door.specs.Doors.{CountsKeeper}
+use Rattle.pool_doors.specs.declared.door.Answered.{Answered}
+use Rattle.pool_doors.specs.declared.door.CallFault.{CallFault}
+use Rattle.pool_doors.specs.declared.door.CallFault.TheVariants as fault
+use Rattle.pool_doors.specs.Doors.{CountsKeeper}
 use Rattle.swarm_history.specs.Machines.{logs_of}
-use Rattle.swarm_history.specs.Records.{AreKept, AreRecordsOf, AreTold}
+use Rattle.swarm_history.specs.Records.{AreKept, AreRecordsOf, AreMachineRecords}
 
 -- ---- records
 
@@ -38,14 +38,14 @@ no_machines tables = λ p. by_place (slice_get tables p)
     by_place (Some told) = by_told told
 
 first_with : (told : Option Tables) (tables : List (Option Tables)) (kept : MachineState) (machines : List MachineState)
-    → AreTold told kept → AreRecordsOf tables machines → AreRecordsOf (told ∷ tables) (kept ∷ machines)
+    → AreMachineRecords told kept → AreRecordsOf tables machines → AreRecordsOf (told ∷ tables) (kept ∷ machines)
 first_with told tables kept machines first rest zero = first
 first_with told tables kept machines first rest (suc p) = rest p
 
 -- the records at a place are those of the machine there
 told_at : (tables : List (Option Tables)) (machines : List MachineState) (place : ℕ) (told : Option Tables) (kept : MachineState)
     → place < length tables → place < length machines → told ≡ get_or tables place told → kept ≡ get_or machines place kept
-    → AreRecordsOf tables machines → AreTold told kept
+    → AreRecordsOf tables machines → AreMachineRecords told kept
 told_at [] machines place told kept low inside is at are = absurd (omega arith)
 told_at (t ∷ tables) [] place told kept low inside is at are = absurd (omega arith)
 told_at (t ∷ tables) (m ∷ machines) zero told kept low inside is at are = rw (is, at) (are 0)
@@ -54,7 +54,7 @@ told_at (t ∷ tables) (m ∷ machines) (suc place) told kept low inside is at a
 
 -- and where those at one place are changed with it, they are the records of each still
 told_set : (tables : List (Option Tables)) (machines : List MachineState) (place : ℕ) (told : Option Tables) (kept : MachineState)
-    → AreTold told kept → AreRecordsOf tables machines → AreRecordsOf (set tables place told) (set machines place kept)
+    → AreMachineRecords told kept → AreRecordsOf tables machines → AreRecordsOf (set tables place told) (set machines place kept)
 told_set [] machines place told kept new are = λ p. tt
 told_set (t ∷ tables) [] place told kept new are = no_machines (set (t ∷ tables) place told)
 told_set (t ∷ tables) (m ∷ machines) zero told kept new are = first_with told tables kept machines new (later t tables m machines are)
@@ -68,7 +68,7 @@ lines_kept [] machines few are = λ p. tt
 lines_kept (t ∷ tables) [] few are = absurd (omega arith)
 lines_kept (told ∷ tables) (m ∷ machines) few are = by_place (lines_kept tables machines (omega arith) (later told tables m machines are))
   where
-    by_told : (o : Option Tables) → AreTold o m → IfSome o (λ t. AreLinesOf t.lines m.log)
+    by_told : (o : Option Tables) → AreMachineRecords o m → IfSome o (λ t. AreLinesOf t.lines m.log)
     by_told None first = tt
     by_told (Some t) first = first.lines
 
@@ -121,14 +121,14 @@ tables_stay tables (k ∷ keepers) (suc place) old new is same = ap (λ (rest : 
 module _ {M K : Type 0} (kept : M → MachineState) (tables : K → Option Tables) (machines : List M) (keepers : List K) (place : ℕ) where
   -- the keeper at a place has the records of the machine there
   pub records_at : (machine : M) (keeper : K) → place < length machines → place < length keepers → machine ≡ get_or machines place machine → keeper ≡ get_or keepers place keeper
-      → AreRecordsOf (map tables keepers) (map kept machines) → AreTold (tables keeper) (kept machine)
+      → AreRecordsOf (map tables keepers) (map kept machines) → AreMachineRecords (tables keeper) (kept machine)
   records_at machine keeper low inside is at are =
       told_at (map tables keepers) (map kept machines) place (tables keeper) (kept machine)
       (omega (arith, inside, length-map keepers tables)) (omega (arith, low, length-map machines kept))
       (ap tables at ∙ sym (get_or-map tables keepers place keeper (tables keeper) inside))
       (ap kept is ∙ sym (get_or-map kept machines place machine (kept machine) low)) are
 
-  pub records_set : (machine : M) (keeper : K) → AreTold (tables keeper) (kept machine) → AreRecordsOf (map tables keepers) (map kept machines)
+  pub records_set : (machine : M) (keeper : K) → AreMachineRecords (tables keeper) (kept machine) → AreRecordsOf (map tables keepers) (map kept machines)
       → AreRecordsOf (map tables (set keepers place keeper)) (map kept (set machines place machine))
   records_set machine keeper new are =
       rw (map-set tables keepers place keeper, map-set kept machines place machine)

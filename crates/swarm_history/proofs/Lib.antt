@@ -2,7 +2,7 @@ mod Additions
 mod Bringing
 mod Held
 mod Keepers
-mod Keeping
+mod KeptMachines
 mod LoadedMachines
 mod Named
 mod Others

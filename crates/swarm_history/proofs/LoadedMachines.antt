@@ -11,9 +11,9 @@ use Rattle.swarm_model.specs.MachineState.{MachineState, AreHeld}
 use Rattle.pool_loading.specs.declared.loading.LoadStop.{LoadStop}
 use Rattle.pool_loading.specs.declared.loading.LoadStop.TheVariants as stop
 use Rattle.pool_loading.specs.Records.{IsLoaded, AreRefusedAt}
-use Rattle.swarm_door.specs.Doors.{IsFreshDoor}
+use Rattle.pool_doors.specs.Doors.{IsFreshDoor}
 use Rattle.swarm_history.specs.Machines.{pools_of, logs_of, own_door}
-use Rattle.swarm_history.specs.Records.{AreRecordsOf, AreLoaded, AreLoadable, IsBadStore, TellsBadStore, fault_of}
+use Rattle.swarm_history.specs.Records.{AreRecordsOf, AreLoaded, AreLoadable, IsBadStore, IsFirstBadRecord, fault_of}
 use Rattle.swarm_history.proofs.Keepers.{no_machines}
 
 -- the next machine is made too
@@ -59,7 +59,7 @@ stopped why = Err why
 pub tells_bad : {T : Type 0} (settings : Settings) (tables now : List (Option Tables)) (machines : List MachineState) (place : ℕ) (pool : PoolSettings) (why : LoadStop)
     → now ≡ tables → place ≡ length machines → place < length settings.pools → place < length tables → pool ≡ get_or settings.pools place pool
     → ((at : ℕ) → stopped {T = T} why ≡ Err (stop.Refused at) → IfSome (get_or now place None) (λ t. AreRefusedAt pool t at)) → AreLoaded settings.pools tables machines
-    → TellsBadStore settings tables (fault_of place why)
+    → IsFirstBadRecord settings tables (fault_of place why)
 tells_bad settings tables now machines place pool stop.Memory same counted low inside is refused are = tt
 tells_bad settings tables now machines place pool stop.Failed same counted low inside is refused are = tt
 tells_bad settings tables now machines place pool (stop.Refused at) same counted low inside is refused are =

@@ -10,9 +10,9 @@ use Rattle.swarm_model.specs.declared.pool_settings.PoolSettings.{PoolSettings}
 use Rattle.swarm_model.specs.declared.entry.Entry.{Entry}
 use Rattle.swarm_model.specs.MachineState.{MachineState, AreHeld}
 use Rattle.swarm_model.specs.Points.{Call, Growth}
-use Rattle.swarm_door.specs.declared.door.Answered.{Answered}
-use Rattle.swarm_door.specs.declared.door.CallFault.{CallFault}
-use Rattle.swarm_door.specs.Doors.{IsPoolCall, IsCall, CountsKeeper, Elsewhere, HasNoOthersAt}
+use Rattle.pool_doors.specs.declared.door.Answered.{Answered}
+use Rattle.pool_doors.specs.declared.door.CallFault.{CallFault}
+use Rattle.pool_doors.specs.Doors.{IsPoolCall, IsCall, CountsKeeper, Elsewhere, HasNoOthersAt}
 use Rattle.swarm_history.specs.Machines.{pools_of, logs_of, own_door}
 use Rattle.swarm_history.specs.Records.{HoldsNoOthers}
 

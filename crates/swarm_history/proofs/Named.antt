@@ -36,10 +36,10 @@ use Rattle.swarm_model.specs.Reuse.{sent, reuse}
 use Rattle.swarm_model.specs.Blobs.{lacks_chunk, missing_file, inputs_of, can_take}
 use Rattle.swarm_model.specs.Effects.{fresh_chunk}
 use Rattle.swarm_model.specs.Output.{chunks_within, parts_within, part_of}
-use Rattle.swarm_model.specs.Answers.{decide, reply_with_entry, resubmitted, reuse_outcome, accepted, accepted_at, tasks_full, named_task, result_of, show_bot, may, denied, cancel, cancel_row, stop, known_bot, handshake, poll, busy, run_on, run_from, claim, claim_again, claimed, claims, unfit_of, unfit_refusal, event, is_kept, updates, refusal, file_missing, output_gone, chunks_shown, stdout_of, chunk_rule, store_full, unplaced_chunk, is_news, put_blob, show_blob, report, report_again, report_running, report_on, not_claimant, update, update_row, terminate}
-use Rattle.swarm_laws.proofs.Alike.{same_is}
-use Rattle.swarm_laws.proofs.Answering.{by_when, by_map, by_with}
-use Rattle.swarm_laws.proofs.Lists.{all, find_is, find_none}
+use Rattle.swarm_model.specs.Answers.{decide, reply_with_entry, resubmitted, reuse_outcome, accepted, accepted_at, tasks_full, named_task, result_of, show_bot, may, denied, cancel, cancel_row, stop, known_bot, handshake, poll, busy, run_on, run_from, claim, claim_again, claimed, claims, unfit_of, unfit_refusal, event, is_kept, updates, refusal, file_missing, output_gone, chunks_shown, stdout_of, chunk_rule, store_full, unplaced_chunk, is_first_report, put_blob, show_blob, report, report_again, report_running, report_on, not_claimant, update, update_row, terminate}
+use Rattle.pool_laws.proofs.Alike.{same_is}
+use Rattle.pool_laws.proofs.Answering.{by_when, by_map, by_with}
+use Rattle.pool_laws.proofs.Lists.{all, find_is, find_none}
 use Rattle.swarm_history.specs.Pieces.{HasPart, HasNamed}
 
 module _ (s : PoolState) where
@@ -125,7 +125,7 @@ module _ (s : PoolState) where
       by_map Named refusal (option_and_then (chunk_rule attempt) chunk) _ (λ why e. tt) (λ in_turn.
       by_map Named file_missing (missing_file s (files_of last)) _ (λ file e. tt) (λ has_files.
       by_map Named (λ (c : Chunk). store_full s c.size) (unplaced_chunk s (fresh_chunk (Some attempt) chunk)) _ (λ c e. tt) (λ has_place.
-      by_when Named (is_news attempt chunk last) (updates attempt (kind.Update bot.no task.no attempt.try_no chunk last)) (updates attempt (kind.Contact bot.no)) (λ l. tt) (λ l. tt))))))
+      by_when Named (is_first_report attempt chunk last) (updates attempt (kind.Update bot.no task.no attempt.try_no chunk last)) (updates attempt (kind.Contact bot.no)) (λ l. tt) (λ l. tt))))))
 
   put_named : (named actual : List ℕ) (size : ℕ) → Named (put_blob s named actual size)
   put_named named actual size =

@@ -10,11 +10,11 @@ use Rattle.dimensions.specs.Choosing.{when}
 use Rattle.blob_rows.specs.declared.blob_row.BlobRow.{BlobRow}
 use Rattle.blob_rows.specs.BlobRows.{has_digest, is_blob, is_other as is_other_row, renewed, new_blob, place_for}
 use Rattle.swarm_keeper.specs.Tables.{Tables, is_other, without, with_blob, appended}
-use Rattle.swarm_laws.proofs.Alike.{same_is, is_same, same_self}
-use Rattle.swarm_laws.proofs.BlobChanges.{after_place, after_put, has_place, update_takes}
-use Rattle.swarm_laws.proofs.EntryPreconditions.{finds}
-use Rattle.swarm_laws.proofs.Lists.{Among, here, Found, each, all, among_left, among_right, among_map, find_is, find_none, filter_is, filter_has, found_once}
-use Rattle.swarm_laws.proofs.Preconditions.{Finds}
+use Rattle.pool_laws.proofs.Alike.{same_is, is_same, same_self}
+use Rattle.pool_laws.proofs.BlobChanges.{after_place, after_put, has_place, update_takes}
+use Rattle.pool_laws.proofs.EntryPreconditions.{finds}
+use Rattle.pool_laws.proofs.Lists.{Among, here, Found, each, all, among_left, among_right, among_map, find_is, find_none, filter_is, filter_has, found_once}
+use Rattle.pool_laws.proofs.Preconditions.{Finds}
 use Rattle.swarm_model.specs.declared.attempt.Chunk.{Chunk}
 use Rattle.swarm_model.specs.declared.entry.Entry.{Entry}
 use Rattle.swarm_model.specs.declared.entry.EntryKind.{EntryKind}

@@ -16,13 +16,13 @@ use Rattle.swarm_model.specs.History.{replay, IsLegal, moment_of}
 use Rattle.swarm_model.specs.Points.{is_ahead, Call, Growth, answer_to, LacksRoom, next_entry}
 use Rattle.swarm_model.specs.MachineState.{MachineState, IsHistory}
 use Rattle.swarm_model.specs.Soundness.{IsSound}
-use Rattle.swarm_laws.proofs.Sound.{sound_always}
+use Rattle.pool_laws.proofs.Sound.{sound_always}
 use Rattle.swarm_model.specs.declared.pool_settings.PoolSettings.{PoolSettings}
-use Rattle.swarm_door.specs.declared.door.Answered.{Answered}
-use Rattle.swarm_door.specs.declared.door.CallFault.{CallFault}
-use Rattle.swarm_door.specs.Doors.{ArePieces, is_log_full, IsPoolCall}
+use Rattle.pool_doors.specs.declared.door.Answered.{Answered}
+use Rattle.pool_doors.specs.declared.door.CallFault.{CallFault}
+use Rattle.pool_doors.specs.Doors.{ArePieces, is_log_full, IsPoolCall}
 use Rattle.swarm_history.proofs.Refusals.{refused_adds_nothing}
-use Rattle.swarm_history.specs.Settling.{Settles, Responds, Shows, IsOwnPoint, IsOwnStop}
+use Rattle.swarm_history.specs.Settling.{Settles, Responds, HasFrontAndPieces, IsPointAlone, IsOwnStop}
 
 -- what a machine keeps is sound
 pub sound_history : (kept : MachineState) → IsHistory kept → IsSound kept.pool
@@ -30,7 +30,7 @@ sound_history kept h = subst IsSound (sym h.replayed) (sound_always kept.pool.se
 
 -- a call of one who has seen more than there is
 pub early_point : (start : PoolState) (call : Call) (log : List Entry) →
-    IsLegal start log → is_ahead (length log) call.after ≡ true → IsOwnPoint start call log log (reply.No (rule.FrontAhead (length log)))
+    IsLegal start log → is_ahead (length log) call.after ≡ true → IsPointAlone start call log log (reply.No (rule.FrontAhead (length log)))
 early_point start call log legal is =
     record {
       growth = record { others = []; settled = []; own = None };
@@ -72,7 +72,7 @@ module _ (call : Call) (at : ℕ) (old mid : MachineState) (history : IsHistory 
   rows_settled = rows ∙ ap (replay start) s.log ∙ fold-append after start old.log s.settled
 
   pub settled_point : (new : MachineState) → due_entry mid.pool at call.pass ≡ None → (answered : Reply) → Responds call.pass call.caller at call.request mid new answered →
-      IsOwnPoint start call old.log new.log answered
+      IsPointAlone start call old.log new.log answered
   settled_point new none answered a =
       record {
         growth = record { others = []; settled = s.settled; own = (answer_to mid.pool taken).entry };
@@ -114,7 +114,7 @@ module _ (call : Call) (at : ℕ) (old mid : MachineState) (history : IsHistory 
 
 -- a request was answered with no other's entries before it, which serves a door that writes alone and any other
 pub answered_call : {pool : PoolSettings} {alone : Bool} {call : Call} {old new : List Entry} {answered : Answered}
-    → (p : IsOwnPoint (opening pool) call old new answered.reply) → answered.front ≡ length new → ArePieces answered.reply answered.pieces
+    → (p : IsPointAlone (opening pool) call old new answered.reply) → answered.front ≡ length new → ArePieces answered.reply answered.pieces
     → IsPoolCall pool alone call old new p.growth (Ok answered)
 answered_call p front pieces = record {
   ends = record { point = p.point; refused = λ r. refused_adds_nothing p.point r; front = front; pieces = pieces };
@@ -127,7 +127,7 @@ stopped_call p = record { ends = p.stop; no_others = λ _. p.no_others }
 
 -- a call that was served, or that stopped
 pub served_call : {pool : PoolSettings} {call : Call} {old : List Entry} (new : MachineState) (result : Result Answered CallFault)
-    → IfOk result (λ answered. IsOwnPoint (opening pool) call old new.log answered.reply) → IfOk result (Shows new)
+    → IfOk result (λ answered. IsPointAlone (opening pool) call old new.log answered.reply) → IfOk result (HasFrontAndPieces new)
     → IfErr result (λ fault. IsOwnStop (opening pool) call old new.log (is_log_full fault))
     → (growth : Growth) × IsPoolCall pool true call old new.log growth result
 served_call new (Ok answered) point shows stop = (point.growth, answered_call point shows.front shows.pieces)

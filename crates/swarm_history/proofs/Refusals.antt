@@ -8,8 +8,8 @@ use Rattle.swarm_model.specs.declared.entry.Entry.{Entry}
 use Rattle.swarm_model.specs.Answers.{entry_at}
 use Rattle.swarm_model.specs.Points.{is_ahead, Call, Growth, IsPoint}
 use Rattle.swarm_model.specs.History.{replay, moment_of}
-use Rattle.swarm_laws.proofs.Refusals.{quiet}
-use Rattle.swarm_door.specs.Doors.{IsRefusal}
+use Rattle.pool_laws.proofs.Refusals.{quiet}
+use Rattle.pool_doors.specs.Doors.{IsRefusal}
 
 split : {A B C : Type 0} (b : Bool) → MatchBool b A B → (A → C) → (B → C) → C
 split true m f g = f m

@@ -3,7 +3,7 @@ use Rattle.std.specs.Prelude.{ℕ, true, List, [], map, Option, slice_index_or}
 use Rattle.swarm_keeper.specs.Tables.{Tables}
 use Rattle.swarm_model.specs.declared.pool_settings.PoolSettings.{PoolSettings}
 use Rattle.swarm_model.specs.MachineState.{MachineState}
-use Rattle.swarm_door.specs.Doors.{Logs, DoorState}
+use Rattle.pool_doors.specs.Doors.{Logs, DoorState}
 
 -- the settings of each machine's pool
 abbrev pub pools_of : List MachineState → List PoolSettings

@@ -6,7 +6,7 @@ use Rattle.swarm_model.specs.declared.pool_settings.Settings.{Settings}
 use Rattle.swarm_model.specs.declared.pool_settings.PoolSettings.{PoolSettings}
 use Rattle.swarm_model.specs.Bytes.{new_digest, removed_digest}
 use Rattle.swarm_model.specs.MachineState.{MachineState}
-use Rattle.swarm_door.specs.Doors.{Logs, HasNoOthers}
+use Rattle.pool_doors.specs.Doors.{Logs, HasNoOthers}
 use Rattle.entry_lines.specs.Lines.{entry_of_line}
 use Rattle.pool_loading.specs.Records.{AreLinesOf, AreRecords, IsLoaded, AreRefusedAt}
 use Rattle.pool_loading.specs.declared.loading.LoadStop.{LoadStop}
@@ -23,8 +23,8 @@ abbrev pub AreRecordsOf : List (Option Tables) → List MachineState → Type 0
 AreRecordsOf tables machines = (p : ℕ) → IfSome (slice_get tables p) (λ told. IfSome told (λ t. IfSome (slice_get machines p) (λ kept. AreRecords kept t)))
 
 -- where they are told, the records are those of the machine
-abbrev pub AreTold : Option Tables → MachineState → Type 0
-AreTold told kept = IfSome told (AreRecords kept)
+abbrev pub AreMachineRecords : Option Tables → MachineState → Type 0
+AreMachineRecords told kept = IfSome told (AreRecords kept)
 
 -- each machine was made of the records at its place, under the settings there
 abbrev pub AreLoaded : List PoolSettings → List (Option Tables) → List MachineState → Type 0
@@ -49,9 +49,9 @@ pub record IsBadStore (settings : Settings) (tables : List (Option Tables)) (pla
   pub before : (p : ℕ) → p < place → IsSomeAnd (slice_get settings.pools p) (λ pool. IsSomeAnd (slice_get tables p) (AreLoadable pool))
 
 -- refused records are told by the first place where they are
-abbrev pub TellsBadStore : Settings → List (Option Tables) → LoadFault → Type 0
-TellsBadStore settings tables (load.BadStore place at) = IsBadStore settings tables place at
-TellsBadStore settings tables fault = ⊤
+abbrev pub IsFirstBadRecord : Settings → List (Option Tables) → LoadFault → Type 0
+IsFirstBadRecord settings tables (load.BadStore place at) = IsBadStore settings tables place at
+IsFirstBadRecord settings tables fault = ⊤
 
 -- the records have no other blobs than those that the machine's log leaves
 abbrev pub HoldsNoOthers : Option Tables → MachineState → Type 0

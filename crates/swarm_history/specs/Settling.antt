@@ -11,8 +11,8 @@ use Rattle.swarm_model.specs.Bytes.{held_after}
 use Rattle.swarm_model.specs.Effects.{after}
 use Rattle.swarm_model.specs.MachineState.{MachineState, IsHistory}
 use Rattle.swarm_model.specs.Points.{Call, Growth, IsSettled, IsPoint, IsStopped}
-use Rattle.swarm_door.specs.declared.door.Answered.{Answered}
-use Rattle.swarm_door.specs.Doors.{ArePieces}
+use Rattle.pool_doors.specs.declared.door.Answered.{Answered}
+use Rattle.pool_doors.specs.Doors.{ArePieces}
 
 -- the machine with an entry more, and the bytes that came with it
 abbrev pub with_entry : MachineState → Entry → Option (List ℕ) → MachineState
@@ -20,7 +20,7 @@ with_entry kept entry bytes =
     record kept { pool = after kept.pool entry; log = kept.log ++ entry ∷ []; ready = None; held = held_after kept.pool entry.kind bytes kept.held }
 
 -- nothing is added
-pub record Stays (old new : MachineState) : Type 0 where
+pub record IsUnchanged (old new : MachineState) : Type 0 where
   pub pool : new.pool ≡ old.pool
   pub log : new.log ≡ old.log
   pub held : new.held ≡ old.held
@@ -49,12 +49,12 @@ pub record Responds (pass : ℕ) (who : List ℕ) (moment : ℕ) (request : Requ
   pub history : IsHistory new
 
 -- an answer tells the length of the log, and has the bytes of the blobs that its reply names
-pub record Shows (kept : MachineState) (answered : Answered) : Type 0 where
+pub record HasFrontAndPieces (kept : MachineState) (answered : Answered) : Type 0 where
   pub front : answered.front ≡ length kept.log
   pub pieces : ArePieces answered.reply answered.pieces
 
 -- a point before which no other wrote
-pub record IsOwnPoint (start : PoolState) (call : Call) (old new : List Entry) (answered : Reply) : Type 0 where
+pub record IsPointAlone (start : PoolState) (call : Call) (old new : List Entry) (answered : Reply) : Type 0 where
   pub growth : Growth
   pub point : IsPoint start call old new growth answered
   pub no_others : growth.others ≡ []

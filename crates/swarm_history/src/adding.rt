@@ -7,14 +7,14 @@ ghost use Rattle.swarm_model.specs.Effects.{fresh_chunk, attempt_of};
 ghost use Rattle.swarm_model.specs.Finding.{blob_of};
 ghost use Rattle.swarm_model.specs.History.{MayFollow, has_room};
 ghost use Rattle.swarm_model.specs.MachineState.{IsHistory, AreHeld};
-ghost use Rattle.swarm_door.specs.Doors.{is_log_full};
-ghost use Rattle.swarm_history.specs.Records.{AreTold, KeepsEntry, HoldsNoOthers};
-ghost use Rattle.swarm_history.specs.Settling.{Stays, Adds};
+ghost use Rattle.pool_doors.specs.Doors.{is_log_full};
+ghost use Rattle.swarm_history.specs.Records.{AreMachineRecords, KeepsEntry, HoldsNoOthers};
+ghost use Rattle.swarm_history.specs.Settling.{IsUnchanged, Adds};
 
 use dimensions::Text;
 use entry_lines::line_of;
+use pool_doors::CallFault;
 use std::alloc::Global;
-use swarm_door::CallFault;
 use swarm_keeper::{Keeper, KeeperFault};
 use swarm_model::{Chunk, Entry, EntryKind, Machine, ReserveFault, task_uncounted};
 use task_props::Digest;
@@ -33,7 +33,7 @@ fn is_fresh<M: Machine>(machine: &M, task: u32, chunk: &Chunk) -> bool
 }
 
 /// The digest, where the pool has no blob of it.
-fn absent<M: Machine>(machine: &M, digest: &Digest) -> Option<Digest>
+fn unless_held<M: Machine>(machine: &M, digest: &Digest) -> Option<Digest>
     requires held { AreHeld (M.kept machine.now) }
     ensures { result ≡ when (is_none (blob_of (M.kept machine.now).pool digest.now)) digest.now }
 {
@@ -49,14 +49,14 @@ fn added_digest<M: Machine>(machine: &M, kind: &EntryKind) -> Option<Digest>
     ensures { result ≡ new_digest (M.kept machine.now).pool kind.now }
 {
     match kind {
-        EntryKind::Put { digest, .. } => absent(machine, digest),
+        EntryKind::Put { digest, .. } => unless_held(machine, digest),
         EntryKind::Update {
             t,
             chunk: Some(chunk),
             ..
         } => {
             if is_fresh(machine, *t, chunk) {
-                absent(machine, &chunk.digest)
+                unless_held(machine, &chunk.digest)
             } else {
                 None
             }
@@ -124,14 +124,14 @@ pub fn add_entry<M: Machine, K: Keeper>(
     requires follows { MayFollow (M.kept machine.old).pool entry }
     requires history { IsHistory (M.kept machine.old) }
     requires held { AreHeld (M.kept machine.old) }
-    requires records { AreTold (K.tables keeper.old) (M.kept machine.old) }
+    requires records { AreMachineRecords (K.tables keeper.old) (M.kept machine.old) }
     requires brings { IfSome bytes (λ b. brings entry.kind ≡ Some (sha256 b.now, length b.now)) }
     requires whole { IsTrue (is_some (new_digest (M.kept machine.old).pool entry.kind)) → IsTrue (is_some bytes) }
     ensures held { AreHeld (M.kept machine.new) }
-    ensures records { AreTold (K.tables keeper.new) (M.kept machine.new) }
+    ensures records { AreMachineRecords (K.tables keeper.new) (M.kept machine.new) }
     ensures no_other_blobs { HoldsNoOthers (K.tables keeper.old) (M.kept machine.old) → HoldsNoOthers (K.tables keeper.new) (M.kept machine.new) }
     ensures added { OnOk result (Adds (M.kept machine.old) (M.kept machine.new) entry) }
-    ensures stays { OnErr result (Stays (M.kept machine.old) (M.kept machine.new)) }
+    ensures stays { OnErr result (IsUnchanged (M.kept machine.old) (M.kept machine.new)) }
     ensures full { IsErrOf result CallFault.LogFull ↔ (has_room (M.kept machine.old).pool.settings (M.kept machine.old).log entry ≡ false) }
     ensures grows { K.faults keeper.old ≤ K.faults keeper.new }
     ensures failed { IsErrOf result CallFault.Keeper → Rose (K.faults keeper.old) (K.faults keeper.new) }

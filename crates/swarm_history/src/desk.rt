@@ -8,14 +8,14 @@ ghost use Rattle.swarm_model.specs.Deadlines.{due_entry};
 ghost use Rattle.swarm_model.specs.Fits.{fits};
 ghost use Rattle.swarm_model.specs.History.{MayFollow, has_room};
 ghost use Rattle.swarm_model.specs.MachineState.{MachineState, IsHistory};
-ghost use Rattle.swarm_door.specs.Doors.{ArePieces};
+ghost use Rattle.pool_doors.specs.Doors.{ArePieces};
 ghost use Rattle.swarm_history.specs.Pieces.{HasNamed};
 ghost use Rattle.swarm_history.specs.Records.{HoldsNoOthers};
-ghost use Rattle.swarm_history.specs.Settling.{Stays, Adds};
+ghost use Rattle.swarm_history.specs.Settling.{IsUnchanged, Adds};
 
 use dimensions::{Seq, Text};
+use pool_doors::CallFault;
 use std::alloc::{AllocError, Global};
-use swarm_door::CallFault;
 use swarm_model::{Answer, Entry, Reply, Request};
 
 /// A machine with its keeper, which is read, and to which entries of one number are added.
@@ -87,7 +87,7 @@ pub trait Desk {
         ensures ready { ready self.new }
         ensures no_other_blobs { HoldsNoOthers (records self.old) (kept self.old) → HoldsNoOthers (records self.new) (kept self.new) }
         ensures added { OnOk result (Adds (kept self.old) (kept self.new) entry) }
-        ensures stays { OnErr result (Stays (kept self.old) (kept self.new)) }
+        ensures stays { OnErr result (IsUnchanged (kept self.old) (kept self.new)) }
         ensures full { IsErrOf result CallFault.LogFull ↔ (has_room (kept self.old).pool.settings (kept self.old).log entry ≡ false) }
         ensures grows { faults self.old ≤ faults self.new }
         ensures failed { IsErrOf result CallFault.Keeper → Rose (faults self.old) (faults self.new) }

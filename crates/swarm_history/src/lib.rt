@@ -14,7 +14,7 @@
 //! The door holds the bytes of each blob of its pools: those of a request are handed on with the
 //! entry that brings them, and those of the blobs that a reply names are copied before the answer's
 //! entry is added. The crate is generic over [`Machine`](swarm_model::Machine) and
-//! [`Keeper`](swarm_keeper::Keeper), and stands on `swarm_door`, `pool_loading` and `entry_lines`.
+//! [`Keeper`](swarm_keeper::Keeper), and stands on `pool_doors`, `pool_loading` and `entry_lines`.
 #![tactic(auto)]
 
 mod adding;

@@ -3,7 +3,7 @@ ghost use Rattle.std.specs.List.{All, sum_by};
 ghost use Rattle.sw_base.specs.Faults.{Rose};
 ghost use Rattle.swarm_model.specs.Settings.{keeps_rules, are_settings};
 ghost use Rattle.pool_loading.specs.Records.{IsLoaded, AreRefusedAt};
-ghost use Rattle.swarm_history.specs.Records.{AreLoaded, TellsBadStore, fault_of as spec_fault_of};
+ghost use Rattle.swarm_history.specs.Records.{AreLoaded, IsFirstBadRecord, fault_of as spec_fault_of};
 
 use crate::LoadFault;
 use pool_loading::{LoadStop, load_pool};
@@ -54,7 +54,7 @@ pub(crate) fn load_machines<M: Machine + Drop, K: Keeper>(
     ensures count { IfOk result (λ machines. length machines.items ≡ length settings.now.pools) }
     ensures loaded { IfOk result (λ machines. AreLoaded settings.now.pools (map K.tables keepers.old.items) (map M.kept machines.items)) }
     ensures nothing { IsTrue K.SURE → IfOk result (λ machines. All (λ kept. kept.log ≡ []) (map M.kept machines.items)) }
-    ensures bad { IfErr result (TellsBadStore settings.now (map K.tables keepers.old.items)) }
+    ensures bad { IfErr result (IsFirstBadRecord settings.now (map K.tables keepers.old.items)) }
     ensures sure { IsTrue K.SURE → IfErr result (λ fault. fault ≡ LoadFault.Memory) }
     ensures failed { IsErrOf result LoadFault.Failed → Rose (sum_by K.faults keepers.old.items) (sum_by K.faults keepers.new.items) }
     ensures stays { map K.tables keepers.new.items ≡ map K.tables keepers.old.items }

@@ -3,7 +3,7 @@ ghost use Rattle.std.specs.List.{All, AllZip};
 ghost use Rattle.sha2.specs.Sha256.{sha256};
 ghost use Rattle.swarm_model.specs.Finding.{has_blob};
 ghost use Rattle.swarm_model.specs.MachineState.{AreHeld};
-ghost use Rattle.swarm_door.specs.Doors.{ArePieces, IsPieceOf};
+ghost use Rattle.pool_doors.specs.Doors.{ArePieces, IsPieceOf};
 ghost use Rattle.swarm_history.specs.Pieces.{HasPart, HasNamed};
 
 use dimensions::Seq;

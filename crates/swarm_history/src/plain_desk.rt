@@ -2,8 +2,8 @@ use crate::adding::add_entry;
 use crate::desk::Desk;
 use crate::pieces::pieces_of;
 use dimensions::{Seq, Text};
+use pool_doors::CallFault;
 use std::alloc::{AllocError, Global};
-use swarm_door::CallFault;
 use swarm_keeper::Keeper;
 use swarm_model::{Answer, Entry, Machine, Reply, Request, answer_uncounted, due_uncounted};
 
@@ -15,12 +15,12 @@ pub(crate) struct PlainDesk<'a, M: Machine, K: Keeper> {
 
 impl<'a, M: Machine, K: Keeper> Desk for PlainDesk<'a, M, K> {
     ghost use Rattle.swarm_model.specs.MachineState.{AreHeld};
-    ghost use Rattle.swarm_history.specs.Records.{AreTold};
+    ghost use Rattle.swarm_history.specs.Records.{AreMachineRecords};
 
     /// The names of the two references.
     type Rest = (u64, u64);
 
-    ghost ready = { λ d. AreHeld (M.kept d.machine.now) × AreTold (K.tables d.keeper.now) (M.kept d.machine.now) };
+    ghost ready = { λ d. AreHeld (M.kept d.machine.now) × AreMachineRecords (K.tables d.keeper.now) (M.kept d.machine.now) };
 
     ghost kept = { λ d. M.kept d.machine.now };
 

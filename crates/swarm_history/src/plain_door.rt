@@ -6,9 +6,9 @@ ghost use Rattle.swarm_model.specs.Fits.{fits};
 ghost use Rattle.swarm_model.specs.MachineState.{AreHeld};
 ghost use Rattle.swarm_model.specs.Points.{Growth};
 ghost use Rattle.swarm_model.specs.Settings.{are_settings};
-ghost use Rattle.swarm_door.specs.Doors.{IsPoolCall, IsFreshDoor, CountsKeeper};
+ghost use Rattle.pool_doors.specs.Doors.{IsPoolCall, IsFreshDoor, CountsKeeper};
 ghost use Rattle.swarm_history.specs.Machines.{logs_of, own_door};
-ghost use Rattle.swarm_history.specs.Records.{AreKept, AreRecordsOf, AreTold, HoldsNoOthers, TellsBadStore};
+ghost use Rattle.swarm_history.specs.Records.{AreKept, AreRecordsOf, AreMachineRecords, HoldsNoOthers, IsFirstBadRecord};
 ghost use Rattle.swarm_history.specs.OneProof.{are_records_one};
 
 use crate::LoadFault;
@@ -16,8 +16,8 @@ use crate::loading::load_machines;
 use crate::plain_desk::PlainDesk;
 use crate::serving::serve;
 use dimensions::{Text, TryCopy};
+use pool_doors::{Answered, CallFault, Door};
 use std::alloc::Global;
-use swarm_door::{Answered, CallFault, Door};
 use swarm_keeper::Keeper;
 use swarm_model::{Machine, Request, Settings};
 
@@ -51,9 +51,9 @@ fn call_machine<M: Machine, K: Keeper>(
     requires fits { IsTrue (fits (M.kept machine.old).pool.settings request.now) }
     requires carries { Carries request.now bytes.now }
     requires held { AreHeld (M.kept machine.old) }
-    requires records { AreTold (K.tables keeper.old) (M.kept machine.old) }
+    requires records { AreMachineRecords (K.tables keeper.old) (M.kept machine.old) }
     ensures held { AreHeld (M.kept machine.new) }
-    ensures records { AreTold (K.tables keeper.new) (M.kept machine.new) }
+    ensures records { AreMachineRecords (K.tables keeper.new) (M.kept machine.new) }
     ensures no_other_blobs { HoldsNoOthers (K.tables keeper.old) (M.kept machine.old) → HoldsNoOthers (K.tables keeper.new) (M.kept machine.new) }
     ensures settings { (M.kept machine.new).pool.settings ≡ (M.kept machine.old).pool.settings }
     ensures done { (growth : Growth) × IsPoolCall (M.kept machine.old).pool.settings true
@@ -90,7 +90,7 @@ impl<M: Machine + Drop, K: Keeper + Drop> PlainDoor<M, K> {
         ensures lines { IfOk result (λ door. AreKept (map K.tables keepers.items) (⟦<PlainDoor<M, K> as Door>⟧.state door).seen) }
         ensures records { IfOk result (λ door. (⟦<PlainDoor<M, K> as Door>⟧.state door).records ≡ map K.tables keepers.items) }
         ensures nothing { IsTrue K.SURE → IfOk result (λ door. (p : ℕ) → (⟦<PlainDoor<M, K> as Door>⟧.state door).seen p ≡ []) }
-        ensures bad { IfErr result (λ back. TellsBadStore settings.now (map K.tables keepers.items) back.0) }
+        ensures bad { IfErr result (λ back. IsFirstBadRecord settings.now (map K.tables keepers.items) back.0) }
         ensures sure { IsTrue K.SURE → IfErr result (λ back. back.0 ≡ LoadFault.Memory) }
         ensures failed { IfErr result (λ back. back.0 ≡ LoadFault.Failed → Rose (sum_by K.faults keepers.items) (sum_by K.faults back.1.items)) }
         ensures back { IfErr result (λ back. map K.tables back.1.items ≡ map K.tables keepers.items) }

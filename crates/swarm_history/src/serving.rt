@@ -8,15 +8,15 @@ ghost use Rattle.swarm_model.specs.Deadlines.{due_entry};
 ghost use Rattle.swarm_model.specs.Effects.{opening};
 ghost use Rattle.swarm_model.specs.MachineState.{IsHistory};
 ghost use Rattle.swarm_model.specs.Points.{LacksRoom, is_ahead};
-ghost use Rattle.swarm_door.specs.Doors.{is_log_full, CountsKeeper};
+ghost use Rattle.pool_doors.specs.Doors.{is_log_full, CountsKeeper};
 ghost use Rattle.swarm_history.specs.Records.{HoldsNoOthers};
-ghost use Rattle.swarm_history.specs.Settling.{Stays, Responds, Shows, IsOwnPoint, IsOwnStop};
+ghost use Rattle.swarm_history.specs.Settling.{IsUnchanged, Responds, HasFrontAndPieces, IsPointAlone, IsOwnStop};
 
 use crate::desk::Desk;
 use crate::settling::settle;
 use dimensions::{Seq, Text};
+use pool_doors::{Answered, CallFault};
 use std::alloc::Global;
-use swarm_door::{Answered, CallFault};
 use swarm_model::{Answer, Entry, EntryKind, Reply, Request, Rule};
 
 /// The greatest moment of an entry.
@@ -62,8 +62,8 @@ fn respond<D: Desk>(
     ensures ready { D.ready desk.new }
     ensures no_other_blobs { HoldsNoOthers (D.records desk.old) (D.kept desk.old) → HoldsNoOthers (D.records desk.new) (D.kept desk.new) }
     ensures answers { IfOk result (λ a. Responds (D.number desk.old) who.now moment request.now (D.kept desk.old) (D.kept desk.new) a.reply) }
-    ensures shows { IfOk result (Shows (D.kept desk.new)) }
-    ensures stays { OnErr result (Stays (D.kept desk.old) (D.kept desk.new)) }
+    ensures shows { IfOk result (HasFrontAndPieces (D.kept desk.new)) }
+    ensures stays { OnErr result (IsUnchanged (D.kept desk.old) (D.kept desk.new)) }
     ensures full { IfErr result (λ f. OnTrue (is_log_full f) (LacksRoom (D.kept desk.old).pool (D.kept desk.old).log (answer (D.kept desk.old).pool who.now moment (D.number desk.old) request.now).entry)) }
     ensures grows { D.faults desk.old ≤ D.faults desk.new }
     ensures failed { CountsKeeper result (D.faults desk.old) (D.faults desk.new) }
@@ -105,8 +105,8 @@ pub fn serve<D: Desk>(
     ensures ready { D.ready desk.new }
     ensures no_other_blobs { HoldsNoOthers (D.records desk.old) (D.kept desk.old) → HoldsNoOthers (D.records desk.new) (D.kept desk.new) }
     ensures settings { (D.kept desk.new).pool.settings ≡ (D.kept desk.old).pool.settings }
-    ensures point { IfOk result (λ a. IsOwnPoint (opening (D.kept desk.old).pool.settings) (record { pass = D.number desk.old; caller = who.now; moment = moment; after = after; request = request.now }) (D.kept desk.old).log (D.kept desk.new).log a.reply) }
-    ensures shows { IfOk result (Shows (D.kept desk.new)) }
+    ensures point { IfOk result (λ a. IsPointAlone (opening (D.kept desk.old).pool.settings) (record { pass = D.number desk.old; caller = who.now; moment = moment; after = after; request = request.now }) (D.kept desk.old).log (D.kept desk.new).log a.reply) }
+    ensures shows { IfOk result (HasFrontAndPieces (D.kept desk.new)) }
     ensures stopped { IfErr result (λ f. IsOwnStop (opening (D.kept desk.old).pool.settings) (record { pass = D.number desk.old; caller = who.now; moment = moment; after = after; request = request.now }) (D.kept desk.old).log (D.kept desk.new).log (is_log_full f)) }
     ensures grows { D.faults desk.old ≤ D.faults desk.new }
     ensures failed { CountsKeeper result (D.faults desk.old) (D.faults desk.new) }

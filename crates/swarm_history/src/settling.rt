@@ -4,13 +4,13 @@ ghost use Rattle.sw_base.specs.Faults.{Rose};
 ghost use Rattle.swarm_model.specs.Deadlines.{due_entry};
 ghost use Rattle.swarm_model.specs.MachineState.{IsHistory};
 ghost use Rattle.swarm_model.specs.Points.{LacksRoom};
-ghost use Rattle.swarm_door.specs.Doors.{is_log_full};
+ghost use Rattle.pool_doors.specs.Doors.{is_log_full};
 ghost use Rattle.swarm_history.specs.Records.{HoldsNoOthers};
 ghost use Rattle.swarm_history.specs.Settling.{Settles};
 
 use crate::desk::Desk;
+use pool_doors::CallFault;
 use std::alloc::Global;
-use swarm_door::CallFault;
 
 /// Adds the entry of each deadline that has come by the moment, one after another. Where it
 /// stops, those that were added stay.

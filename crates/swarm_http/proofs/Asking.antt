@@ -10,14 +10,14 @@ use Rattle.routes.specs.Routes.{resource_of}
 use Rattle.swarm_wire.specs.declared.asked.Asked.{Asked}
 use Rattle.swarm_wire.specs.declared.parts.Parts.{Parts}
 use Rattle.swarm_wire.specs.Asking.{asked_of}
-use Rattle.swarm_door.specs.declared.door.Answered.{Answered}
-use Rattle.swarm_door.specs.declared.door.CallFault.{CallFault}
-use Rattle.swarm_door.specs.Doors.{Logs, DoorState, Elsewhere, IsPoolCall, Writer}
+use Rattle.pool_doors.specs.declared.door.Answered.{Answered}
+use Rattle.pool_doors.specs.declared.door.CallFault.{CallFault}
+use Rattle.pool_doors.specs.Doors.{Logs, DoorState, Elsewhere, IsPoolCall, Writer}
 use Rattle.request_head.specs.declared.after.After.{After}
 use Rattle.std.specs.Prelude.{IsSomeAnd, slice_get}
 use Rattle.swarm_http.specs.declared.reply.ReplyBytes.{ReplyBytes}
 use Rattle.swarm_http.specs.Permissions.{permitted}
-use Rattle.swarm_http.specs.Requests.{CallerRequest, then, routed, with_front, caller_request_of, permitted_request, request_of, parts_of, front_of}
+use Rattle.swarm_http.specs.Requests.{CallerRequest, and_then, routed, with_front, caller_request_of, permitted_request, request_of, parts_of, front_of}
 use Rattle.swarm_http.specs.Outcomes.{DoorCall, called_place, call_of, rejected, no_body_memory, IsCalled}
 use Rattle.swarm_http.specs.Replies.{refusal}
 use Rattle.swarm_http.specs.Sends.{text_of}
@@ -35,7 +35,7 @@ no_caller settings head body route e c = rw (e, c) refl
 
 -- the target and the body are what is left to look at
 pub body_left : (settings : Settings) (head : RequestHead) (body : List ℕ) (route : Route) (who : List ℕ) → routed (resource_of head.target) (method_of head) ≡ Ok route
-    → caller_of head ≡ Some who → request_of settings head body ≡ then (with_front (after_of head) (asked_of settings route (parts_of head.target) body)) (permitted_request settings who)
+    → caller_of head ≡ Some who → request_of settings head body ≡ and_then (with_front (after_of head) (asked_of settings route (parts_of head.target) body)) (permitted_request settings who)
 body_left settings head body route who e c = rw (e, c) refl
 
 -- a target and a body that ask something
@@ -43,11 +43,11 @@ pub body_asks : (settings : Settings) (head : RequestHead) (body items : List �
     → routed (resource_of head.target) (method_of head) ≡ Ok route → caller_of head ≡ Some who → after ≡ after_of head → parts ≡ parts_of head.target → items ≡ body
     → with_front after (asked_of settings route parts items) ≡ Ok asked → request_of settings head body ≡ permitted_request settings who asked
 body_asks settings head body items route parts who after asked e c same named is asks =
-    body_left settings head body route who e c ∙ ap (λ (r : Result Asked Rule). then r (permitted_request settings who)) (rw (same, named, is) at asks)
+    body_left settings head body route who e c ∙ ap (λ (r : Result Asked Rule). and_then r (permitted_request settings who)) (rw (same, named, is) at asks)
 
 -- a request that its pool permits
 pub asks_permitted : (settings : Settings) (who : List ℕ) (asked : Asked) → permitted settings who asked ≡ Ok asked → permitted_request settings who asked ≡ caller_request_of who asked
-asks_permitted settings who asked e = ap (λ (r : Result Asked Rule). then r (caller_request_of who)) e
+asks_permitted settings who asked e = ap (λ (r : Result Asked Rule). and_then r (caller_request_of who)) e
 
 -- a request that was refused before any call
 pub refused_early : (settings : Settings) (head : RequestHead) (body : List ℕ) (a : ℕ → Option (List ℕ)) (door : DoorState) (shown : ReplyBytes) (why : Rule)
@@ -62,9 +62,9 @@ not_held head body a door shown text = record { outcome = no_body_memory; acts =
 
 -- a request that was refused for what was left to look at
 pub left_refused : (settings : Settings) (head : RequestHead) (body : List ℕ) (a : ℕ → Option (List ℕ)) (door : DoorState) (shown : ReplyBytes) (left : Result Asked Rule)
-    (next : Asked → Result CallerRequest Rule) → door.settings ≡ settings → request_of settings head body ≡ then left next → IsRejection shown left → Answers head body a a door door shown
+    (next : Asked → Result CallerRequest Rule) → door.settings ≡ settings → request_of settings head body ≡ and_then left next → IsRejection shown left → Answers head body a a door door shown
 left_refused settings head body a door shown left next same means (by_rule why e text) =
-    refused_early settings head body a door shown why same (means ∙ ap (λ (r : Result Asked Rule). then r next) e) text
+    refused_early settings head body a door shown why same (means ∙ ap (λ (r : Result Asked Rule). and_then r next) e) text
 left_refused settings head body a door shown left next same means (by_memory text) = not_held head body a door shown text
 
 -- the pool of a request was called for it

@@ -5,9 +5,9 @@ use Rattle.std.specs.List.{count_by}
 use Rattle.std.specs.Prelude.{cond, min}
 use Rattle.std.proofs.lemmas.List.Sums.{sum_by-append}
 use Rattle.sw_base.specs.Faults.{Rose, RoseBy}
-use Rattle.swarm_door.specs.declared.door.CallFault.{CallFault}
-use Rattle.swarm_door.specs.declared.door.CallFault.TheVariants as stop
-use Rattle.swarm_door.specs.Doors.{DoorState, CountsKeeper}
+use Rattle.pool_doors.specs.declared.door.CallFault.{CallFault}
+use Rattle.pool_doors.specs.declared.door.CallFault.TheVariants as stop
+use Rattle.pool_doors.specs.Doors.{DoorState, CountsKeeper}
 use Rattle.swarm_http.specs.Outcomes.{DoorCall, aborted, CountsStop}
 use Rattle.swarm_http.specs.Exchange.{Exchange, fails_keeper}
 use Rattle.swarm_http.specs.Answered.{KeepersFailed}

@@ -17,9 +17,9 @@ use Rattle.swarm_model.specs.declared.reply.Reply.{Reply}
 use Rattle.swarm_model.specs.Answers.{decide, entry_at}
 use Rattle.swarm_model.specs.History.{replay, moment_of}
 use Rattle.swarm_model.specs.Points.{is_ahead, IsByOther, IsSettled, Call, Growth, added, Grows, IsPoint, IsStopped}
-use Rattle.swarm_door.specs.declared.door.Answered.{Answered}
-use Rattle.swarm_door.specs.declared.door.CallFault.{CallFault}
-use Rattle.swarm_door.specs.Doors.{Logs, Writer, IsPoolCall}
+use Rattle.pool_doors.specs.declared.door.Answered.{Answered}
+use Rattle.pool_doors.specs.declared.door.CallFault.{CallFault}
+use Rattle.pool_doors.specs.Doors.{Logs, Writer, IsPoolCall}
 use Rattle.swarm_http.specs.Outcomes.{DoorCall, called_place, call_of, entries_at, Outcome, rejected, answered, aborted, no_body_memory, no_reply_memory, calls, IsCalled, Acts}
 use Rattle.swarm_http.specs.Exchange.{Exchange, Chain, has_pass, GainsOnce, AreOnce}
 

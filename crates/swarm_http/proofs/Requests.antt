@@ -14,7 +14,7 @@ use Rattle.request_head.specs.Heads.{IsHead, IsNoHead}
 use Rattle.head_fields.specs.Fields.{lacks}
 use Rattle.head_fields.specs.Numbers.{is_broken, value_or_zero}
 use Rattle.request_head.specs.HeadFields.{bad, length_required, too_large, head_refusal, size_of, limit_at, fields_of, length_told, wants_length, method_named}
-use Rattle.request_head.specs.Judging.{IsJudgedHead}
+use Rattle.request_head.specs.HeadChecks.{IsCheckedHead}
 use Rattle.request_head.specs.declared.head_check.HeadCheck.TheVariants as head_check
 use Rattle.swarm_model.specs.declared.rule.Rule.TheVariants as rule
 use Rattle.swarm_http.specs.declared.ended.Ended.{Ended}
@@ -84,14 +84,14 @@ part_cut {text = text} {size = size} {head = head} says told cut =
     in_body text cut.front head says cut.input_is (let short : length cut.front < size = cut.short in omega (arith, told))
 
 -- the bytes through the first blank line are no head, or one that says so
-pub bad_refused : (pending : List ℕ) (n : ℕ) → IsHeadEnd pending n → IsNoHead (take n pending) ⊎ IsJudgedHead (take n pending) head_check.Bad → IsRefused pending rule.BadHead
+pub bad_refused : (pending : List ℕ) (n : ℕ) → IsHeadEnd pending n → IsNoHead (take n pending) ⊎ IsCheckedHead (take n pending) head_check.Bad → IsRefused pending rule.BadHead
 bad_refused pending n end (inl none) = no_head n refl end none
 bad_refused pending n end (inr h) = by_head n h.head bad refl end h.is_head h.due
 
-pub length_refused : (pending : List ℕ) (n : ℕ) → IsHeadEnd pending n → IsJudgedHead (take n pending) head_check.LengthRequired → IsRefused pending rule.LengthRequired
+pub length_refused : (pending : List ℕ) (n : ℕ) → IsHeadEnd pending n → IsCheckedHead (take n pending) head_check.LengthRequired → IsRefused pending rule.LengthRequired
 length_refused pending n end h = by_head n h.head length_required refl end h.is_head h.due
 
-pub size_refused : (pending : List ℕ) (n limit : ℕ) → IsHeadEnd pending n → IsJudgedHead (take n pending) (head_check.TooLarge limit) → IsRefused pending (rule.TooLarge limit)
+pub size_refused : (pending : List ℕ) (n limit : ℕ) → IsHeadEnd pending n → IsCheckedHead (take n pending) (head_check.TooLarge limit) → IsRefused pending (rule.TooLarge limit)
 size_refused pending n limit end h = by_head n h.head (too_large limit) refl end h.is_head h.due
 
 refusal_limit : (broken wants fits : Bool) (at limit : ℕ)

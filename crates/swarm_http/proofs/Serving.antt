@@ -13,7 +13,7 @@ use Rattle.sw_base.specs.Faults.{Rose}
 use Rattle.sw_base.specs.Link.{LinkState, IsClean, Moves, NoFault}
 use Rattle.sw_base.proofs.Moving.{Moves-refl, Moves-trans, NoFault-refl, NoFault-trans, clean_still}
 use Rattle.swarm_model.specs.declared.pool_settings.Settings.{Settings}
-use Rattle.swarm_door.specs.Doors.{Logs, DoorState, Writer}
+use Rattle.pool_doors.specs.Doors.{Logs, DoorState, Writer}
 use Rattle.swarm_http.specs.declared.ended.Ended.{Ended}
 use Rattle.swarm_http.specs.declared.ended.Ended.TheVariants.{Closed, LastAsked, CutShort, BadHead, Retired, ReadFault, WriteFault, Memory}
 use Rattle.swarm_http.specs.declared.reply.Refusal.{Refusal}
@@ -21,14 +21,14 @@ use Rattle.swarm_http.specs.declared.reply.ReplyBytes.{ReplyBytes}
 use Rattle.swarm_http.specs.declared.request.Received.{Received}
 use Rattle.swarm_http.specs.declared.request.Incoming.TheVariants as taken
 use Rattle.swarm_http.specs.Replies.{refusal}
-use Rattle.swarm_http.specs.Outcomes.{Outcome, Acts, shows, uses}
+use Rattle.swarm_http.specs.Outcomes.{Outcome, Acts, bytes_of, moments_used}
 use Rattle.swarm_http.specs.Exchange.{Exchange, HeadSays, request_bytes, reply_of, moments_of, is_accepted, has_status_ok, Chain}
-use Rattle.swarm_http.specs.Answered.{World, replies, Serves, NoneCloses, KeepersFailed, IsOpenStill, IsCutReply, last_reply, refused_head, EndsAs, EndsAtFault, IsAnswered, KeepsDoor}
+use Rattle.swarm_http.specs.Answered.{ConnectionState, replies, Serves, NoneCloses, KeepersFailed, IsOpenStill, IsCutReply, last_reply, refused_head, EndsAs, EndsAtFault, IsAnswered, KeepsDoor}
 use Rattle.link_writer.specs.Sends.{Sends}
 use Rattle.swarm_http.specs.Sends.{rule_of, text_of}
 use Rattle.swarm_http.specs.Takes.{IsHeld, StopsAs, Takes, ReadsWell}
 use Rattle.swarm_http.specs.Counting.{IsCounted}
-use Rattle.swarm_http.specs.Steps.{Answers, GoesOn, Stops, AreCounted, one_if}
+use Rattle.swarm_http.specs.Steps.{Answers, GoesOn, Stops, AreCounted, count_of}
 use Rattle.swarm_http.proofs.Keepers.{none_failed, one_failed, KeepersFailed-trans}
 use Rattle.swarm_http.proofs.Once.{chain_once}
 
@@ -46,10 +46,10 @@ Chain-append : (settings : Settings) (writer : Writer) (old mid new : Logs) (xs 
 Chain-append settings writer old mid new [] ys same rest = subst (λ l. Chain settings writer l ys new) same rest
 Chain-append settings writer old mid new (x ∷ xs) ys first rest = (first.0, first.1, Chain-append settings writer first.0 mid new xs ys first.2 rest)
 
-nothing_served : (v : World) → Serves [] [] [] [] v v
+nothing_served : (v : ConnectionState) → Serves [] [] [] [] v v
 nothing_served v = record { taken = []; moves = Moves-refl v.link; input_is = refl; moments = HandsIn-nil v.clock; chain = refl }
 
-Serves-trans : {xs ys : List Exchange} {pending mid rest p q : List ℕ} {u v w : World} {most : ℕ}
+Serves-trans : {xs ys : List Exchange} {pending mid rest p q : List ℕ} {u v w : ConnectionState} {most : ℕ}
     → KeepsDoor most u.door v.door → Serves xs pending mid p u v → Serves ys mid rest q v w → Serves (xs ++ ys) pending rest (p ++ q) u w
 Serves-trans {xs = xs} {ys = ys} {pending = pending} {mid = mid} {rest = rest} {u = u} {v = v} {w = w} k x y = record {
   taken = x.taken ++ y.taken;
@@ -120,15 +120,15 @@ none_served : {pending rest taken sent : List ℕ} {s t : LinkState} {a : ℕ �
 none_served {taken = taken} {a = a} m is = record { taken = taken; moves = m; input_is = is; moments = HandsIn-nil a; chain = refl }
 
 -- one request was answered
-one_served : {pending rest taken sent text body : List ℕ} {head : RequestHead} {outcome : Outcome} {v w : World}
+one_served : {pending rest taken sent text body : List ℕ} {head : RequestHead} {outcome : Outcome} {v w : ConnectionState}
     → Moves v.link w.link taken sent → pending ++ taken ≡ (text ++ body) ++ rest → HeadSays text head → size_of head ≡ length body
-    → Acts v.door.settings v.door.writer head body outcome v.door.seen w.door.seen → HandsIn v.clock w.clock (uses outcome)
+    → Acts v.door.settings v.door.writer head body outcome v.door.seen w.door.seen → HandsIn v.clock w.clock (moments_used outcome)
     → Serves (record { text = text; body = body; head = head; outcome = outcome } ∷ []) pending rest sent v w
 one_served {rest = rest} {taken = taken} {text = text} {body = body} {outcome = outcome} {v = v} {w = w} m is says size acts moments = record {
   taken = taken;
   moves = m;
   input_is = is ∙ ap (λ l. l ++ rest) (sym (append-nil (text ++ body)));
-  moments = subst (HandsIn v.clock w.clock) (sym (append-nil (uses outcome))) moments;
+  moments = subst (HandsIn v.clock w.clock) (sym (append-nil (moments_used outcome))) moments;
   chain = (w.door.seen, record { says = says; size = size; acts = acts }, refl);
 }
 
@@ -141,14 +141,14 @@ no_faults : {ended : Ended} {s t : LinkState} → t.read_faults ≡ s.read_fault
 no_faults reads writes clean = record { reads = λ n. reads; writes = λ n. writes; clean = λ n. clean }
 
 -- a request was taken, answered and its reply written
-abbrev goes_on : {pending rest : List ℕ} {received : Received} {shown : ReplyBytes} {T E : Type 0} {r : Result T E} {t : LinkState} {v w : World}
+abbrev goes_on : {pending rest : List ℕ} {received : Received} {shown : ReplyBytes} {T E : Type 0} {r : Result T E} {t : LinkState} {v w : ConnectionState}
     → Takes v.link t pending rest (taken.Asks received)
     → ((body : List ℕ) (head : RequestHead) → IsHeld received body head → Answers head body v.clock w.clock v.door w.door shown)
     → (y : Sends t w.link (text_of shown) r) → y.back ≡ [] → w.link.write_faults ≡ t.write_faults → IsClean w.link → received.line.closes ≡ false → GoesOn pending rest v w
 goes_on {v = v} {w = w} x answers y all well flushed still =
     let q = x.outcome.0 in
     let z = answers q.body q.head q.held in
-    let sent : y.written.sent ≡ shows z.outcome = sym (append-nil y.written.sent) ∙ ap (λ l. y.written.sent ++ l) (sym all) ∙ sym y.written.whole ∙ z.shown in
+    let sent : y.written.sent ≡ bytes_of z.outcome = sym (append-nil y.written.sent) ∙ ap (λ l. y.written.sent ++ l) (sym all) ∙ sym y.written.whole ∙ z.shown in
     let moves = Moves-trans x.moves y.written.moves in
     let one : Exchange = record { text = q.text; body = q.body; head = q.head; outcome = z.outcome } in
     record {
@@ -161,7 +161,7 @@ goes_on {v = v} {w = w} x answers y all well flushed still =
     }
 
 -- its reply was not written whole
-abbrev reply_cut : {pending rest : List ℕ} {received : Received} {shown : ReplyBytes} {T E : Type 0} {r : Result T E} {t : LinkState} {v w : World}
+abbrev reply_cut : {pending rest : List ℕ} {received : Received} {shown : ReplyBytes} {T E : Type 0} {r : Result T E} {t : LinkState} {v w : ConnectionState}
     → Takes v.link t pending rest (taken.Asks received)
     → ((body : List ℕ) (head : RequestHead) → IsHeld received body head → Answers head body v.clock w.clock v.door w.door shown)
     → Sends t w.link (text_of shown) r → Rose t.write_faults w.link.write_faults → Stops pending v w WriteFault
@@ -184,7 +184,7 @@ reply_cut {rest = rest} {v = v} {w = w} x answers y rose =
     }
 
 -- its reply was the last
-abbrev asked_last : {pending rest : List ℕ} {received : Received} {shown : ReplyBytes} {T E : Type 0} {r : Result T E} {t : LinkState} {v w : World}
+abbrev asked_last : {pending rest : List ℕ} {received : Received} {shown : ReplyBytes} {T E : Type 0} {r : Result T E} {t : LinkState} {v w : ConnectionState}
     → Takes v.link t pending rest (taken.Asks received)
     → ((body : List ℕ) (head : RequestHead) → IsHeld received body head → Answers head body v.clock w.clock v.door w.door shown)
     → (y : Sends t w.link (text_of shown) r) → y.back ≡ [] → w.link.write_faults ≡ t.write_faults → IsClean w.link → received.line.closes ≡ true → Stops pending v w LastAsked
@@ -192,7 +192,7 @@ asked_last {rest = rest} {v = v} {w = w} x answers y all well flushed closing =
     let q = x.outcome.0 in
     let z = answers q.body q.head q.held in
     let one : Exchange = record { text = q.text; body = q.body; head = q.head; outcome = z.outcome } in
-    let sent : y.written.sent ≡ shows z.outcome = sym (append-nil y.written.sent) ∙ ap (λ l. y.written.sent ++ l) (sym all) ∙ sym y.written.whole ∙ z.shown in
+    let sent : y.written.sent ≡ bytes_of z.outcome = sym (append-nil y.written.sent) ∙ ap (λ l. y.written.sent ++ l) (sym all) ∙ sym y.written.whole ∙ z.shown in
     let moves = Moves-trans x.moves y.written.moves in
     record {
       xs = one ∷ [];
@@ -200,7 +200,7 @@ asked_last {rest = rest} {v = v} {w = w} x answers y all well flushed closing =
       sent = y.written.sent;
       serves = one_served (subst (λ l. Moves v.link w.link l y.written.sent) (append-nil x.taken) moves) q.input_is q.says q.size z.acts z.moments;
       keepers = one_failed one v.door w.door z.keeper;
-      ends = (record { earlier = []; last = one; are = refl; open_before = tt; closing = sym q.held.line.closes ∙ closing }, sent ∙ sym (append-nil (shows z.outcome)));
+      ends = (record { earlier = []; last = one; are = refl; open_before = tt; closing = sym q.held.line.closes ∙ closing }, sent ∙ sym (append-nil (bytes_of z.outcome)));
       few = omega arith;
       faults = no_faults (y.written.input.read_faults ∙ x.outcome.1) (well ∙ x.output.write_faults) flushed;
       not_retired = λ h. cc;
@@ -282,24 +282,24 @@ keeps_on x k = record {
 
 -- ---- the numbers of requests
 
-one_counted : (x : Exchange) → count_by is_accepted (x ∷ []) ≡ one_if (is_accepted x)
+one_counted : (x : Exchange) → count_by is_accepted (x ∷ []) ≡ count_of (is_accepted x)
 one_counted x = by_cases (is_accepted x) refl
   where
-    by_cases : (b : Bool) → is_accepted x ≡ b → count_by is_accepted (x ∷ []) ≡ one_if (is_accepted x)
+    by_cases : (b : Bool) → is_accepted x ≡ b → count_by is_accepted (x ∷ []) ≡ count_of (is_accepted x)
     by_cases true is = rw is refl
     by_cases false is = rw is refl
 
 are_one : (x : Exchange) (accepted : Bool) → accepted ≡ is_accepted x → AreCounted (x ∷ []) true accepted
-are_one x accepted is = record { requests = refl; accepted_are = ap one_if is ∙ sym (one_counted x) }
+are_one x accepted is = record { requests = refl; accepted_are = ap count_of is ∙ sym (one_counted x) }
 
 are_none : AreCounted [] false false
 are_none = record { requests = refl; accepted_are = refl }
 
-few_more : {count good : ℕ} (accepted : Bool) → good ≤ count → good + one_if accepted ≤ count + 1
+few_more : {count good : ℕ} (accepted : Bool) → good ≤ count → good + count_of accepted ≤ count + 1
 few_more true few = omega arith
 few_more false few = omega arith
 
-pub goes_on_counted : {pending rest : List ℕ} {received : Received} {shown : ReplyBytes} {T E : Type 0} {r : Result T E} {t : LinkState} {v w : World} {accepted : Bool}
+pub goes_on_counted : {pending rest : List ℕ} {received : Received} {shown : ReplyBytes} {T E : Type 0} {r : Result T E} {t : LinkState} {v w : ConnectionState} {accepted : Bool}
     → Takes v.link t pending rest (taken.Asks received)
     → ((body : List ℕ) (head : RequestHead) → IsHeld received body head → Answers head body v.clock w.clock v.door w.door shown)
     → (y : Sends t w.link (text_of shown) r) → y.back ≡ [] → w.link.write_faults ≡ t.write_faults → IsClean w.link → received.line.closes ≡ false
@@ -307,7 +307,7 @@ pub goes_on_counted : {pending rest : List ℕ} {received : Received} {shown : R
 goes_on_counted x answers y all well flushed still is =
     let q = x.outcome.0 in let z = answers q.body q.head q.held in (goes_on x answers y all well flushed still, is ∙ ap has_status_ok z.shown)
 
-pub reply_cut_counted : {pending rest : List ℕ} {received : Received} {shown : ReplyBytes} {T E : Type 0} {r : Result T E} {t : LinkState} {v w : World} {accepted : Bool}
+pub reply_cut_counted : {pending rest : List ℕ} {received : Received} {shown : ReplyBytes} {T E : Type 0} {r : Result T E} {t : LinkState} {v w : ConnectionState} {accepted : Bool}
     → Takes v.link t pending rest (taken.Asks received)
     → ((body : List ℕ) (head : RequestHead) → IsHeld received body head → Answers head body v.clock w.clock v.door w.door shown)
     → Sends t w.link (text_of shown) r → Rose t.write_faults w.link.write_faults
@@ -316,7 +316,7 @@ reply_cut_counted {accepted = accepted} x answers y rose is =
     let q = x.outcome.0 in let z = answers q.body q.head q.held in
     (reply_cut x answers y rose, are_one (record { text = q.text; body = q.body; head = q.head; outcome = z.outcome }) accepted (is ∙ ap has_status_ok z.shown))
 
-pub asked_last_counted : {pending rest : List ℕ} {received : Received} {shown : ReplyBytes} {T E : Type 0} {r : Result T E} {t : LinkState} {v w : World} {accepted : Bool}
+pub asked_last_counted : {pending rest : List ℕ} {received : Received} {shown : ReplyBytes} {T E : Type 0} {r : Result T E} {t : LinkState} {v w : ConnectionState} {accepted : Bool}
     → Takes v.link t pending rest (taken.Asks received)
     → ((body : List ℕ) (head : RequestHead) → IsHeld received body head → Answers head body v.clock w.clock v.door w.door shown)
     → (y : Sends t w.link (text_of shown) r) → y.back ≡ [] → w.link.write_faults ≡ t.write_faults → IsClean w.link → received.line.closes ≡ true
@@ -341,7 +341,7 @@ pub taking_ended_counted : {pending rest : List ℕ} {s t : LinkState} {a : ℕ 
 taking_ended_counted ended x clean = (taking_ended ended x clean, are_none)
 
 -- the connection so far
-pub record SoFar (count good : ℕ) (pending : List ℕ) (old new : World) : Type 0 where
+pub record SoFar (count good : ℕ) (pending : List ℕ) (old new : ConnectionState) : Type 0 where
   pub xs : List Exchange
   pub serves : Serves xs [] pending (replies xs) old new
   pub keepers : KeepersFailed xs old.door new.door
@@ -353,7 +353,7 @@ pub record SoFar (count good : ℕ) (pending : List ℕ) (old new : World) : Typ
   pub clean : IsClean new.link
   pub keeps : KeepsDoor count old.door new.door
 
-pub begun : (v : World) → IsClean v.link → SoFar 0 0 [] v v
+pub begun : (v : ConnectionState) → IsClean v.link → SoFar 0 0 [] v v
 begun v clean = record {
   xs = [];
   serves = nothing_served v;
@@ -367,8 +367,8 @@ begun v clean = record {
   keeps = record { settings = refl; writer = refl; no_other_blobs = λ p none. none; faults = omega arith; calls = omega arith };
 }
 
-pub one_on : {count good : ℕ} {accepted : Bool} {pending more : List ℕ} {u v w : World}
-    → SoFar count good pending u v → (y : GoesOn pending more v w) → accepted ≡ is_accepted y.x → KeepsDoor 1 v.door w.door → SoFar (count + 1) (good + one_if accepted) more u w
+pub one_on : {count good : ℕ} {accepted : Bool} {pending more : List ℕ} {u v w : ConnectionState}
+    → SoFar count good pending u v → (y : GoesOn pending more v w) → accepted ≡ is_accepted y.x → KeepsDoor 1 v.door w.door → SoFar (count + 1) (good + count_of accepted) more u w
 one_on {accepted = accepted} {more = more} {u = u} {v = v} {w = w} x y is k = record {
   xs = x.xs ++ y.x ∷ [];
   serves = subst (λ l. Serves (x.xs ++ y.x ∷ []) [] more l u w) (replies_after x.xs (y.x ∷ []) (reply_of y.x) (sym (append-nil (reply_of y.x)))) (Serves-trans x.keeps x.serves y.serves);
@@ -376,13 +376,13 @@ one_on {accepted = accepted} {more = more} {u = u} {v = v} {w = w} x y is k = re
   no_fault = NoFault-trans x.no_fault y.no_fault;
   clean = y.clean;
   counted = omega (arith, length-append x.xs (y.x ∷ []), x.counted);
-  accepted = omega (arith, count-append is_accepted x.xs (y.x ∷ []), one_counted y.x, ap one_if is, x.accepted);
+  accepted = omega (arith, count-append is_accepted x.xs (y.x ∷ []), one_counted y.x, ap count_of is, x.accepted);
   accepted_few = few_more accepted x.accepted_few;
   open_still = none_close x.xs (y.x ∷ []) x.open_still (y.open_still, tt);
   keeps = keeps_on x.keeps k;
 }
 
-abbrev ended_so : {count good : ℕ} {pending : List ℕ} {u v w : World} {ended : Ended} → SoFar count good pending u v → count < 65536 → Stops pending v w ended → IsAnswered u w ended
+abbrev ended_so : {count good : ℕ} {pending : List ℕ} {u v w : ConnectionState} {ended : Ended} → SoFar count good pending u v → count < 65536 → Stops pending v w ended → IsAnswered u w ended
 ended_so {u = u} {v = v} {w = w} {ended = ended} x early y =
     let all = Serves-trans x.keeps x.serves y.serves in
     record {
@@ -397,7 +397,7 @@ ended_so {u = u} {v = v} {w = w} {ended = ended} x early y =
       faults = record { reads = λ n. y.faults.reads n ∙ x.no_fault.reads; writes = λ n. y.faults.writes n ∙ x.no_fault.writes; clean = y.faults.clean };
     }
 
-abbrev retired : {count good : ℕ} {pending : List ℕ} {v w : World} → SoFar count good pending v w → count ≡ 65536 → IsAnswered v w Retired
+abbrev retired : {count good : ℕ} {pending : List ℕ} {v w : ConnectionState} → SoFar count good pending v w → count ≡ 65536 → IsAnswered v w Retired
 retired {pending = pending} {v = v} {w = w} x full = record {
   xs = x.xs;
   rest = pending;
@@ -410,7 +410,7 @@ retired {pending = pending} {v = v} {w = w} x full = record {
   faults = no_faults x.no_fault.reads x.no_fault.writes x.clean;
 }
 
-abbrev no_memory : {v : World} → IsClean v.link → IsAnswered v v Memory
+abbrev no_memory : {v : ConnectionState} → IsClean v.link → IsAnswered v v Memory
 no_memory {v = v} clean = record {
   xs = [];
   rest = [];
@@ -425,17 +425,17 @@ no_memory {v = v} clean = record {
 
 -- ---- the connection with its numbers
 
-pub ended_counted : {count good : ℕ} {pending : List ℕ} {u v w : World} {ended : Ended} {asked accepted : Bool} → SoFar count good pending u v → count < 65536
-    → (y : Stops pending v w ended) → AreCounted y.xs asked accepted → IsCounted u w (record { ended = ended; requests = count + one_if asked; accepted = good + one_if accepted })
+pub ended_counted : {count good : ℕ} {pending : List ℕ} {u v w : ConnectionState} {ended : Ended} {asked accepted : Bool} → SoFar count good pending u v → count < 65536
+    → (y : Stops pending v w ended) → AreCounted y.xs asked accepted → IsCounted u w (record { ended = ended; requests = count + count_of asked; accepted = good + count_of accepted })
 ended_counted x early y k = record {
   answered = ended_so x early y;
   requests = omega (arith, length-append x.xs y.xs, x.counted, k.requests);
   accepted = omega (arith, count-append is_accepted x.xs y.xs, x.accepted, k.accepted_are);
 }
 
-pub retired_counted : {count good : ℕ} {pending : List ℕ} {v w : World} → SoFar count good pending v w → count ≡ 65536
+pub retired_counted : {count good : ℕ} {pending : List ℕ} {v w : ConnectionState} → SoFar count good pending v w → count ≡ 65536
     → IsCounted v w (record { ended = Retired; requests = 65536; accepted = good })
 retired_counted x full = record { answered = retired x full; requests = sym full ∙ sym x.counted; accepted = sym x.accepted }
 
-pub no_memory_counted : {v : World} → IsClean v.link → IsCounted v v (record { ended = Memory; requests = 0; accepted = 0 })
+pub no_memory_counted : {v : ConnectionState} → IsClean v.link → IsCounted v v (record { ended = Memory; requests = 0; accepted = 0 })
 no_memory_counted clean = record { answered = no_memory clean; requests = refl; accepted = refl }

@@ -11,7 +11,7 @@ use Rattle.request_head.specs.Heads.{IsHead, IsNoHead}
 use Rattle.request_head.specs.HeadFields.{HeadRefusal, bad, length_required, too_large, head_refusal, size_of}
 use Rattle.swarm_model.specs.declared.rule.Rule.{Rule}
 use Rattle.swarm_model.specs.declared.rule.Rule.TheVariants as rule
-use Rattle.swarm_door.specs.Doors.{DoorState, AddsNoOthers}
+use Rattle.pool_doors.specs.Doors.{DoorState, AddsNoOthers}
 use Rattle.swarm_http.specs.declared.ended.Ended.{Ended}
 use Rattle.swarm_http.specs.declared.ended.Ended.TheVariants.{Closed, LastAsked, CutShort, BadHead, Retired, ReadFault, WriteFault, Memory}
 use Rattle.swarm_http.specs.Replies.{refusal}
@@ -22,14 +22,14 @@ abbrev pub replies : List Exchange → List ℕ
 replies xs = flat_map reply_of xs
 
 -- what a connection works on: its link, the moments that its clock is about to hand in, and its door
-pub record World : Type 0 where
+pub record ConnectionState : Type 0 where
   pub link : LinkState
   pub clock : ℕ → Option (List ℕ)
   pub door : DoorState
 
 -- from the bytes that were pending on, these requests were read and answered, this rest is pending,
 -- and these bytes were written
-pub record Serves (xs : List Exchange) (pending rest sent : List ℕ) (old new : World) : Type 0 where
+pub record Serves (xs : List Exchange) (pending rest sent : List ℕ) (old new : ConnectionState) : Type 0 where
   pub taken : List ℕ
   pub moves : Moves old.link new.link taken sent
   pub input_is : pending ++ taken ≡ flat_map request_bytes xs ++ rest
@@ -102,7 +102,7 @@ pub record EndsAtFault (ended : Ended) (s t : LinkState) : Type 0 where
 -- The whole connection, with nothing pending at its begin: there are requests and a rest such that
 -- all that was read, asked of the clock and the door, and written is theirs, in order, and their
 -- entries stand in the logs once. Each reply of a keeper's fault has a fault that the door counted.
-pub record IsAnswered (old new : World) (ended : Ended) : Type 0 where
+pub record IsAnswered (old new : ConnectionState) (ended : Ended) : Type 0 where
   pub xs : List Exchange
   pub rest : List ℕ
   pub sent : List ℕ

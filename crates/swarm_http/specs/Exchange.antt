@@ -7,8 +7,8 @@ use Rattle.request_head.specs.Heads.{IsHead}
 use Rattle.request_head.specs.HeadFields.{head_refusal, size_of, closes_of}
 use Rattle.swarm_model.specs.declared.pool_settings.Settings.{Settings}
 use Rattle.swarm_model.specs.declared.entry.Entry.{Entry}
-use Rattle.swarm_door.specs.Doors.{Logs, Writer}
-use Rattle.swarm_http.specs.Outcomes.{Outcome, Acts, shows, calls, uses, entries_at, is_keeper_stop}
+use Rattle.pool_doors.specs.Doors.{Logs, Writer}
+use Rattle.swarm_http.specs.Outcomes.{Outcome, Acts, bytes_of, calls, moments_used, entries_at, is_keeper_stop}
 
 -- a request as it stood on the link, what its head is, and its outcome
 pub record Exchange : Type 0 where
@@ -23,11 +23,11 @@ request_bytes x = x.text ++ x.body
 
 -- the bytes of its reply
 abbrev pub reply_of : Exchange → List ℕ
-reply_of x = shows x.outcome
+reply_of x = bytes_of x.outcome
 
 -- the moments that it used
 abbrev pub moments_of : Exchange → List ℕ
-moments_of x = uses x.outcome
+moments_of x = moments_used x.outcome
 
 -- the entries that it added to the log of the pool at a place
 abbrev pub entries_of : ℕ → Exchange → List Entry

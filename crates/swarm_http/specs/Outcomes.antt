@@ -9,10 +9,10 @@ use Rattle.swarm_model.specs.declared.entry.Entry.{Entry}
 use Rattle.swarm_model.specs.declared.rule.Rule.{Rule}
 use Rattle.swarm_model.specs.declared.rule.Rule.TheVariants as rule
 use Rattle.swarm_model.specs.Points.{Call, Growth, added}
-use Rattle.swarm_door.specs.declared.door.Answered.{Answered}
-use Rattle.swarm_door.specs.declared.door.CallFault.{CallFault}
-use Rattle.swarm_door.specs.declared.door.CallFault.TheVariants as stop
-use Rattle.swarm_door.specs.Doors.{Logs, Elsewhere, IsPoolCall, Writer}
+use Rattle.pool_doors.specs.declared.door.Answered.{Answered}
+use Rattle.pool_doors.specs.declared.door.CallFault.{CallFault}
+use Rattle.pool_doors.specs.declared.door.CallFault.TheVariants as stop
+use Rattle.pool_doors.specs.Doors.{Logs, Elsewhere, IsPoolCall, Writer}
 use Rattle.swarm_http.specs.Requests.{CallerRequest, request_of, front_of}
 use Rattle.swarm_http.specs.Replies.{shown, refusal}
 
@@ -60,12 +60,12 @@ abbrev pub CountsStop : Outcome → ℕ → ℕ → Type 0
 CountsStop outcome before now = MatchBool (is_keeper_stop outcome) (Rose before now) (before ≤ now)
 
 -- the bytes of the reply; X-Swarming-Front stands there exactly where a call answered
-abbrev pub shows : Outcome → List ℕ
-shows (rejected why) = refusal None why
-shows (answered call result) = shown (called_place call) (Some result.front) result.reply result.pieces
-shows (aborted call why) = refusal None (stop_rule why)
-shows no_body_memory = refusal None rule.WantOfMemory
-shows (no_reply_memory call result) = refusal (Some result.front) rule.WantOfMemory
+abbrev pub bytes_of : Outcome → List ℕ
+bytes_of (rejected why) = refusal None why
+bytes_of (answered call result) = shown (called_place call) (Some result.front) result.reply result.pieces
+bytes_of (aborted call why) = refusal None (stop_rule why)
+bytes_of no_body_memory = refusal None rule.WantOfMemory
+bytes_of (no_reply_memory call result) = refusal (Some result.front) rule.WantOfMemory
 
 -- the calls of the door: one, or none
 abbrev pub calls : Outcome → List DoorCall
@@ -76,8 +76,8 @@ calls no_body_memory = []
 calls (no_reply_memory call result) = call ∷ []
 
 -- the moments that it used: one for each call
-abbrev pub uses : Outcome → List ℕ
-uses outcome = map (λ call. call.moment) (calls outcome)
+abbrev pub moments_used : Outcome → List ℕ
+moments_used outcome = map (λ call. call.moment) (calls outcome)
 
 -- the call as the door's pool takes it
 abbrev pub call_of : Writer → RequestHead → DoorCall → Call

@@ -23,9 +23,9 @@ use Rattle.swarm_wire.specs.Asking.{asked_of}
 use Rattle.swarm_http.specs.Permissions.{permitted}
 
 -- the value, and what follows from it
-abbrev pub then : {A B : Type 0} → Result A Rule → (A → Result B Rule) → Result B Rule
-then (Ok value) next = next value
-then (Err why) next = Err why
+abbrev pub and_then : {A B : Type 0} → Result A Rule → (A → Result B Rule) → Result B Rule
+and_then (Ok value) next = next value
+and_then (Err why) next = Err why
 
 -- the route of what stands at the target, by its method: a call is a POST, and a blob is put by PUT and fetched by GET
 abbrev pub routed : Option Resource → Method → Result Route Rule
@@ -82,11 +82,11 @@ caller_request_of who asked = Ok (record { who = who; asked = asked })
 
 -- what a caller asks of a pool, unless the pool's settings don't permit it
 abbrev pub permitted_request : Settings → List ℕ → Asked → Result CallerRequest Rule
-permitted_request settings who asked = then (permitted settings who asked) (caller_request_of who)
+permitted_request settings who asked = and_then (permitted settings who asked) (caller_request_of who)
 
 -- the request that a head and a body mean, or the first refusal of route, method, caller, target and body, X-Swarming-After and permission, in this order
 abbrev pub request_of : Settings → RequestHead → List ℕ → Result CallerRequest Rule
 request_of settings head body =
-    then (routed (resource_of head.target) (method_of head)) (λ route.
-    then (called_by (caller_of head)) (λ who.
-    then (with_front (after_of head) (asked_of settings route (parts_of head.target) body)) (permitted_request settings who)))
+    and_then (routed (resource_of head.target) (method_of head)) (λ route.
+    and_then (called_by (caller_of head)) (λ who.
+    and_then (with_front (after_of head) (asked_of settings route (parts_of head.target) body)) (permitted_request settings who)))

@@ -19,11 +19,11 @@ use crate::permitting::check_permission;
 use crate::reply::{Refusal, ReplyBytes, field_refusal, whole_reply};
 use crate::request::{Caller, Received, RequestLine};
 use dimensions::Text;
+use pool_doors::{CallFault, Door};
 use request_head::{After, Method};
 use routes::{Resource, Route};
 use std::alloc::Global;
 use sw_base::Clock;
-use swarm_door::{CallFault, Door};
 use swarm_model::Settings;
 use swarm_wire::{Asked, Parts, WireFault, read_request};
 
@@ -37,7 +37,7 @@ fn stop_refusal(why: CallFault) -> Refusal
     }
 }
 
-// The route of what stands at a target, by the method of the request.
+/// The route of what stands at a target, by the method of the request.
 fn routed(resource: Option<Resource>, method: Method) -> Result<Route, Refusal>
     ensures route { IfOk result (λ route. routed resource method ≡ Ok route) }
     ensures refused { IfErr result (λ why. routed resource method ≡ Err (rule_of why)) }
@@ -98,7 +98,7 @@ fn call_door<D: Door, C: Clock>(
     }
 }
 
-// A malformed X-Swarming-After is reported before no_pool and no_task.
+/// A malformed X-Swarming-After is reported before no_pool and no_task.
 fn unless_front_broken(after: After, why: Refusal) -> Refusal
     ensures { unless_front_broken after (Err (rule_of why)) ≡ Err (rule_of result) }
 {
@@ -108,7 +108,7 @@ fn unless_front_broken(after: After, why: Refusal) -> Refusal
     }
 }
 
-fn shown_fault(alloc: Global, after: After, fault: WireFault) -> ReplyBytes
+fn fault_reply(alloc: Global, after: After, fault: WireFault) -> ReplyBytes
     ensures { (asked : Result Asked WireFault) → (fault ≢ WireFault.Memory → asked ≡ Err fault) → IsRejection result (with_front after asked) }
 {
     match fault {
@@ -123,7 +123,7 @@ fn shown_fault(alloc: Global, after: After, fault: WireFault) -> ReplyBytes
     }
 }
 
-// What a request asks for, or its refusal.
+/// What a request asks for, or its refusal.
 #[tactic(auto, using(crate::proofs::Pools::few_pools))]
 fn read_asked(
     alloc: Global,
@@ -146,11 +146,11 @@ fn read_asked(
             After::Broken => Err(ReplyBytes::Refused(Refusal::FrontBroken)),
             After::Absent | After::Front(_) => Ok(asked),
         },
-        Err(fault) => Err(shown_fault(alloc, after, fault)),
+        Err(fault) => Err(fault_reply(alloc, after, fault)),
     }
 }
 
-// Asks the pool of a request, unless the pool's settings deny it to the caller.
+/// Asks the pool of a request, unless the pool's settings deny it to the caller.
 fn ask_pool<D: Door, C: Clock>(
     alloc: Global,
     settings: &Settings,

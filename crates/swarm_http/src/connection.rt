@@ -4,18 +4,18 @@ ghost use Rattle.sw_base.specs.Link.{IsClean};
 ghost use Rattle.swarm_model.specs.Settings.{are_settings};
 ghost use Rattle.swarm_http.specs.Answered.{IsAnswered, KeepsDoor};
 ghost use Rattle.swarm_http.specs.Counting.{IsCounted};
-ghost use Rattle.swarm_http.specs.Steps.{IsStep, one_if};
+ghost use Rattle.swarm_http.specs.Steps.{IsStep, count_of};
 
 use crate::answer::answer_request;
 use crate::reply::ReplyBytes;
 use crate::request::{Incoming, take_request};
 use crate::send::{is_accepted, send_shown};
-use crate::{Counted, Ended};
+use crate::{ConnectionCounts, Ended};
 use link_reader::Pending;
+use pool_doors::Door;
 use routes::Routes;
 use std::alloc::{AllocError, Global};
 use sw_base::{Clock, Link};
-use swarm_door::Door;
 use swarm_model::Settings;
 
 /// Whether a connection goes on after a request.
@@ -37,7 +37,7 @@ enum Step {
 // The most requests of one connection.
 const REQUEST_LIMIT: u32 = 65536;
 
-// What a connection holds from its begin to its end: the bytes that are pending, and the router.
+/// What a connection holds from its begin to its end: the bytes that are pending, and the router.
 fn begin(alloc: Global) -> Result<(Pending, Routes), AllocError>
     ensures { IfOk result (λ held. held.0 ≡ []) }
 {
@@ -101,8 +101,8 @@ fn serve_one<D: Door, L: Link, C: Clock>(
     }
 }
 
-fn one_if(test: bool) -> u32
-    ensures one { result ≡ one_if test }
+fn count_of(test: bool) -> u32
+    ensures one { result ≡ count_of test }
     ensures few { result ≤ 1 }
 {
     if test { 1 } else { 0 }
@@ -116,7 +116,7 @@ pub fn counted_session<D: Door, L: Link, C: Clock>(
     door: &mut D,
     clock: &mut C,
     link: &mut L,
-) -> Counted
+) -> ConnectionCounts
     requires settings { (D.state door.old).settings ≡ settings.now }
     requires rules { IsTrue (are_settings settings.now) }
     requires calls { (D.state door.old).calls + 65536 ≤ 2 ^ 40 }
@@ -127,7 +127,7 @@ pub fn counted_session<D: Door, L: Link, C: Clock>(
     ensures door { KeepsDoor 65536 (D.state door.old) (D.state door.new) }
 {
     let Ok((mut pending, routes)) = begin(alloc) else {
-        return Counted {
+        return ConnectionCounts {
             ended: Ended::Memory,
             requests: 0,
             accepted: 0,
@@ -136,21 +136,21 @@ pub fn counted_session<D: Door, L: Link, C: Clock>(
     let mut good = 0;
     'requests: for turn in 0..REQUEST_LIMIT {
         match serve_one(alloc, settings, &routes, &mut pending, door, clock, link) {
-            Step::Next { accepted } => good += one_if(accepted),
+            Step::Next { accepted } => good += count_of(accepted),
             Step::End {
                 ended,
                 asked,
                 accepted,
             } => {
-                return Counted {
+                return ConnectionCounts {
                     ended,
-                    requests: turn + one_if(asked),
-                    accepted: good + one_if(accepted),
+                    requests: turn + count_of(asked),
+                    accepted: good + count_of(accepted),
                 };
             }
         }
     }
-    Counted {
+    ConnectionCounts {
         ended: Ended::Retired,
         requests: REQUEST_LIMIT,
         accepted: good,

@@ -2,7 +2,7 @@
 //! door, and their replies written, one after the other.
 //!
 //! [`session`] is the whole of it. Its contract, `IsAnswered` of `specs/Answered.antt`, is a relation
-//! between what it finds and what it leaves of its link, its clock and its door (`World`): there is
+//! between what it finds and what it leaves of its link, its clock and its door (`ConnectionState`): there is
 //! a list of exchanges, each a request as it stood on the link with its outcome, such that the bytes
 //! taken from the link are those requests one after the other and a rest, the bytes written are
 //! their replies, the moments that the clock handed in are theirs, and the logs of the pools grew
@@ -11,13 +11,13 @@
 //! of a reply are `shown` of `specs/Replies.antt`. What a request means, or the refusal that it gets
 //! before any pool is asked, is `request_of` of `specs/Requests.antt`.
 //!
-//! The crate passes on the link and the clock of `sw_base` and the door of `swarm_door`, which a
+//! The crate passes on the link and the clock of `sw_base` and the door of `pool_doors`, which a
 //! caller of [`session`] needs.
 #![tactic(auto)]
 
 mod answer;
 mod connection;
-mod counted;
+mod connection_counts;
 mod ended;
 mod permitting;
 mod reply;
@@ -25,7 +25,7 @@ mod request;
 mod send;
 
 pub use connection::{counted_session, session};
-pub use counted::Counted;
+pub use connection_counts::ConnectionCounts;
 pub use ended::Ended;
+pub use pool_doors::{Answered, CallFault, Door};
 pub use sw_base::{Clock, ConsoleLink, Failed, Link, MemoryLink, StepClock, SystemClock};
-pub use swarm_door::{Answered, CallFault, Door};

@@ -108,7 +108,7 @@ fn write_head(
     }
 }
 
-// The head of a reply whose body has a size, in a buffer of so much room.
+/// The head of a reply whose body has a size, in a buffer of so much room.
 fn head_bytes(
     alloc: Global,
     status: u16,
@@ -132,7 +132,7 @@ fn head_bytes(
     Ok(head.into_bytes())
 }
 
-// A head and its body in one buffer, whose memory is taken once.
+/// A head and its body in one buffer, whose memory is taken once.
 #[tactic(auto, unfolding(crate::specs::Replies::reply_text))]
 fn reply_bytes(
     alloc: Global,
@@ -151,7 +151,7 @@ fn reply_bytes(
     Ok(text)
 }
 
-// The content of a blob stays where it is: only the head takes memory.
+/// The content of a blob stays where it is: only the head takes memory.
 #[tactic(auto, unfolding(crate::specs::Replies::reply_text))]
 fn blob_reply(
     alloc: Global,

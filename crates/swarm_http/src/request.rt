@@ -4,7 +4,7 @@ ghost use Rattle.httparse.specs.Grammar.{RequestHead};
 ghost use Rattle.sw_base.specs.Link.{IsClean};
 ghost use Rattle.link_reader.specs.Heads.{IsHeadEnd};
 ghost use Rattle.request_head.specs.HeadFields.{size_of};
-ghost use Rattle.request_head.specs.Judging.{Says};
+ghost use Rattle.request_head.specs.HeadChecks.{IsHeadOf};
 ghost use Rattle.swarm_model.specs.declared.rule.Rule.TheVariants as Rule;
 ghost use Rattle.routes.specs.Routes.{pool_part, digest_part};
 ghost use Rattle.swarm_http.specs.Requests.{parts_of};
@@ -60,7 +60,7 @@ pub enum Incoming {
     Ends(Ended),
 }
 
-fn held_caller(alloc: Global, caller: Option<&str>) -> Caller
+fn owned_caller(alloc: Global, caller: Option<&str>) -> Caller
     ensures { IsCaller result (option_map (λ c. c.now) caller.entry) }
 {
     match caller {
@@ -72,7 +72,7 @@ fn held_caller(alloc: Global, caller: Option<&str>) -> Caller
     }
 }
 
-fn held_resource(found: Option<Found>) -> Option<Resource>
+fn owned_resource(found: Option<Found>) -> Option<Resource>
     ensures { result ≡ option_map (λ f. f.resource) found.entry }
 {
     Some(found?.resource)
@@ -87,8 +87,8 @@ fn new_parts(alloc: Global, pool: &str, digest: &str) -> Result<Parts, AllocErro
     })
 }
 
-// What the target names at which this was found.
-fn held_parts(alloc: Global, found: Option<Found>) -> Option<Parts>
+/// What the target names at which this was found.
+fn owned_parts(alloc: Global, found: Option<Found>) -> Option<Parts>
     ensures { (target : List ℕ) → IfSome found.entry (λ f. f.pool.now ≡ pool_part target) → IfSome found.entry (λ f. f.digest.now ≡ digest_part target) → IfSome result (λ parts. parts ≡ parts_of target) }
 {
     let found = found?;
@@ -96,20 +96,20 @@ fn held_parts(alloc: Global, found: Option<Found>) -> Option<Parts>
 }
 
 fn request_line_of(alloc: Global, routes: &Routes, head: &Head) -> RequestLine
-    ensures { (h : RequestHead) → Says h head.now → IsRequestLine result h }
+    ensures { (h : RequestHead) → IsHeadOf h head.now → IsRequestLine result h }
 {
     let found = routes.find(head.target);
     RequestLine {
-        resource: held_resource(found),
-        parts: held_parts(alloc, found),
+        resource: owned_resource(found),
+        parts: owned_parts(alloc, found),
         method: head.method,
-        who: held_caller(alloc, head.caller),
+        who: owned_caller(alloc, head.caller),
         after: head.after,
         closes: head.closes,
     }
 }
 
-// Takes the body behind a head of n bytes.
+/// Takes the body behind a head of n bytes.
 fn take_body<L: Link>(
     alloc: Global,
     n: usize,
@@ -145,7 +145,7 @@ fn too_large(limit: u32) -> Refusal
     }
 }
 
-// Takes the request whose head is the first n bytes that are pending.
+/// Takes the request whose head is the first n bytes that are pending.
 fn take_head<L: Link>(
     alloc: Global,
     routes: &Routes,

@@ -53,7 +53,7 @@ fn refusal_bytes(why: Refusal) -> &'static [u8]
     }
 }
 
-// The reply of a call that was carried out, where there was no memory for its own. It takes none.
+/// The reply of a call that was carried out, where there was no memory for its own. It takes none.
 fn want_of_memory_bytes(front: u64) -> ArrayString<192>
     ensures { result.bytes ≡ refusal (Some front) rule.WantOfMemory }
 {
@@ -81,14 +81,14 @@ pub fn send_shown<L: Link>(link: &mut L, shown: ReplyBytes) -> Result<(), Failed
     }
 }
 
-// The byte at a place, or 0 past the end.
+/// The byte at a place, or 0 past the end.
 fn byte_of(bytes: &[u8], place: usize) -> u8
     ensures { result ≡ get_or bytes.now place 0 }
 {
     if place < bytes.len() { bytes[place] } else { 0 }
 }
 
-// The byte at a place of two texts, one behind the other.
+/// The byte at a place of two texts, one behind the other.
 fn byte_of_both(front: &[u8], back: &[u8], place: usize) -> u8
     ensures { result ≡ get_or (front.now ++ back.now) place 0 }
 {

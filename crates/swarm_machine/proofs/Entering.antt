@@ -10,11 +10,11 @@ use Rattle.swarm_model.specs.History.{MayFollow}
 use Rattle.swarm_model.specs.Soundness.{IsSound}
 use Rattle.swarm_model.specs.Effects.{no_of_bot}
 use Rattle.swarm_model.specs.Finding.{is_bot}
-use Rattle.swarm_laws.proofs.Alike.{same_is}
-use Rattle.swarm_laws.proofs.Lists.{Found, find_is, number_within}
-use Rattle.swarm_laws.proofs.Preconditions.{Finds, IsOld, IsNewcomer}
-use Rattle.swarm_laws.proofs.EntryPreconditions.{finds}
-use Rattle.swarm_laws.proofs.Rows.{find_bot}
+use Rattle.pool_laws.proofs.Alike.{same_is}
+use Rattle.pool_laws.proofs.Lists.{Found, find_is, number_within}
+use Rattle.pool_laws.proofs.Preconditions.{Finds, IsOld, IsNewcomer}
+use Rattle.pool_laws.proofs.EntryPreconditions.{finds}
+use Rattle.pool_laws.proofs.Rows.{find_bot}
 use Rattle.bot_registry.specs.Plain.{RegistryState}
 use Rattle.bot_registry.specs.Acting.{row_of, row_named, Follows, IsNewBot}
 use Rattle.swarm_machine.specs.Changing.{IsNextTask}

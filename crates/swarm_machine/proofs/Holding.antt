@@ -12,7 +12,7 @@ use Rattle.swarm_model.specs.MachineState.{IsHistory}
 use Rattle.swarm_model.specs.Settings.{is_pool_name, is_grant, keeps_rules}
 use Rattle.swarm_model.specs.Words.{is_between}
 use Rattle.swarm_model.specs.Soundness.{IsSound}
-use Rattle.swarm_laws.proofs.Sound.{sound_always}
+use Rattle.pool_laws.proofs.Sound.{sound_always}
 use Rattle.row_changes.specs.Rows.{HasFewSlices, IsEarly, IsHeard}
 use Rattle.swarm_machine.specs.declared.pool.Pool.TheInside.{Inside}
 use Rattle.swarm_machine.specs.Inside.{state_of}

@@ -10,7 +10,7 @@ use Rattle.pool_index.specs.declared.use_link.UseLink.{UseLink}
 use Rattle.task_props.specs.declared.file.File.{File}
 use Rattle.task_props.specs.declared.slice.Slice.{Slice}
 use Rattle.pool_index.specs.Uses.{uses_of, IsListed, StaysListed, HasUses}
-use Rattle.swarm_machine.specs.Uses.{AreInputsListed, Gains, Loses, HasRoomFor, HasUsesFor}
+use Rattle.swarm_machine.specs.Uses.{AreInputsListed, AddsUses, RemovesUses, HasRoomFor, HasUsesFor}
 
 -- one, where the digests are the same
 abbrev pub one_of : List ℕ → List ℕ → ℕ
@@ -21,7 +21,7 @@ module _ (own : List ℕ) where
   one_own = ap (λ (b : Bool). cond {A = ℕ} b 1 0) ((bytes_decides own own).1 refl)
 
   -- a use of one digest more
-  pub one_gained : (old new : List UseLink) → HasUses own (uses_of old own + 1) old new → Gains (one_of own) old new
+  pub one_gained : (old new : List UseLink) → HasUses own (uses_of old own + 1) old new → AddsUses (one_of own) old new
   one_gained old new has = record {
     gained = λ digest. elim (cases_Bool (same own digest)) [
       | inl t ↦
@@ -35,7 +35,7 @@ module _ (own : List ℕ) where
   }
 
   -- and one less
-  pub one_lost : (old new : List UseLink) → 0 < uses_of old own → HasUses own (uses_of old own - 1) old new → Loses (one_of own) old new
+  pub one_lost : (old new : List UseLink) → 0 < uses_of old own → HasUses own (uses_of old own - 1) old new → RemovesUses (one_of own) old new
   one_lost old new used has = record {
     lost = λ digest. elim (cases_Bool (same own digest)) [
       | inl t ↦
@@ -88,7 +88,7 @@ module _ {X : Type 0} (items : List X) (place : ℕ) (item : X) (within : place 
     with_item digest = subst (λ (x : X). sum_by (adds digest) (take (place + 1) items) ≡ sum_by (adds digest) (take place items) + adds digest x) (sym is) (sum_by_more (adds digest) items place item within)
 
     -- what an item adds can be counted after those before it
-    pub room_for_item : (old now : List UseLink) → HasRoomFor (sum_of adds items) old → Gains (sum_of adds (take place items)) old now → HasRoomFor (λ digest. adds digest item) now
+    pub room_for_item : (old now : List UseLink) → HasRoomFor (sum_of adds items) old → AddsUses (sum_of adds (take place items)) old now → HasRoomFor (λ digest. adds digest item) now
     room_for_item old now room gains = record {
       small = λ digest.
           (let small = room.small digest in
@@ -97,7 +97,7 @@ module _ {X : Type 0} (items : List X) (place : ℕ) (item : X) (within : place 
           omega (arith, small, gained, more));
     }
 
-    pub gains_item : (old now new : List UseLink) → Gains (sum_of adds (take place items)) old now → Gains (λ digest. adds digest item) now new → Gains (sum_of adds (take (place + 1) items)) old new
+    pub gains_item : (old now new : List UseLink) → AddsUses (sum_of adds (take place items)) old now → AddsUses (λ digest. adds digest item) now new → AddsUses (sum_of adds (take (place + 1) items)) old new
     gains_item old now new before one = record {
       gained = λ digest.
           (let left = before.gained digest in
@@ -107,7 +107,7 @@ module _ {X : Type 0} (items : List X) (place : ℕ) (item : X) (within : place 
     }
 
     -- what it adds can be taken off after those before it
-    pub uses_for_item : (old now : List UseLink) → HasUsesFor (sum_of adds items) old → Loses (sum_of adds (take place items)) old now → HasUsesFor (λ digest. adds digest item) now
+    pub uses_for_item : (old now : List UseLink) → HasUsesFor (sum_of adds items) old → RemovesUses (sum_of adds (take place items)) old now → HasUsesFor (λ digest. adds digest item) now
     uses_for_item old now has loses = record {
       used = λ digest.
           (let used = has.used digest in
@@ -116,7 +116,7 @@ module _ {X : Type 0} (items : List X) (place : ℕ) (item : X) (within : place 
           omega (arith, used, lost, more));
     }
 
-    pub loses_item : (old now new : List UseLink) → Loses (sum_of adds (take place items)) old now → Loses (λ digest. adds digest item) now new → Loses (sum_of adds (take (place + 1) items)) old new
+    pub loses_item : (old now new : List UseLink) → RemovesUses (sum_of adds (take place items)) old now → RemovesUses (λ digest. adds digest item) now new → RemovesUses (sum_of adds (take (place + 1) items)) old new
     loses_item old now new before one = record {
       lost = λ digest.
           (let left = before.lost digest in

@@ -42,11 +42,11 @@ uses_brought fresh entry digest = 0
 -- ---- how counts change
 
 -- each digest has so many uses more
-pub record Gains (more : List ℕ → ℕ) (old new : List UseLink) : Type 0 where
+pub record AddsUses (more : List ℕ → ℕ) (old new : List UseLink) : Type 0 where
   pub gained : (digest : List ℕ) → uses_of new digest ≡ uses_of old digest + more digest
 
 -- each digest has so many uses less
-pub record Loses (less : List ℕ → ℕ) (old new : List UseLink) : Type 0 where
+pub record RemovesUses (less : List ℕ → ℕ) (old new : List UseLink) : Type 0 where
   pub lost : (digest : List ℕ) → uses_of new digest + less digest ≡ uses_of old digest
 
 -- so many uses more can be counted

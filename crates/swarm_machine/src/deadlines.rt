@@ -142,7 +142,7 @@ pub(crate) fn blob_end_with(rows: &Rows, kind: &EntryKind, fresh: Option<Chunk>)
 }
 
 /// Takes out a deadline, where there is one.
-fn take_out(ends: &mut DeadlineQueue, gone: Option<Deadline>)
+fn remove_deadline(ends: &mut DeadlineQueue, gone: Option<Deadline>)
     ensures moved { AreMoved gone None ends.old.deadlines ends.new.deadlines }
     ensures room { ends.old.room ≤ ends.new.room }
 {
@@ -172,6 +172,6 @@ pub(crate) fn move_deadline(
     requires { 0 < ends.old.room }
     ensures { AreMoved gone come ends.old.deadlines ends.new.deadlines }
 {
-    take_out(ends, gone);
+    remove_deadline(ends, gone);
     put_in(ends, come);
 }

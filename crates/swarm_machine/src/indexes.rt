@@ -12,7 +12,7 @@ ghost use Rattle.swarm_machine.specs.Indexes.{AreIndexes, AreReadyFor, IsTouched
 
 use crate::counting::{shift_counts, state_in};
 use crate::deadlines::{blob_end_with, move_deadline, put_bot_deadline, put_task_deadline};
-use crate::queueing::{prepare_queue, requeue};
+use crate::queueing::{move_in_queue, prepare_queue};
 use crate::rows::Rows;
 use crate::sources::prepare_source;
 use crate::touched::{touched_bot, touched_task};
@@ -147,7 +147,7 @@ impl Indexes {
     }
 
     /// Follows an entry, after which the rows are these. It takes no memory.
-    pub fn follow(&mut self, entry: &Entry, touched: Touched, rows: &Rows)
+    pub fn update_from(&mut self, entry: &Entry, touched: Touched, rows: &Rows)
         requires sound { IsSound (state_of rows.now) }
         requires behind { AreBehind self.old entry.now touched rows.now }
         ensures { AreIndexes self.new (state_of rows.now) }
@@ -156,7 +156,7 @@ impl Indexes {
         put_bot_deadline(&mut self.bot_ends, touched.bot, rows);
         let blob_end = blob_end_with(rows, &entry.kind, touched.fresh);
         move_deadline(&mut self.blob_ends, touched.blob_end, blob_end);
-        requeue(&mut self.queues, touched.task, rows);
+        move_in_queue(&mut self.queues, touched.task, rows);
         self.claims.add();
         self.uuids.add();
         self.sources.add();

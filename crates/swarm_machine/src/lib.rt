@@ -1,7 +1,7 @@
 //! The pool of the program: its rows, their log, and indexes beside them.
 //!
 //! [`Pool`] is a [`Machine`](swarm_model::Machine): its rows are the replay of its log, which is
-//! legal. It answers the queries of `swarm_rules` by indexes that its invariant alone ties to the
+//! legal. It answers the queries of `pool_rules` by indexes that its invariant alone ties to the
 //! rows (`specs/Indexes.antt`, `specs/Invariant.antt`), so its contract is that of any machine.
 //! `pool.rt` has the log and the queries, `rows.rt` the rows, which an entry changes
 //! (`changing_tasks.rt`), and `indexes.rt` the indexes. These are set anew for the rows that an

@@ -12,6 +12,7 @@ use crate::{pages, sources};
 use content_store::{Filled, Held};
 use dimensions::{BotDims, DimSet, Text};
 use ghost_values::GhostValue;
+use pool_rules::{PoolQueries, decide, due_entry};
 use std::alloc::{AllocError, Global};
 use std::marker::Model;
 use std::mem;
@@ -20,7 +21,6 @@ use swarm_model::{
     Answer, BlobRow, BotRow, Deadline, Decision, Entry, EntryKind, Machine, PoolSettings, ReadRows,
     Request, ReserveFault, Steps, TaskRow, TaskState, weight,
 };
-use swarm_rules::{PoolQueries, decide, due_entry};
 use task_props::Digest;
 
 /// The entry for which all lies ready, and its weight.
@@ -240,7 +240,7 @@ impl Machine for Pool {
     ghost use Rattle.swarm_model.specs.Answers.{answer};
     ghost use Rattle.swarm_model.specs.Deadlines.{due_entry};
     ghost use Rattle.swarm_model.specs.MachineState.{ShowsVerdict, ShowsOutput, ActsOnce, TakesOutcome};
-    ghost use Rattle.swarm_rules.specs.Costs.{asks_for_work};
+    ghost use Rattle.pool_rules.specs.Costs.{asks_for_work};
     ghost use Rattle.swarm_machine.specs.Plain.{machine_of};
 
     ghost kept = { machine_of };
@@ -317,7 +317,7 @@ impl Machine for Pool {
             Some(ready) => {
                 let touched = touched_by(&self.rows, &entry);
                 self.rows.apply(&entry, bytes);
-                self.indexes.follow(&entry, touched, &self.rows);
+                self.indexes.update_from(&entry, touched, &self.rows);
                 // For the proof: the limits of the settings.
                 let _most = self.rows.settings.most_weight;
                 self.weight += ready.weight;

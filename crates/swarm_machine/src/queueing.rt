@@ -36,7 +36,7 @@ fn enter_number(queues: &mut Queues, number: u32, rows: &Rows)
 }
 
 /// The touched task waits where its row says.
-pub(crate) fn requeue(queues: &mut Queues, touched: Option<u32>, rows: &Rows)
+pub(crate) fn move_in_queue(queues: &mut Queues, touched: Option<u32>, rows: &Rows)
     requires ready { IfSome (touched_place (state_of rows.now) touched) (λ place. queues.old.ready ≡ Some place.1) }
     ensures { IsRequeued touched (touched_place (state_of rows.now) touched) queues.old.queues queues.new.queues }
 {

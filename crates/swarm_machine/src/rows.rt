@@ -7,7 +7,7 @@ ghost use Rattle.swarm_model.specs.Settings.{keeps_rules};
 ghost use Rattle.swarm_model.specs.Soundness.{IsSound};
 ghost use Rattle.pool_changes.specs.Blobs.{AreBrought, fresh_in};
 ghost use Rattle.swarm_machine.specs.Changing.{run_to_end};
-ghost use Rattle.swarm_machine.specs.Inside.{state_of, IsReadyFor, IsOfSettings, Becomes};
+ghost use Rattle.swarm_machine.specs.Inside.{state_of, IsReadyFor, IsOfSettings, IsAfter};
 
 use crate::changing_tasks::change_tasks;
 use bot_registry::Registry;
@@ -107,7 +107,7 @@ impl Rows {
         requires of_settings { IsOfSettings self.old }
         requires few { self.old.blobs.placed < self.old.settings.most_entries }
         requires bytes { AreBrought entry.now.kind (option_map (λ b. b.now) bytes) }
-        ensures { Becomes self.old self.new entry.now.moment entry.now.kind (option_map (λ b. b.now) bytes.entry) }
+        ensures { IsAfter self.old self.new entry.now.moment entry.now.kind (option_map (λ b. b.now) bytes.entry) }
     {
         let effect = blob_effect(&entry.kind, self.fresh_in(&entry.kind));
         let life = self.blob_life();

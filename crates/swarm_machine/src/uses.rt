@@ -6,7 +6,7 @@ ghost use Rattle.swarm_model.specs.Uses.{is_chunk_of, is_file_of};
 ghost use Rattle.pool_index.specs.Uses.{uses_of, IsListed, SameUses, StaysListed};
 ghost use Rattle.index_laws.specs.StateCounts.{touched_row};
 ghost use Rattle.index_laws.specs.TaskUses.{chunks_with, times_named, uses_of_slices};
-ghost use Rattle.swarm_machine.specs.Uses.{AreInputsListed, AreListedFor, IsChunkOf, uses_of_chunk, uses_brought, Gains, Loses, HasRoomFor, HasUsesFor};
+ghost use Rattle.swarm_machine.specs.Uses.{AreInputsListed, AreListedFor, IsChunkOf, uses_of_chunk, uses_brought, AddsUses, RemovesUses, HasRoomFor, HasUsesFor};
 ghost use Rattle.swarm_machine.specs.Inside.{state_of};
 ghost use Rattle.swarm_machine.specs.UsesBehind.{AreUses, UsesAreBehind};
 
@@ -65,7 +65,7 @@ pub(crate) fn list_uses(uses: &mut UseCounts, kind: &EntryKind) -> Result<(), Al
 fn add_inputs(uses: &mut UseCounts, inputs: &[File])
     requires listed { All (λ file. IsListed uses.old file.digest) inputs.now }
     requires small { HasRoomFor (λ digest. count_by (is_file_of digest) inputs.now) uses.old }
-    ensures gains { Gains (λ digest. count_by (is_file_of digest) inputs.now) uses.old uses.new }
+    ensures gains { AddsUses (λ digest. count_by (is_file_of digest) inputs.now) uses.old uses.new }
     ensures kept { StaysListed uses.old uses.new }
 {
     for file in inputs {
@@ -76,7 +76,7 @@ fn add_inputs(uses: &mut UseCounts, inputs: &[File])
 fn add_slices(uses: &mut UseCounts, slices: &[Slice])
     requires listed { All (AreInputsListed uses.old) slices.now }
     requires small { HasRoomFor (λ digest. uses_of_slices digest slices.now) uses.old }
-    ensures gains { Gains (λ digest. uses_of_slices digest slices.now) uses.old uses.new }
+    ensures gains { AddsUses (λ digest. uses_of_slices digest slices.now) uses.old uses.new }
 {
     for slice in slices {
         add_inputs(uses, slice.properties.inputs.as_slice());
@@ -86,7 +86,7 @@ fn add_slices(uses: &mut UseCounts, slices: &[Slice])
 fn add_chunk(uses: &mut UseCounts, chunk: Option<Chunk>)
     requires listed { IfSome chunk (λ c. IsListed uses.old c.digest) }
     requires small { HasRoomFor (uses_of_chunk chunk) uses.old }
-    ensures gains { Gains (uses_of_chunk chunk) uses.old uses.new }
+    ensures gains { AddsUses (uses_of_chunk chunk) uses.old uses.new }
 {
     if let Some(chunk) = chunk {
         uses.add(&chunk.digest);
@@ -109,7 +109,7 @@ fn add_uses(uses: &mut UseCounts, kind: &EntryKind, fresh: Option<Chunk>)
 
 fn remove_inputs(uses: &mut UseCounts, inputs: &[File])
     requires { HasUsesFor (λ digest. count_by (is_file_of digest) inputs.now) uses.old }
-    ensures { Loses (λ digest. count_by (is_file_of digest) inputs.now) uses.old uses.new }
+    ensures { RemovesUses (λ digest. count_by (is_file_of digest) inputs.now) uses.old uses.new }
 {
     for file in inputs {
         uses.remove(&file.digest);
@@ -118,7 +118,7 @@ fn remove_inputs(uses: &mut UseCounts, inputs: &[File])
 
 fn remove_slices(uses: &mut UseCounts, slices: &[Slice])
     requires { HasUsesFor (λ digest. uses_of_slices digest slices.now) uses.old }
-    ensures { Loses (λ digest. uses_of_slices digest slices.now) uses.old uses.new }
+    ensures { RemovesUses (λ digest. uses_of_slices digest slices.now) uses.old uses.new }
 {
     for slice in slices {
         remove_inputs(uses, slice.properties.inputs.as_slice());
@@ -127,7 +127,7 @@ fn remove_slices(uses: &mut UseCounts, slices: &[Slice])
 
 fn remove_chunks(uses: &mut UseCounts, chunks: &[Chunk])
     requires { HasUsesFor (λ digest. count_by (is_chunk_of digest) chunks.now) uses.old }
-    ensures { Loses (λ digest. count_by (is_chunk_of digest) chunks.now) uses.old uses.new }
+    ensures { RemovesUses (λ digest. count_by (is_chunk_of digest) chunks.now) uses.old uses.new }
 {
     for chunk in chunks {
         uses.remove(&chunk.digest);
@@ -136,7 +136,7 @@ fn remove_chunks(uses: &mut UseCounts, chunks: &[Chunk])
 
 fn remove_output(uses: &mut UseCounts, attempt: &Option<Attempt>)
     requires { HasUsesFor (λ digest. option_map_or (chunks_with digest) attempt.now 0) uses.old }
-    ensures { Loses (λ digest. option_map_or (chunks_with digest) attempt.now 0) uses.old uses.new }
+    ensures { RemovesUses (λ digest. option_map_or (chunks_with digest) attempt.now 0) uses.old uses.new }
 {
     if let Some(attempt) = attempt {
         remove_chunks(uses, attempt.chunks.as_slice());

@@ -102,9 +102,9 @@ new_task s who moment request =
     otherwise accepted s who request
 
 -- what follows where there is a value, and the refusal where there is none
-abbrev pub with : {A : Type 0} → Option A → Rule → (A → Decision) → Decision
-with None why next = refusal why
-with (Some value) why next = next value
+abbrev pub or_refuse : {A : Type 0} → Option A → Rule → (A → Decision) → Decision
+or_refuse None why next = refusal why
+or_refuse (Some value) why next = next value
 
 abbrev pub has_try : ℕ → Option Attempt → Bool
 has_try try_no attempt = option_map_or (λ a. a.try_no == try_no) attempt false
@@ -312,15 +312,15 @@ abbrev pub unplaced_chunk : PoolState → Option Chunk → Option Chunk
 unplaced_chunk s chunk = option_and_then (λ c. when (not (can_take s c.digest c.size)) c) chunk
 
 -- the report ends the run, or brings a chunk
-abbrev pub is_news : Attempt → Option Chunk → Option Last → Bool
-is_news attempt chunk last = is_some last || is_some (fresh_chunk (Some attempt) chunk)
+abbrev pub is_first_report : Attempt → Option Chunk → Option Last → Bool
+is_first_report attempt chunk last = is_some last || is_some (fresh_chunk (Some attempt) chunk)
 
 abbrev pub report_running : PoolState → BotRow → TaskRow → Option Chunk → Option Last → Attempt → Decision
 report_running s bot task chunk last attempt =
     option_map refusal (option_and_then (chunk_rule attempt) chunk)
     otherwise option_map file_missing (missing_file s (files_of last))
     otherwise option_map (λ c. store_full s c.size) (unplaced_chunk s (fresh_chunk (Some attempt) chunk))
-    otherwise when (is_news attempt chunk last) (updates attempt (kind.Update bot.no task.no attempt.try_no chunk last))
+    otherwise when (is_first_report attempt chunk last) (updates attempt (kind.Update bot.no task.no attempt.try_no chunk last))
     otherwise updates attempt (kind.Contact bot.no)
 
 abbrev pub report : PoolState → BotRow → TaskRow → Option Chunk → Option Last → Attempt → Decision
@@ -339,10 +339,10 @@ report_on s bot task chunk last attempt =
 
 -- what a bot reports on a run
 abbrev pub update_row : PoolState → BotRow → Option Chunk → Option Last → TaskRow → Decision
-update_row s bot chunk last task = with task.attempt rule.NoTask (report_on s bot task chunk last)
+update_row s bot chunk last task = or_refuse task.attempt rule.NoTask (report_on s bot task chunk last)
 
 abbrev pub update : PoolState → ℕ → ℕ → Option Chunk → Option Last → BotRow → Decision
-update s task try_no chunk last bot = with (named_task s task try_no) rule.NoTask (update_row s bot chunk last)
+update s task try_no chunk last bot = or_refuse (named_task s task try_no) rule.NoTask (update_row s bot chunk last)
 
 abbrev pub terminate : BotRow → Decision
 terminate bot = if bot.terminating then reply_only reply.Terminating else reply_with_entry reply.Terminating (kind.Terminate bot.no)
@@ -377,21 +377,21 @@ find_missing s blobs = reply_only (reply.Missing (filter (is_missing s) blobs))
 -- what a caller is told at a moment
 abbrev pub decide : PoolState → List ℕ → ℕ → Request → Decision
 decide s who moment (ask.New request) = new_task s who moment request
-decide s who moment (ask.Cancel task try_no kill) = with (named_task s task try_no) rule.NoTask (cancel s who kill)
-decide s who moment (ask.Result task try_no) = with (named_task s task try_no) rule.NoTask (result_of s who)
-decide s who moment (ask.Stdout task try_no offset length) = with (named_task s task try_no) rule.NoTask (stdout_of s who offset length)
+decide s who moment (ask.Cancel task try_no kill) = or_refuse (named_task s task try_no) rule.NoTask (cancel s who kill)
+decide s who moment (ask.Result task try_no) = or_refuse (named_task s task try_no) rule.NoTask (result_of s who)
+decide s who moment (ask.Stdout task try_no offset length) = or_refuse (named_task s task try_no) rule.NoTask (stdout_of s who offset length)
 decide s who moment (ask.List state limit below) = list_tasks s limit (listed_tasks s state below)
 decide s who moment (ask.Count state) = count_tasks s state
 decide s who moment (ask.Handshake bot session dims quarantined) = handshake s bot session dims quarantined
-decide s who moment (ask.Poll bot dims quarantined) = with (bot_named s bot) rule.NoBot (poll s dims quarantined)
-decide s who moment (ask.Claim bot id) = with (bot_named s bot) rule.NoBot (claim s id)
-decide s who moment (ask.Event bot which message) = with (bot_named s bot) rule.NoBot (event which message)
-decide s who moment (ask.Update bot task try_no chunk last) = with (bot_named s bot) rule.NoBot (update s task try_no chunk last)
-decide s who moment (ask.Terminate bot) = with (bot_named s bot) rule.NoBot terminate
+decide s who moment (ask.Poll bot dims quarantined) = or_refuse (bot_named s bot) rule.NoBot (poll s dims quarantined)
+decide s who moment (ask.Claim bot id) = or_refuse (bot_named s bot) rule.NoBot (claim s id)
+decide s who moment (ask.Event bot which message) = or_refuse (bot_named s bot) rule.NoBot (event which message)
+decide s who moment (ask.Update bot task try_no chunk last) = or_refuse (bot_named s bot) rule.NoBot (update s task try_no chunk last)
+decide s who moment (ask.Terminate bot) = or_refuse (bot_named s bot) rule.NoBot terminate
 decide s who moment (ask.Bots limit after) = list_bots s limit (listed_bots s after)
-decide s who moment (ask.Bot bot) = with (bot_named s bot) rule.NoBot (show_bot s)
+decide s who moment (ask.Bot bot) = or_refuse (bot_named s bot) rule.NoBot (show_bot s)
 decide s who moment (ask.PutBlob named actual size) = put_blob s named actual size
-decide s who moment (ask.GetBlob digest) = with (blob_of s digest) (rule.BlobMissing digest) show_blob
+decide s who moment (ask.GetBlob digest) = or_refuse (blob_of s digest) (rule.BlobMissing digest) show_blob
 decide s who moment (ask.FindMissing blobs) = find_missing s blobs
 
 abbrev pub entry_at : ℕ → ℕ → EntryKind → Entry

@@ -104,26 +104,26 @@ fresh_chunk None chunk = None
 fresh_chunk (Some attempt) None = None
 fresh_chunk (Some attempt) (Some chunk) = if chunk.start == attempt.length then Some chunk else None
 
-abbrev pub longer : Chunk → Attempt → Attempt
-longer chunk attempt = record attempt { chunks = attempt.chunks ++ chunk ∷ []; length = attempt.length + chunk.size }
+abbrev pub with_chunk : Chunk → Attempt → Attempt
+with_chunk chunk attempt = record attempt { chunks = attempt.chunks ++ chunk ∷ []; length = attempt.length + chunk.size }
 
 -- the output of the run goes on by a chunk
 abbrev pub lengthened : Chunk → TaskRow → TaskRow
-lengthened chunk task = record task { attempt = option_map (longer chunk) task.attempt }
+lengthened chunk task = record task { attempt = option_map (with_chunk chunk) task.attempt }
 
 -- the state that a last update reports
 abbrev pub reported : Last → TaskState
 reported last = if last.hard_timeout || last.io_timeout then TimedOut else Completed
 
-abbrev pub closed : Option Chunk → Last → Attempt → Attempt
-closed chunk last attempt = record attempt { last = Some last; last_chunk = chunk }
+abbrev pub with_last_report : Option Chunk → Last → Attempt → Attempt
+with_last_report chunk last attempt = record attempt { last = Some last; last_chunk = chunk }
 
 -- the run ends with a last update
 abbrev pub ended_run : ℕ → Option Chunk → Last → TaskRow → TaskRow
 ended_run moment chunk last task =
     record task {
       state = end_state task.attempt (reported last);
-      attempt = option_map (closed chunk last) task.attempt;
+      attempt = option_map (with_last_report chunk last) task.attempt;
       ended = Some moment;
     }
 
@@ -194,14 +194,14 @@ polled moment dims quarantined hint bot =
       streak = streak_after hint bot;
     }
 
-abbrev pub told : EventKind → List ℕ → BotRow → BotRow
-told event.Ping message bot = bot
-told event.Quarantine message bot = record bot { quarantined = message }
-told event.Unquarantine message bot = record bot { quarantined = [] }
+abbrev pub with_event : EventKind → List ℕ → BotRow → BotRow
+with_event event.Ping message bot = bot
+with_event event.Quarantine message bot = record bot { quarantined = message }
+with_event event.Unquarantine message bot = record bot { quarantined = [] }
 
 -- the bot told of itself
 abbrev pub event_effect : ℕ → EventKind → List ℕ → BotRow → BotRow
-event_effect moment which message bot = told which message (heard moment bot)
+event_effect moment which message bot = with_event which message (heard moment bot)
 
 -- the row of a bot that comes with a new session
 abbrev pub session_row : ℕ → ℕ → List ℕ → List ℕ → BotDims → List ℕ → BotRow

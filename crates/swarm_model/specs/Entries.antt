@@ -86,42 +86,42 @@ is_deadline (kind.Blob n kept) = true
 is_deadline entry = false
 
 -- a request whose caller is not kept; no answer looks at it
-abbrev pub by_nobody : Request → Asked
-by_nobody request = record { who = []; request = request }
+abbrev pub without_caller : Request → Asked
+without_caller request = record { who = []; request = request }
 
 abbrev pub poll_of : Option BotDims → Option Text → BotRow → Asked
-poll_of dims q bot = by_nobody (ask.Poll bot.name (unwrap_or dims bot.dims) (unwrap_or q bot.quarantined))
+poll_of dims q bot = without_caller (ask.Poll bot.name (unwrap_or dims bot.dims) (unwrap_or q bot.quarantined))
 
 abbrev pub claim_of : List ℕ → BotRow → Asked
-claim_of claim bot = by_nobody (ask.Claim bot.name claim)
+claim_of claim bot = without_caller (ask.Claim bot.name claim)
 
 abbrev pub handshake_of : BotRow → Asked
-handshake_of bot = by_nobody (ask.Handshake bot.name bot.session bot.dims bot.quarantined)
+handshake_of bot = without_caller (ask.Handshake bot.name bot.session bot.dims bot.quarantined)
 
 abbrev pub event_of : EventKind → List ℕ → BotRow → Asked
-event_of which message bot = by_nobody (ask.Event bot.name which message)
+event_of which message bot = without_caller (ask.Event bot.name which message)
 
 abbrev pub terminate_of : BotRow → Asked
-terminate_of bot = by_nobody (ask.Terminate bot.name)
+terminate_of bot = without_caller (ask.Terminate bot.name)
 
 -- the creator of a task has it canceled, with its run
 abbrev pub cancel_of : TaskRow → Asked
 cancel_of task = record { who = task.creator; request = ask.Cancel task.no 0 true }
 
 abbrev pub update_of : ℕ → ℕ → Option Chunk → Option Last → BotRow → Asked
-update_of task try_no chunk last bot = by_nobody (ask.Update bot.name task try_no chunk last)
+update_of task try_no chunk last bot = without_caller (ask.Update bot.name task try_no chunk last)
 
 -- the request for which an entry stands; none, where it is a deadline's
 abbrev pub asks : PoolState → EntryKind → Option Asked
 asks s (kind.New t who request state slice from) = Some (record { who = who; request = ask.New request })
 asks s (kind.Cancel t) = option_map cancel_of (task_of s t)
 asks s (kind.Kill t) = option_map cancel_of (task_of s t)
-asks s (kind.Handshake b id session dims q) = Some (by_nobody (ask.Handshake id session dims q))
+asks s (kind.Handshake b id session dims q) = Some (without_caller (ask.Handshake id session dims q))
 asks s (kind.Poll b dims q hint) = option_map (poll_of dims q) (bot_of s b)
 asks s (kind.Claim b t claim) = option_map (claim_of claim) (bot_of s b)
 asks s (kind.Contact b) = option_map handshake_of (bot_of s b)
 asks s (kind.Event b e text) = option_map (event_of e text) (bot_of s b)
 asks s (kind.Update b t try_no chunk last) = option_map (update_of t try_no chunk last) (bot_of s b)
 asks s (kind.Terminate b) = option_map terminate_of (bot_of s b)
-asks s (kind.Put digest size) = Some (by_nobody (ask.PutBlob digest digest size))
+asks s (kind.Put digest size) = Some (without_caller (ask.PutBlob digest digest size))
 asks s entry = None

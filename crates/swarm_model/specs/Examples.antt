@@ -37,5 +37,5 @@ small_task secs =
     }
 
 -- the report of a run that ended by itself
-abbrev pub exits : ℤ → Last
-exits code = record { exit_code = code; duration_ms = 10; hard_timeout = false; io_timeout = false; dropped = 0; files = [] }
+abbrev pub exited_with : ℤ → Last
+exited_with code = record { exit_code = code; duration_ms = 10; hard_timeout = false; io_timeout = false; dropped = 0; files = [] }

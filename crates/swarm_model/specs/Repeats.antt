@@ -91,12 +91,12 @@ UpdateIsOver =
     → answer s who moment pass (ask.Update name t try_no chunk last) ≡ record { reply = reply.No (rule.AttemptOver task.state); entry = None }
 
 -- a bot that was heard: its contact, and its dead mark where it runs a task
-abbrev pub only_heard : ℕ → BotRow → BotRow
-only_heard moment bot = record bot { contact = moment; dead = if is_some bot.task then false else bot.dead }
+abbrev pub contact_only : ℕ → BotRow → BotRow
+contact_only moment bot = record bot { contact = moment; dead = if is_some bot.task then false else bot.dead }
 
 -- that a bot was heard changes only that, and the last moment
 abbrev pub ContactChanges : Type 0
 ContactChanges =
     (s : PoolState) (moment pass b : ℕ)
     → after s (entry_at moment pass (kind.Contact b))
-    ≡ record s { last = moment; bots = map (λ bot. if bot.no == b then only_heard moment bot else bot) s.bots }
+    ≡ record s { last = moment; bots = map (λ bot. if bot.no == b then contact_only moment bot else bot) s.bots }

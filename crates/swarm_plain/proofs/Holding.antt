@@ -5,7 +5,7 @@ use Rattle.task_props.proofs.Checked.{slices_counted}
 use Rattle.swarm_model.specs.declared.pool_state.PoolState.{PoolState}
 use Rattle.swarm_model.specs.Soundness.{IsSound}
 use Rattle.swarm_model.specs.MachineState.{IsHistory}
-use Rattle.swarm_laws.proofs.Sound.{sound_always}
+use Rattle.pool_laws.proofs.Sound.{sound_always}
 use Rattle.swarm_plain.specs.declared.rows.Rows.{Rows}
 use Rattle.swarm_plain.specs.declared.list_pool.ListPool.TheInside.{Inside}
 use Rattle.row_changes.specs.Rows.{HasFewSlices, IsEarly, IsHeard}

@@ -39,7 +39,7 @@ HasChunkRoom tasks spare (kind.Update b t try_no chunk last) = TakesFresh spare 
 HasChunkRoom tasks spare entry = ⊤
 
 -- the rows, and the bytes that are held, go on by an entry of this kind, with which these bytes come
-pub record Becomes (old new : Rows) (moment : ℕ) (k : EntryKind) (bytes : Option (List ℕ)) : Type 0 where
+pub record IsAfter (old new : Rows) (moment : ℕ) (k : EntryKind) (bytes : Option (List ℕ)) : Type 0 where
   pub state : state_of new ≡ after (state_of old) (entry_at moment 0 k)
   pub settings : new.settings ≡ old.settings
   pub held : held_in new.blobs ≡ held_after (state_of old) k bytes (held_in old.blobs)

@@ -8,7 +8,7 @@ ghost use Rattle.swarm_model.specs.Soundness.{IsSound};
 ghost use Rattle.row_changes.specs.Output.{run_of, StaysShort, TakesFresh};
 ghost use Rattle.row_changes.specs.Parts.{task_parts};
 ghost use Rattle.pool_changes.specs.Blobs.{IsOfPool, AreBrought, KeepsShort, fresh_in};
-ghost use Rattle.swarm_plain.specs.Inside.{state_of, IsInOrder, HasRoom, HasChunkRoom, Becomes, with_claim, with_new, with_report};
+ghost use Rattle.swarm_plain.specs.Inside.{state_of, IsInOrder, HasRoom, HasChunkRoom, IsAfter, with_claim, with_new, with_report};
 
 use crate::rows::Rows;
 use pool_changes::{blob_effect, change_blobs};
@@ -178,7 +178,7 @@ impl Rows {
         requires few { self.old.blobs.placed < self.old.settings.most_entries }
         requires copy { copy ≡ entry.now }
         requires bytes { AreBrought entry.now.kind (option_map (λ b. b.now) bytes) }
-        ensures { Becomes self.old self.new entry.now.moment entry.now.kind (option_map (λ b. b.now) bytes.entry) }
+        ensures { IsAfter self.old self.new entry.now.moment entry.now.kind (option_map (λ b. b.now) bytes.entry) }
     {
         let Entry {
             moment: _,

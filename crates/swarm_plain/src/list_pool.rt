@@ -7,6 +7,7 @@ use crate::rows::Rows;
 use crate::{pages, scans, sources};
 use content_store::{Blobs, Filled, Held};
 use dimensions::{BotDims, DimSet, Text, TryCopy};
+use pool_rules::{PoolQueries, decide, due_entry};
 use reserved_vec::SpareBuffer;
 use row_changes::{is_capable, row_of};
 use std::alloc::{AllocError, Global};
@@ -17,7 +18,6 @@ use swarm_model::{
     Answer, BlobRow, BotRow, Deadline, Decision, Entry, EntryKind, Machine, PoolSettings, Request,
     ReserveFault, Steps, TaskRow, TaskState, weight,
 };
-use swarm_rules::{PoolQueries, decide, due_entry};
 use task_props::Digest;
 
 /// The most blobs of a pool.

@@ -9,7 +9,7 @@ use Rattle.sw_base.specs.Listeners.{ListenerState, Gives}
 use Rattle.sw_base.specs.Told.{Adds}
 use Rattle.swarm_model.specs.declared.pool_settings.PoolSettings.{PoolSettings}
 use Rattle.swarm_model.specs.declared.pool_settings.Settings.{Settings}
-use Rattle.swarm_door.specs.Doors.{DoorState, Logs}
+use Rattle.pool_doors.specs.Doors.{DoorState, Logs}
 use Rattle.shared_doors.specs.Joined.{IsAloneView}
 use Rattle.shared_doors.specs.declared.view.PoolView.{PoolView}
 use Rattle.swarm_workers.specs.declared.worked.WorkStop.{WorkStop}

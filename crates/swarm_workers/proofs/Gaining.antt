@@ -4,9 +4,9 @@ use Rattle.std.specs.List.{flat_map}
 use Rattle.std.proofs.lemmas.List.Concat.{flat_map-append}
 use Rattle.std.proofs.lemmas.List.Elements.{filter-append}
 use Rattle.swarm_model.specs.declared.entry.Entry.{Entry}
-use Rattle.swarm_door.specs.Doors.{DoorState, Writer}
+use Rattle.pool_doors.specs.Doors.{DoorState, Writer}
 use Rattle.swarm_http.specs.Exchange.{GainsOnce, AreOnce, entries_of, has_pass}
-use Rattle.swarm_workers.specs.Works.{Visit, Sessions}
+use Rattle.swarm_workers.specs.Works.{ServedLink, Sessions}
 use Rattle.swarm_workers.specs.Shared.{exchanges}
 
 -- nothing is added
@@ -23,7 +23,7 @@ gains_both pass alone a b c xs ys g h = record {
 }
 
 -- along sessions each log gains the entries of their requests once, under the numbers of the door, whose writer stays
-pub sessions_once : (a b : ℕ → Option (List ℕ)) (old new : DoorState) (visits : List Visit) (so : Sessions a b old new visits)
+pub sessions_once : (a b : ℕ → Option (List ℕ)) (old new : DoorState) (visits : List ServedLink) (so : Sessions a b old new visits)
     → AreOnce old.writer old.seen (exchanges a b old new visits so) new.seen
 sessions_once a b old new [] so = λ p. gains_none (old.writer.numbers p) old.writer.alone (old.seen p) (new.seen p) (ap (λ (d : DoorState). d.seen p) so.1)
 sessions_once a b old new (v ∷ visits) so = λ p.

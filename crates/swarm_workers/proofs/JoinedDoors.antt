@@ -8,7 +8,7 @@ use Rattle.sw_base.specs.Listeners.{ListenerState, Shuts}
 use Rattle.sw_base.specs.Told.{Adds, IsOut}
 use Rattle.swarm_model.specs.declared.entry.Entry.{Entry}
 use Rattle.swarm_model.specs.declared.pool_settings.PoolSettings.{PoolSettings}
-use Rattle.swarm_door.specs.Doors.{DoorState}
+use Rattle.pool_doors.specs.Doors.{DoorState}
 use Rattle.turnstile.specs.Numbers.{times, own}
 use Rattle.shared_doors.specs.declared.view.PoolView.{PoolView}
 use Rattle.shared_doors.specs.Joined.{by, Joins}

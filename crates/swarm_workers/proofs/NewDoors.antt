@@ -3,7 +3,7 @@ use Rattle.std.proofs.Common.{◌≡◌, ℕ, zero, suc, ◌+◌, ◌<◌, List,
 use Rattle.std.proofs.lemmas.List.{get_or_past, get_or-map, length-map, map-append}
 use Rattle.swarm_model.specs.declared.entry.Entry.{Entry}
 use Rattle.swarm_model.specs.declared.pool_settings.Settings.{Settings}
-use Rattle.swarm_door.specs.Doors.{DoorState}
+use Rattle.pool_doors.specs.Doors.{DoorState}
 use Rattle.turnstile.specs.declared.pass.Pass.{Pass}
 use Rattle.turnstile.specs.declared.turnstile.Turnstile.{Turnstile}
 use Rattle.turnstile.specs.Passes.{fixed_of}

@@ -4,7 +4,7 @@ use Rattle.std.specs.List.{All, AllZip, AllByRecursion, flat_map}
 use Rattle.std.proofs.lemmas.List.Elements.{All-head, All-tail}
 use Rattle.swarm_model.specs.declared.entry.Entry.{Entry}
 use Rattle.swarm_model.specs.declared.pool_settings.Settings.{Settings}
-use Rattle.swarm_door.specs.Doors.{DoorState, Writer, Logs}
+use Rattle.pool_doors.specs.Doors.{DoorState, Writer, Logs}
 use Rattle.swarm_http.specs.Exchange.{entries_of, has_pass}
 use Rattle.turnstile.specs.Numbers.{times, own}
 use Rattle.shared_doors.specs.Joined.{by, IsAloneView}

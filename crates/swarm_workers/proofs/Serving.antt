@@ -10,7 +10,7 @@ use Rattle.sw_base.specs.Listeners.{ListenerState, Gives, IsGiven, IsShare}
 use Rattle.swarm_model.specs.declared.entry.Entry.{Entry}
 use Rattle.swarm_model.specs.declared.pool_settings.PoolSettings.{PoolSettings}
 use Rattle.swarm_model.specs.declared.pool_settings.Settings.{Settings}
-use Rattle.swarm_door.specs.Doors.{Logs}
+use Rattle.pool_doors.specs.Doors.{Logs}
 use Rattle.turnstile.specs.Numbers.{times}
 use Rattle.shared_doors.specs.declared.view.PoolView.{PoolView}
 use Rattle.swarm_workers.specs.declared.worked.WorkStop.{WorkStop}

@@ -6,12 +6,12 @@ use Rattle.sw_base.specs.Faults.{Rose}
 use Rattle.sw_base.specs.Link.{LinkState}
 use Rattle.sw_base.specs.Told.{Loses, Gains, IsNoMore}
 use Rattle.sw_base.specs.Acceptors.{AcceptorState, Comes, Ends}
-use Rattle.swarm_door.specs.Doors.{DoorState}
+use Rattle.pool_doors.specs.Doors.{DoorState}
 use Rattle.swarm_http.specs.declared.ended.Ended.{Ended}
 use Rattle.swarm_http.specs.declared.ended.Ended.TheVariants as ended
-use Rattle.swarm_http.specs.Answered.{World, IsAnswered, KeepsDoor}
+use Rattle.swarm_http.specs.Answered.{ConnectionState, IsAnswered, KeepsDoor}
 use Rattle.swarm_workers.specs.declared.worked.WorkStop.TheVariants as stop
-use Rattle.swarm_workers.specs.Works.{Visit, Sessions, HasFaultsCounted, HadMemory, IsWorked, IsServed, IsIdle}
+use Rattle.swarm_workers.specs.Works.{ServedLink, Sessions, HasFaultsCounted, HadMemory, IsWorked, IsServed, IsIdle}
 
 abbrev Ahead : Type 0
 Ahead = ℕ → Option (List ℕ)
@@ -59,10 +59,10 @@ gains_none None = refl
 gains_none (Some l) = ap Some (sym (append-nil l))
 
 -- the session that came
-abbrev visit : {s t : AcceptorState} {a b : Ahead} {old new : DoorState} → IsServed s t a b old new → Visit
+abbrev visit : {s t : AcceptorState} {a b : Ahead} {old new : DoorState} → IsServed s t a b old new → ServedLink
 visit {b = b} {new = new} x = record { first = x.first; last = x.last; ending = x.ending; ahead = b; door = new }
 
-sessions_more : (a b c : Ahead) (old new newer : DoorState) (visits : List Visit) (first last : LinkState) (ending : Ended)
+sessions_more : (a b c : Ahead) (old new newer : DoorState) (visits : List ServedLink) (first last : LinkState) (ending : Ended)
     → Sessions a b old new visits → IsAnswered (record { link = first; clock = b; door = new }) (record { link = last; clock = c; door = newer }) ending → KeepsDoor 65536 new newer
     → Sessions a c old newer (visits ++ record { first = first; last = last; ending = ending; ahead = c; door = newer } ∷ [])
 sessions_more a b c old new newer [] first last ending so x keeps = (
@@ -87,7 +87,7 @@ keeps_more n x k = record {
 }
 
 -- so many links were served
-pub record Visited (visits : List Visit) (n : ℕ) (s t : AcceptorState) (a b : Ahead) (d e : DoorState) : Type 0 where
+pub record Visited (visits : List ServedLink) (n : ℕ) (s t : AcceptorState) (a b : Ahead) (d e : DoorState) : Type 0 where
   pub number : length visits ≡ n
   pub coming : Loses s.coming t.coming (map (λ v. v.first) visits)
   pub served : Gains s.served t.served (map (λ v. v.last) visits)
@@ -98,7 +98,7 @@ pub record Visited (visits : List Visit) (n : ℕ) (s t : AcceptorState) (a b : 
   pub door : KeepsDoor (65536 * n) d e
 
 pub record SoFar (n : ℕ) (s t : AcceptorState) (a b : Ahead) (d e : DoorState) : Type 0 where
-  pub visits : List Visit
+  pub visits : List ServedLink
   pub visited : Visited visits n s t a b d e
   pub had : HadMemory visits
 
@@ -123,8 +123,8 @@ rose_above m n e r = let k : min (0 + 1) (2 ^ 64 - 1) ≤ n = subst (λ x. min (
 
 counted_so : {s t : AcceptorState} {a b : Ahead} {old new : DoorState} (x : IsServed s t a b old new) → HasFaultsCounted (visit x)
 counted_so {a = a} {b = b} {old = old} {new = new} x =
-    let v : World = record { link = x.first; clock = a; door = old } in
-    let w : World = record { link = x.last; clock = b; door = new } in
+    let v : ConnectionState = record { link = x.first; clock = a; door = old } in
+    let w : ConnectionState = record { link = x.last; clock = b; door = new } in
     record {
       fresh = x.fresh;
       reads = λ e. rose_above x.first.read_faults x.last.read_faults x.fresh.reads (subst (IsAnswered v w) e x.answered).ends.0;
@@ -132,7 +132,7 @@ counted_so {a = a} {b = b} {old = old} {new = new} x =
     }
 
 -- one more was served
-pub visited_more : {visits : List Visit} {n : ℕ} {s t u : AcceptorState} {a b c : Ahead} {d e f : DoorState}
+pub visited_more : {visits : List ServedLink} {n : ℕ} {s t u : AcceptorState} {a b c : Ahead} {d e f : DoorState}
     → Visited visits n s t a b d e → (x : IsServed t u b c e f) → KeepsDoor 65536 e f → Visited (visits ++ visit x ∷ []) (n + 1) s u a c d f
 visited_more {visits = visits} {n = n} {s = s} {t = t} {u = u} {a = a} {b = b} {c = c} {d = d} {e = e} {f = f} v x keeps = record {
   number = length-append visits (visit x ∷ []) ∙ ap (λ k. k + 1) v.number;
@@ -170,7 +170,7 @@ lacked_memory so x memory keeps =
     }
 
 -- nothing more was served
-still : (visits : List Visit) (a : Ahead) (old : DoorState) {s t : AcceptorState} {b c : Ahead} {new newer : DoorState}
+still : (visits : List ServedLink) (a : Ahead) (old : DoorState) {s t : AcceptorState} {b c : Ahead} {new newer : DoorState}
     → Sessions a b old new visits → IsIdle s t b c new newer → Sessions a c old newer visits
 still visits a old {b = b} {newer = newer} so idle =
     subst (λ k. Sessions a k old newer visits) (sym idle.clock)

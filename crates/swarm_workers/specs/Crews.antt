@@ -5,7 +5,7 @@ use Rattle.sw_base.specs.Acceptors.{AcceptorState}
 use Rattle.sw_base.specs.Listeners.{ListenerState, Shuts}
 use Rattle.swarm_model.specs.declared.entry.Entry.{Entry}
 use Rattle.swarm_model.specs.declared.pool_settings.Settings.{Settings}
-use Rattle.swarm_door.specs.Doors.{DoorState}
+use Rattle.pool_doors.specs.Doors.{DoorState}
 use Rattle.swarm_http.specs.Answered.{KeepsDoor}
 use Rattle.turnstile.specs.Numbers.{times, own}
 use Rattle.shared_doors.specs.Joined.{by}

@@ -8,14 +8,14 @@ use Rattle.swarm_model.specs.declared.pool_settings.PoolSettings.{PoolSettings}
 use Rattle.swarm_model.specs.declared.pool_settings.Settings.{Settings}
 use Rattle.swarm_model.specs.Effects.{opening}
 use Rattle.swarm_model.specs.History.{IsLegal}
-use Rattle.swarm_door.specs.Doors.{DoorState, Logs}
+use Rattle.pool_doors.specs.Doors.{DoorState, Logs}
 use Rattle.swarm_http.specs.Exchange.{Exchange, entries_of, has_pass}
 use Rattle.swarm_workers.specs.declared.worked.WorkStop.{WorkStop}
-use Rattle.swarm_workers.specs.Works.{IsWorked, Visit, Sessions}
+use Rattle.swarm_workers.specs.Works.{IsWorked, ServedLink, Sessions}
 use Rattle.swarm_workers.specs.Crews.{WorkerState, IsNewDoor, ShutsAll, stop_of}
 
 -- the requests of these sessions with their outcomes, in their order
-abbrev pub exchanges : (a b : ℕ → Option (List ℕ)) (old new : DoorState) (visits : List Visit) → Sessions a b old new visits → List Exchange
+abbrev pub exchanges : (a b : ℕ → Option (List ℕ)) (old new : DoorState) (visits : List ServedLink) → Sessions a b old new visits → List Exchange
 exchanges a b old new [] so = []
 exchanges a b old new (v ∷ visits) so = so.0.xs ++ exchanges v.ahead b v.door new visits so.2
 

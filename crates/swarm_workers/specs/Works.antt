@@ -5,19 +5,19 @@ use Rattle.sw_base.specs.Faults.{Rose}
 use Rattle.sw_base.specs.Link.{LinkState}
 use Rattle.sw_base.specs.Told.{Loses, Gains, IsNoMore}
 use Rattle.sw_base.specs.Acceptors.{AcceptorState, IsFresh}
-use Rattle.swarm_door.specs.Doors.{DoorState}
+use Rattle.pool_doors.specs.Doors.{DoorState}
 use Rattle.swarm_http.specs.declared.ended.Ended.{Ended}
 use Rattle.swarm_http.specs.declared.ended.Ended.TheVariants as ended
 use Rattle.swarm_http.specs.Answered.{IsAnswered, KeepsDoor}
 use Rattle.swarm_workers.specs.declared.worked.Worked.{Worked}
 use Rattle.swarm_workers.specs.declared.worked.WorkStop.{WorkStop}
 use Rattle.swarm_workers.specs.declared.worked.WorkStop.TheVariants as stop
-use Rattle.swarm_workers.specs.declared.worker.Turn.{Turn}
-use Rattle.swarm_workers.specs.declared.worker.Turn.TheVariants as turn
+use Rattle.swarm_workers.specs.declared.worker.NextLink.{NextLink}
+use Rattle.swarm_workers.specs.declared.worker.NextLink.TheVariants as turn
 
 -- a session: its link as it came and as it ended, its ending, and what the clock had ahead and the
 -- door was as it ended
-pub record Visit : Type 0 where
+pub record ServedLink : Type 0 where
   pub first : LinkState
   pub last : LinkState
   pub ending : Ended
@@ -25,31 +25,31 @@ pub record Visit : Type 0 where
   pub door : DoorState
 
 -- one session after another, over the one door, of which each keeps what it keeps, and the one clock
-abbrev pub Sessions : (ℕ → Option (List ℕ)) → (ℕ → Option (List ℕ)) → DoorState → DoorState → List Visit → Type 0
+abbrev pub Sessions : (ℕ → Option (List ℕ)) → (ℕ → Option (List ℕ)) → DoorState → DoorState → List ServedLink → Type 0
 Sessions a b old new [] = (b ≡ a) × (new ≡ old)
 Sessions a b old new (v ∷ vs) =
     IsAnswered (record { link = v.first; clock = a; door = old }) (record { link = v.last; clock = v.ahead; door = v.door }) v.ending × KeepsDoor 65536 old v.door × Sessions v.ahead b v.door new vs
 
 -- the link came fresh, and its session ended by a fault only where the link tells one of that kind
-pub record HasFaultsCounted (v : Visit) : Type 0 where
+pub record HasFaultsCounted (v : ServedLink) : Type 0 where
   pub fresh : IsFresh v.first
   pub reads : v.ending ≡ ended.ReadFault → 0 < v.last.read_faults
   pub writes : v.ending ≡ ended.WriteFault → 0 < v.last.write_faults
 
 -- no session ended for want of memory
-abbrev pub HadMemory : List Visit → Type 0
+abbrev pub HadMemory : List ServedLink → Type 0
 HadMemory visits = AllByRecursion (λ v. v.ending ≢ ended.Memory) visits
 
 -- the last session ended for want of memory, and no other
-pub record LastLackedMemory (visits : List Visit) : Type 0 where
-  pub earlier : List Visit
-  pub last : Visit
+pub record LastLackedMemory (visits : List ServedLink) : Type 0 where
+  pub earlier : List ServedLink
+  pub last : ServedLink
   pub are : visits ≡ earlier ++ last ∷ []
   pub before : HadMemory earlier
   pub lacked : last.ending ≡ ended.Memory
 
 -- why the work stopped, where it was to serve n links
-abbrev pub StopsAs : WorkStop → ℕ → List Visit → AcceptorState → AcceptorState → Type 0
+abbrev pub StopsAs : WorkStop → ℕ → List ServedLink → AcceptorState → AcceptorState → Type 0
 StopsAs stop.Done n visits s t = (length visits ≡ n) × HadMemory visits × (t.faults ≡ s.faults)
 StopsAs stop.NoMore n visits s t = (length visits < n) × HadMemory visits × IsNoMore t.coming × (t.faults ≡ s.faults)
 StopsAs stop.Failed n visits s t = (length visits < n) × HadMemory visits × Rose s.faults t.faults
@@ -58,7 +58,7 @@ StopsAs stop.Memory n visits s t = LastLackedMemory visits × (t.faults ≡ s.fa
 -- The links that came were served in the order in which they came, each by a session over the one
 -- door, and each is told as it ended.
 pub record IsWorked (s t : AcceptorState) (a b : ℕ → Option (List ℕ)) (old new : DoorState) (n : ℕ) (worked : Worked) : Type 0 where
-  pub visits : List Visit
+  pub visits : List ServedLink
   pub number : length visits ≡ worked.sessions
   pub coming : Loses s.coming t.coming (map (λ v. v.first) visits)
   pub served : Gains s.served t.served (map (λ v. v.last) visits)
@@ -88,7 +88,7 @@ pub record IsIdle (s t : AcceptorState) (a b : ℕ → Option (List ℕ)) (old n
   pub door : new ≡ old
 
 -- what came of asking for the next link
-abbrev pub IsTurn : AcceptorState → AcceptorState → (ℕ → Option (List ℕ)) → (ℕ → Option (List ℕ)) → DoorState → DoorState → Turn → Type 0
+abbrev pub IsTurn : AcceptorState → AcceptorState → (ℕ → Option (List ℕ)) → (ℕ → Option (List ℕ)) → DoorState → DoorState → NextLink → Type 0
 IsTurn s t a b old new turn.Served = (x : IsServed s t a b old new) × (x.ending ≢ ended.Memory)
 IsTurn s t a b old new turn.OutOfMemory = (x : IsServed s t a b old new) × (x.ending ≡ ended.Memory)
 IsTurn s t a b old new turn.NoMore = IsIdle s t a b old new × IsNoMore t.coming × (t.faults ≡ s.faults)

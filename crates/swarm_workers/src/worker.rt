@@ -12,7 +12,7 @@ use swarm_model::Settings;
 
 /// What came of asking for the next connection.
 #[derive(Clone, Copy, Debug, PartialEq, Eq)]
-enum Turn {
+enum NextLink {
     Served,
     /// It was served by a session that had no memory to begin.
     OutOfMemory,
@@ -26,7 +26,7 @@ fn serve_next<A: Acceptor, D: Door, C: Clock>(
     door: &mut D,
     clock: &mut C,
     acceptor: &mut A,
-) -> Turn
+) -> NextLink
     requires settings { (D.state door.old).settings ≡ settings.now }
     requires rules { IsTrue (are_settings settings.now) }
     requires calls { (D.state door.old).calls + 65536 ≤ 2 ^ 40 }
@@ -38,12 +38,12 @@ fn serve_next<A: Acceptor, D: Door, C: Clock>(
             let ended = session(alloc, settings, door, clock, &mut link);
             acceptor.end(link);
             match ended {
-                Ended::Memory => Turn::OutOfMemory,
-                _ => Turn::Served,
+                Ended::Memory => NextLink::OutOfMemory,
+                _ => NextLink::Served,
             }
         }
-        Ok(None) => Turn::NoMore,
-        Err(_) => Turn::Failed,
+        Ok(None) => NextLink::NoMore,
+        Err(_) => NextLink::Failed,
     }
 }
 
@@ -67,20 +67,20 @@ pub fn work<A: Acceptor, D: Door, C: Clock>(
 {
     'links: for served in 0..connections {
         match serve_next(alloc, settings, door, clock, acceptor) {
-            Turn::Served => {}
-            Turn::OutOfMemory => {
+            NextLink::Served => {}
+            NextLink::OutOfMemory => {
                 return Worked {
                     sessions: served + 1,
                     stop: WorkStop::Memory,
                 };
             }
-            Turn::NoMore => {
+            NextLink::NoMore => {
                 return Worked {
                     sessions: served,
                     stop: WorkStop::NoMore,
                 };
             }
-            Turn::Failed => {
+            NextLink::Failed => {
                 return Worked {
                     sessions: served,
                     stop: WorkStop::Failed,

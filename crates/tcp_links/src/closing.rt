@@ -25,7 +25,7 @@ pub fn close(mut stream: TcpStream) {
     }
 }
 
-// Whether bytes came that nobody read. Doesn't wait for any.
+/// Whether bytes came that nobody read. Doesn't wait for any.
 fn has_unread(stream: &TcpStream) -> bool {
     let mut first = [0u8];
     stream.set_nonblocking(true).is_ok()
@@ -33,7 +33,7 @@ fn has_unread(stream: &TcpStream) -> bool {
         && stream.set_nonblocking(false).is_ok()
 }
 
-// Reads to the end, or until a read fails.
+/// Reads to the end, or until a read fails.
 fn read_rest<S: Read>(stream: &mut S) {
     let mut piece = [0u8; PIECE];
     for _ in 0..PIECES {

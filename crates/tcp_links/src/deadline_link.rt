@@ -55,20 +55,20 @@ impl<'a, L: LimitedReads + Drop, T: rt::Clock> DeadlineLink<'a, L, T> {
         self.peer
     }
 
-    // How many flushes succeeded: of a server's link these are its replies.
+    /// How many flushes succeeded: of a server's link these are its replies.
     pub(crate) fn flushes(&self) -> u64 {
         self.flushes
     }
 
-    // The link in it, if no call came late.
-    pub(crate) fn into_timely(self) -> Option<L> {
+    /// The link in it, if no call came late.
+    pub(crate) fn into_link_in_time(self) -> Option<L> {
         if self.late_reads > 0 || self.late_writes > 0 {
             return None;
         }
         Some(self.link)
     }
 
-    // Whether the request has taken too long.
+    /// Whether the request has taken too long.
     fn is_late(&self) -> bool {
         match self.begun {
             Some(begun) => match begun.elapsed(self.time) {
@@ -79,7 +79,7 @@ impl<'a, L: LimitedReads + Drop, T: rt::Clock> DeadlineLink<'a, L, T> {
         }
     }
 
-    // How long a read that begins now may wait.
+    /// How long a read that begins now may wait.
     fn wait_now(&self) -> Duration {
         match self.begun {
             Some(_) => self.limits.call,
@@ -87,7 +87,7 @@ impl<'a, L: LimitedReads + Drop, T: rt::Clock> DeadlineLink<'a, L, T> {
         }
     }
 
-    // Has a read that begins now wait as long as it may. Says whether that is set.
+    /// Has a read that begins now wait as long as it may. Says whether that is set.
     fn limit_read(&mut self) -> bool
         ensures link { L.state self.new.link ≡ L.state self.old.link }
         ensures reads { self.new.late_reads ≡ self.old.late_reads }
@@ -105,7 +105,7 @@ impl<'a, L: LimitedReads + Drop, T: rt::Clock> DeadlineLink<'a, L, T> {
     }
 }
 
-// When the request began: now, unless it did before.
+/// When the request began: now, unless it did before.
 fn begin<T: rt::Clock>(begun: Option<Instant>, time: &T) -> Option<Instant> {
     match begun {
         Some(begun) => Some(begun),

@@ -50,7 +50,7 @@ impl Limits {
     }
 }
 
-// How many seconds a link of a server with so many workers may be idle.
+/// How many seconds a link of a server with so many workers may be idle.
 fn idle_secs(workers: u32) -> u64
     ensures one_worker { workers ≤ 1 → result ≡ 1 }
     ensures more_workers { 1 < workers → result ≡ 10 }
@@ -58,8 +58,8 @@ fn idle_secs(workers: u32) -> u64
     if workers > 1 { 10 } else { 1 }
 }
 
-// Sets on a stream that it sends at once what is written, and how long a write may wait: a read's
-// wait is limited by the link. Says whether both could be set.
-pub fn is_limited(stream: &TcpStream, limits: Limits) -> bool {
+/// Sets on a stream that it sends at once what is written, and how long a write may wait: a read's
+/// wait is limited by the link. Says whether both could be set.
+pub fn set_limits(stream: &TcpStream, limits: Limits) -> bool {
     stream.set_nodelay(true).is_ok() && stream.set_write_timeout(Some(limits.call)).is_ok()
 }

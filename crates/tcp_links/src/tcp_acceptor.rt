@@ -1,7 +1,7 @@
 ghost use Rattle.std.specs.Prelude.{◌≡◌, All, IfOk, length, None};
 
 use crate::closing::close;
-use crate::limits::is_limited;
+use crate::limits::set_limits;
 use crate::{DeadlineLink, HasFailed, Limits, LinkEnding, TcpLink};
 use log::{Log, error, info};
 use std::alloc::Global;
@@ -22,7 +22,7 @@ pub struct TcpAcceptor<'a, T: rt::Clock + Log> {
 }
 
 impl<'a, T: rt::Clock + Log> TcpAcceptor<'a, T> {
-    // How many accepts failed.
+    /// How many accepts failed.
     pub(crate) fn faults(&self) -> u64
         ensures { result ≡ self.now.faults }
     {
@@ -30,7 +30,7 @@ impl<'a, T: rt::Clock + Log> TcpAcceptor<'a, T> {
     }
 }
 
-// One acceptor for each worker, over one socket.
+/// One acceptor for each worker, over one socket.
 pub fn acceptors<'a, T: rt::Clock + Log>(
     alloc: Global,
     listener: &TcpListener,
@@ -60,9 +60,9 @@ pub fn acceptors<'a, T: rt::Clock + Log>(
     Ok(given)
 }
 
-// Whether an accept may be made again: a signal interrupted it, or it met a connection that is gone
-// already, whose error it tells.
-fn is_passing(kind: ErrorKind) -> bool {
+/// Whether an accept may be made again: a signal interrupted it, or it met a connection that is gone
+/// already, whose error it tells.
+fn may_retry(kind: ErrorKind) -> bool {
     matches!(
         kind,
         ErrorKind::Interrupted
@@ -74,18 +74,18 @@ fn is_passing(kind: ErrorKind) -> bool {
     )
 }
 
-// The next stream and its peer, with the limit of a write set on it. One on which it can't be set is
-// gone, and is passed over.
+/// The next stream and its peer, with the limit of a write set on it. One on which it can't be set is
+/// gone, and is passed over.
 fn next_stream(listener: &TcpListener, limits: Limits) -> io::Result<(TcpStream, SocketAddr)> {
     for _ in 0..u64::MAX {
         match listener.accept() {
             Ok((stream, peer)) => {
-                if is_limited(&stream, limits) {
+                if set_limits(&stream, limits) {
                     return Ok((stream, peer));
                 }
             }
             Err(error) => {
-                if !is_passing(error.kind()) {
+                if !may_retry(error.kind()) {
                     return Err(error);
                 }
             }
@@ -127,7 +127,7 @@ impl<'a, T: rt::Clock + Log + Sync> Acceptor for TcpAcceptor<'a, T> {
             }
         };
         info!(self.rt; "connection from {peer} ended by {by}, replies {}", link.flushes());
-        if let Some(timely) = link.into_timely()
+        if let Some(timely) = link.into_link_in_time()
             && let Some(stream) = timely.into_unfinished()
         {
             close(stream);

@@ -1,6 +1,6 @@
 ghost use Rattle.std.specs.Prelude.{◌≡◌, None};
 
-use crate::limits::is_limited;
+use crate::limits::set_limits;
 use crate::tcp_acceptor::acceptors;
 use crate::{DeadlineLink, HasFailed, Limits, LinkEnding, LoggedLink, TcpAcceptor, TcpLink};
 use log::{Level, Log, error, info, log_enabled};
@@ -87,8 +87,8 @@ impl<'a, N: Net<Listener = TcpListener, Stream = TcpStream>, T: rt::Clock + Log 
     }
 }
 
-// A stream to the first of the address's places that answers, and that place, with the limit of a
-// write set on it. Each place has the limit of a call to answer.
+/// A stream to the first of the address's places that answers, and that place, with the limit of a
+/// write set on it. Each place has the limit of a call to answer.
 fn connect<N: Net<Stream = TcpStream>>(
     net: &N,
     address: &str,
@@ -97,7 +97,7 @@ fn connect<N: Net<Stream = TcpStream>>(
     let mut last = io::Error::from(ErrorKind::NotConnected);
     for place in address.to_socket_addrs(net)? {
         match TcpStream::connect_timeout(net, &place, limits.call) {
-            Ok(stream) if is_limited(&stream, limits) => return Ok((stream, place)),
+            Ok(stream) if set_limits(&stream, limits) => return Ok((stream, place)),
             Ok(_) => {}
             Err(error) => last = error,
         }

@@ -41,7 +41,7 @@ impl<S: Read + Write + Drop> TcpLink<S> {
         }
     }
 
-    // Reads once, unless the stream's first bytes begin a hello of TLS.
+    /// Reads once, unless the stream's first bytes begin a hello of TLS.
     fn read_plain(&mut self, into: &mut [u8]) -> io::Result<usize>
         ensures bound { IfOk result (λ n. n ≤ length into.new) }
         ensures plain { IsTrue self.old.has_begun ⊎ IfOk result (λ n. take 1 (take n into.new) ≢ 0x16 ∷ []) }
@@ -57,7 +57,7 @@ impl<S: Read + Write + Drop> TcpLink<S> {
         Ok(n)
     }
 
-    // The stream, where its peer may have sent more than was read and still awaits the last reply.
+    /// The stream, where its peer may have sent more than was read and still awaits the last reply.
     pub(crate) fn into_unfinished(self) -> Option<S> {
         if self.at_end || self.has_failed() {
             return None;
@@ -86,7 +86,7 @@ impl<S: Read + Write + LimitedStream + Drop> LimitedReads for TcpLink<S> {
     }
 }
 
-// Reads once, and again where a signal interrupted that.
+/// Reads once, and again where a signal interrupted that.
 fn read_again<S: Read>(stream: &mut S, into: &mut [u8]) -> io::Result<usize>
     ensures { IfOk result (λ n. n ≤ length into.new) }
 {
@@ -103,14 +103,14 @@ fn read_again<S: Read>(stream: &mut S, into: &mut [u8]) -> io::Result<usize>
     Err(io::Error::from(ErrorKind::Interrupted))
 }
 
-// Whether the first bytes of a stream begin a hello of TLS.
+/// Whether the first bytes of a stream begin a hello of TLS.
 fn is_hello(bytes: &[u8]) -> bool
     ensures { IsTrue result ↔ (take 1 bytes.now ≡ 0x16 ∷ []) }
 {
     bytes.first() == Some(&TLS_HANDSHAKE)
 }
 
-// Writes once, and again where a signal interrupted that: 1 byte at least.
+/// Writes once, and again where a signal interrupted that: 1 byte at least.
 fn write_again<S: Write>(stream: &mut S, piece: &[u8]) -> io::Result<usize>
     ensures { IfOk result (λ n. (0 < n) × (n ≤ length piece.now)) }
 {

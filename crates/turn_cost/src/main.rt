@@ -11,8 +11,8 @@ use crate::turns::take_turns;
 use std::process::ExitCode;
 use std::time::Instant;
 use std::{env, io};
+use test_turnstile::Journal;
 use turnstile::Turnstile;
-use turnstile_tests::Journal;
 
 /// The turns that are taken without a word.
 const UNTIMED: u32 = 1000;

@@ -2,8 +2,8 @@ ghost use Rattle.std.specs.Prelude.{◌≡◌, ◌+◌, ◌≤◌, ◌^◌};
 ghost use Rattle.turnstile.specs.Passes.{IsPassOf, turns};
 
 use std::sync::Wait;
+use test_turnstile::Journal;
 use turnstile::{Pass, Turnstile};
-use turnstile_tests::Journal;
 
 /// So many turns, in each of which nothing is done.
 pub fn take_turns<R: Wait>(

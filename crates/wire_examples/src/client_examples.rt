@@ -5,7 +5,7 @@ ghost use Rattle.swarm_model.specs.declared.reply.Reply.TheVariants as reply;
 ghost use Rattle.routes.specs.declared.route.Route.TheVariants as route;
 ghost use Rattle.server_calls.specs.declared.told.Told.TheVariants.{Good};
 ghost use Rattle.server_calls.specs.Reading.{told_of};
-ghost use Rattle.swarm_client.specs.Commands.{pieces_of};
+ghost use Rattle.client_commands.specs.Commands.{pieces_of};
 
 /// The bytes of a blob come with status 200 alone. With another status they are no blob.
 pub fn a_blob_comes_with_status_200()

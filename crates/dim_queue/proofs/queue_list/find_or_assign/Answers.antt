@@ -2,5 +2,5 @@ use Rattle.std.proofs.Common.{arith}
 use Rattle.std.proofs.lemmas.Grind.{common_steps}
 use Rattle.dim_queue.proofs.queue_list.find_or_assign.Goals as goal
 
-pub assign-requires-clause-lack : goal.assign-requires-clause-lack
-assign-requires-clause-lack c = grind (arith, common_steps)
+pub queue_for-requires-clause-lack : goal.queue_for-requires-clause-lack
+queue_for-requires-clause-lack c = grind (arith, common_steps)

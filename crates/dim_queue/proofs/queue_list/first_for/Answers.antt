@@ -1,7 +1,7 @@
 use Rattle.std.proofs.Common.{◌≡◌, ℕ, ◌+◌, ◌<◌, length, map, sym, ap, ◌∙◌, subst, arith, Option}
 use Rattle.dim_queue.specs.declared.waiting.Waiting.{Waiting}
 use Rattle.dim_queue.specs.Plain.{QueueState, queue_at}
-use Rattle.dim_queue.specs.QueueList.{state_of, IsFirstOf, MayTakeFrom, candidate_of, earlier_of}
+use Rattle.dim_queue.specs.QueueList.{state_of, IsFirstOf, MayTakeFrom, first_match, earlier_of}
 use Rattle.dim_queue.proofs.Changes.{here}
 use Rattle.dim_queue.proofs.First.{candidate_is, one_more}
 use Rattle.dim_queue.proofs.queue_list.first_for.Goals as goal
@@ -16,9 +16,9 @@ loop-at-preserved c =
     let low : at < length queues = omega arith in
     let next = candidate_is bot queue (c.requires at) in
     let e : queue ≡ state_of c.index-queues-at.result = here queues at low c.index-queues-at.result ∙ ap state_of (sym c.index-queues-at.is) in
-    let is : c.earlier-best.result ≡ earlier_of c.loop-at.best (candidate_of bot queue) =
-    subst (λ (q : QueueState). c.earlier-best.result ≡ earlier_of c.loop-at.best (candidate_of bot q)) (sym e) c.earlier-best.ensures in
-    subst (λ (o : Option Waiting). IsFirstOf (MayTakeFrom bot states (at + 1)) o) (sym is) (one_more bot states at c.loop-at.best (candidate_of bot queue) c.loop-at.invariant next)
+    let is : c.earlier_match-best.result ≡ earlier_of c.loop-at.best (first_match bot queue) =
+    subst (λ (q : QueueState). c.earlier_match-best.result ≡ earlier_of c.loop-at.best (first_match bot q)) (sym e) c.earlier_match-best.ensures in
+    subst (λ (o : Option Waiting). IsFirstOf (MayTakeFrom bot states (at + 1)) o) (sym is) (one_more bot states at c.loop-at.best (first_match bot queue) c.loop-at.invariant next)
 
 pub returns : goal.returns
 returns c =

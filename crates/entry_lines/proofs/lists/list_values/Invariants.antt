@@ -5,4 +5,4 @@ use Rattle.entry_lines.proofs.lists.list_values.Given as goal
 
 abbrev pub invariant-loop-item : goal.invariant-loop-item
 invariant-loop-item g l =
-    (map view l.values.items ≡ map g.T.InLine.data_of (take l.item-index l.items)) × All g.T.InLine.Holds (take l.item-index l.items)
+    (map view l.values.items ≡ map g.T.LineField.data_of (take l.item-index l.items)) × All g.T.LineField.Holds (take l.item-index l.items)

@@ -6,4 +6,4 @@ use Rattle.entry_lines.proofs.lists.read_items.Given as goal
 
 abbrev pub invariant-loop-item : goal.invariant-loop-item
 invariant-loop-item g l =
-    each g.T.InLine.value_in (map view l.items) ≡ then_more l.values.items (each g.T.InLine.value_in (map view (drop l.item-index l.items)))
+    each g.T.LineField.value_in (map view l.items) ≡ then_more l.values.items (each g.T.LineField.value_in (map view (drop l.item-index l.items)))

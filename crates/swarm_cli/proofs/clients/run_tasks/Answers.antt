@@ -1,10 +1,10 @@
 use Rattle.std.proofs.Common.{Option, refl, subst}
 use Rattle.std.specs.Prelude.{string_bytes}
 use Rattle.swarm_model.specs.declared.task_state.TaskState.{TaskState}
-use Rattle.swarm_client.specs.Commands.{ListsTasks}
-use Rattle.swarm_client.specs.Steps.{world}
+use Rattle.client_commands.specs.Commands.{ListsTasks}
+use Rattle.client_commands.specs.Steps.{world}
 use Rattle.swarm_cli.specs.Clients.{carried_out}
-use Rattle.swarm_cli.proofs.Misfits.{told_so}
+use Rattle.swarm_cli.proofs.OptionFaults.{told_so}
 use Rattle.swarm_cli.proofs.clients.run_tasks.Goals as goal
 
 pub returns-in-Ok : goal.returns-in-Ok
@@ -24,5 +24,5 @@ returns-in-Ok g c = λ rest. rw (← c.as_str.ensures.value, ← c.as_str-caller
 
 pub returns-in-Err : goal.returns-in-Err
 returns-in-Err g c = λ rest. rw (← c.as_str.ensures.value, ← c.as_str-caller.ensures.value, ← c.as_str-2.ensures.value)
-    (told_so rest rest.files (g.L.Link.state c.args.console.now) (g.L.Link.state c.tell_misfit.new.console) rest.outside.clock (g.W.Dialer.state c.args.dialer.now) rest.waited
-    c.tell_misfit.result c.in-Err.why c.in-Err.ensures.fits c.tell_misfit.ensures)
+    (told_so rest rest.files (g.L.Link.state c.args.console.now) (g.L.Link.state c.print_option_fault.new.console) rest.streams.clock (g.W.Dialer.state c.args.dialer.now) rest.waited
+    c.print_option_fault.result c.in-Err.why c.in-Err.ensures.fits c.print_option_fault.ensures)

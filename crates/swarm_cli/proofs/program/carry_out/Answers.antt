@@ -4,7 +4,7 @@ pub returns-in-Bot : goal.returns-in-Bot
 returns-in-Bot g c = rw c.in-Bot.is (c.run_bot_command.ensures (record {
   files = g.F.Files.state c.args.files.now;
   store = g.P.Store.state c.args.store.now;
-  outside = record { console = g.L.Link.state c.args.console.now; clock = g.C.Clock.ahead c.args.clock.now; listener = g.N.Listener.state c.args.listener.now };
+  streams = record { console = g.L.Link.state c.args.console.now; clock = g.C.Clock.ahead c.args.clock.now; listener = g.N.Listener.state c.args.listener.now };
   dialer = g.W.Dialer.state c.args.dialer.now;
   waited = g.C.Clock.waited c.args.clock.now;
   runner = g.R.Runner.state c.args.runner.now;
@@ -14,7 +14,7 @@ pub returns-in-Trigger : goal.returns-in-Trigger
 returns-in-Trigger g c = rw c.in-Trigger.is (c.run_trigger.ensures (record {
   files = g.F.Files.state c.args.files.now;
   store = g.P.Store.state c.args.store.now;
-  outside = record { console = g.L.Link.state c.args.console.now; clock = g.C.Clock.ahead c.args.clock.now; listener = g.N.Listener.state c.args.listener.now };
+  streams = record { console = g.L.Link.state c.args.console.now; clock = g.C.Clock.ahead c.args.clock.now; listener = g.N.Listener.state c.args.listener.now };
   dialer = g.W.Dialer.state c.args.dialer.now;
   waited = g.C.Clock.waited c.args.clock.now;
   runner = g.R.Runner.state c.args.runner.now;
@@ -24,7 +24,7 @@ pub returns-in-Collect : goal.returns-in-Collect
 returns-in-Collect g c = rw c.in-Collect.is (c.run_collect.ensures (record {
   files = g.F.Files.state c.args.files.now;
   store = g.P.Store.state c.args.store.now;
-  outside = record { console = g.L.Link.state c.args.console.now; clock = g.C.Clock.ahead c.args.clock.now; listener = g.N.Listener.state c.args.listener.now };
+  streams = record { console = g.L.Link.state c.args.console.now; clock = g.C.Clock.ahead c.args.clock.now; listener = g.N.Listener.state c.args.listener.now };
   dialer = g.W.Dialer.state c.args.dialer.now;
   waited = g.C.Clock.waited c.args.clock.now;
   runner = g.R.Runner.state c.args.runner.now;
@@ -34,7 +34,7 @@ pub returns-in-Cancel : goal.returns-in-Cancel
 returns-in-Cancel g c = rw c.in-Cancel.is (c.run_cancel.ensures (record {
   files = g.F.Files.state c.args.files.now;
   store = g.P.Store.state c.args.store.now;
-  outside = record { console = g.L.Link.state c.args.console.now; clock = g.C.Clock.ahead c.args.clock.now; listener = g.N.Listener.state c.args.listener.now };
+  streams = record { console = g.L.Link.state c.args.console.now; clock = g.C.Clock.ahead c.args.clock.now; listener = g.N.Listener.state c.args.listener.now };
   dialer = g.W.Dialer.state c.args.dialer.now;
   waited = g.C.Clock.waited c.args.clock.now;
   runner = g.R.Runner.state c.args.runner.now;
@@ -44,7 +44,7 @@ pub returns-in-Tasks : goal.returns-in-Tasks
 returns-in-Tasks g c = rw c.in-Tasks.is (c.run_tasks.ensures (record {
   files = g.F.Files.state c.args.files.now;
   store = g.P.Store.state c.args.store.now;
-  outside = record { console = g.L.Link.state c.args.console.now; clock = g.C.Clock.ahead c.args.clock.now; listener = g.N.Listener.state c.args.listener.now };
+  streams = record { console = g.L.Link.state c.args.console.now; clock = g.C.Clock.ahead c.args.clock.now; listener = g.N.Listener.state c.args.listener.now };
   dialer = g.W.Dialer.state c.args.dialer.now;
   waited = g.C.Clock.waited c.args.clock.now;
   runner = g.R.Runner.state c.args.runner.now;
@@ -54,7 +54,7 @@ pub returns-in-Bots : goal.returns-in-Bots
 returns-in-Bots g c = rw c.in-Bots.is (c.run_bots.ensures (record {
   files = g.F.Files.state c.args.files.now;
   store = g.P.Store.state c.args.store.now;
-  outside = record { console = g.L.Link.state c.args.console.now; clock = g.C.Clock.ahead c.args.clock.now; listener = g.N.Listener.state c.args.listener.now };
+  streams = record { console = g.L.Link.state c.args.console.now; clock = g.C.Clock.ahead c.args.clock.now; listener = g.N.Listener.state c.args.listener.now };
   dialer = g.W.Dialer.state c.args.dialer.now;
   waited = g.C.Clock.waited c.args.clock.now;
   runner = g.R.Runner.state c.args.runner.now;

@@ -12,17 +12,17 @@ returns-in-Ok-clause-runs g c =
     (sum_by g.K.Keeper.faults c.end-machines.result.1.items)
     (record { console = g.L.Link.state c.args.console.now; clock = g.C.Clock.ahead c.args.clock.now; listener = g.N.Listener.state c.args.listener.now })
     (record { console = g.L.Link.state c.use_door-used.new.console; clock = g.C.Clock.ahead c.use_door-used.new.clock; listener = g.N.Listener.state c.use_door-used.new.listener })
-    (g.L.Link.state c.conclude.new.console) c.use_door-used.result c.conclude.result c.as_slice-pools.result.now
+    (g.L.Link.state c.finish.new.console) c.use_door-used.result c.finish.result c.as_slice-pools.result.now
     c.use_door-used.ensures.door c.in-Ok.ensures.fresh c.in-Ok.ensures.lines c.in-Ok.ensures.records c.use_door-used.ensures.used c.deref.ensures.value c.end-machines.ensures.logs
-    c.end-machines.ensures.lines c.end-machines.ensures.told c.end-machines.ensures.faults c.as_slice-pools.ensures c.conclude.ensures)
+    c.end-machines.ensures.lines c.end-machines.ensures.told c.end-machines.ensures.faults c.as_slice-pools.ensures c.finish.ensures)
 
 pub returns-in-Ok-clause-new : goal.returns-in-Ok-clause-new
 returns-in-Ok-clause-new g c = λ sure.
     new_ran _ c.deref.result.now c.end-machines.result.0.items c.args.command.now c.args.settings.now
     (record { console = g.L.Link.state c.args.console.now; clock = g.C.Clock.ahead c.args.clock.now; listener = g.N.Listener.state c.args.listener.now })
     (record { console = g.L.Link.state c.use_door-used.new.console; clock = g.C.Clock.ahead c.use_door-used.new.clock; listener = g.N.Listener.state c.use_door-used.new.listener })
-    (g.L.Link.state c.conclude.new.console) c.use_door-used.result c.conclude.result c.as_slice-pools.result.now
-    c.use_door-used.ensures.door c.in-Ok.ensures.fresh (c.in-Ok.ensures.nothing sure) c.use_door-used.ensures.used c.deref.ensures.value c.end-machines.ensures.logs c.as_slice-pools.ensures c.conclude.ensures
+    (g.L.Link.state c.finish.new.console) c.use_door-used.result c.finish.result c.as_slice-pools.result.now
+    c.use_door-used.ensures.door c.in-Ok.ensures.fresh (c.in-Ok.ensures.nothing sure) c.use_door-used.ensures.used c.deref.ensures.value c.end-machines.ensures.logs c.as_slice-pools.ensures c.finish.ensures
 
 pub returns-in-Ok-clause-told : goal.returns-in-Ok-clause-told
 returns-in-Ok-clause-told g c =

@@ -4,7 +4,7 @@ use Rattle.std.proofs.lemmas.Grind.{common_steps}
 use Rattle.std.specs.Option.{option_map}
 use Rattle.entry_lines.specs.Lines.{entry_of_line}
 use Rattle.swarm_history.specs.Records.{KeepsEntry}
-use Rattle.swarm_history.proofs.Keeping.{content_is, keeps_entry}
+use Rattle.swarm_history.proofs.KeptMachines.{content_is, keeps_entry}
 use Rattle.swarm_history.proofs.adding.keep.Goals as goal
 
 pub returns-in-Ok-append-clause-keeps : goal.returns-in-Ok-append-clause-keeps

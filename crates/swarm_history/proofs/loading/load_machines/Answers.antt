@@ -3,7 +3,7 @@ use Rattle.std.proofs.Common.{◌≡◌, ◌+◌, List, get_or, map, length, ari
 use Rattle.std.proofs.lemmas.List.{length-map, length_push}
 use Rattle.swarm_model.specs.declared.pool_settings.PoolSettings.{PoolSettings}
 use Rattle.swarm_history.proofs.LoadedMachines.{tells_bad, loaded_next, nothing_more}
-use Rattle.swarm_history.specs.Records.{TellsBadStore}
+use Rattle.swarm_history.specs.Records.{IsFirstBadRecord}
 use Rattle.swarm_history.proofs.loading.load_machines.Goals as goal
 
 pub returns-in-Err-clause-bad : goal.returns-in-Err-clause-bad
@@ -15,7 +15,7 @@ returns-in-Err-clause-bad g c =
     let pools = ap length c.as_slice-pools.ensures in
     let pool = c.index-pools-place.result in
     let is = subst (λ (all : List PoolSettings). pool ≡ get_or all c.loop-place.place pool) c.as_slice-pools.ensures c.index-pools-place.is in
-    subst (TellsBadStore c.args.settings.now tables) (sym c.fault_of.ensures)
+    subst (IsFirstBadRecord c.args.settings.now tables) (sym c.fault_of.ensures)
     (tells_bad c.args.settings.now tables (map g.K.Keeper.tables c.loop-place.keepers.items) machines c.loop-place.place pool c.in-Err.stop
     c.loop-place.invariant.3 (sym c.loop-place.invariant.0 ∙ sym (length-map c.loop-place.machines.items g.M.Machine.kept))
     (omega (arith, low, pools)) (omega (arith, low, pools, keepers, length-map c.args.keepers.now.items g.K.Keeper.tables)) is

@@ -3,7 +3,7 @@ use Rattle.std.proofs.Common.{[], sym, subst, take, ◌+◌}
 use Rattle.std.specs.List.{AllZip}
 use Rattle.std.specs.Prelude.{slice_index_or}
 use Rattle.swarm_model.specs.declared.reply.Part.{Part}
-use Rattle.swarm_door.specs.Doors.{IsPieceOf}
+use Rattle.pool_doors.specs.Doors.{IsPieceOf}
 use Rattle.swarm_history.proofs.Held.{held_of, piece_is, piece_more}
 use Rattle.swarm_history.proofs.pieces.pieces_of_parts.Goals as goal
 

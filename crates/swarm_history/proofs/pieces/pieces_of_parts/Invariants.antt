@@ -1,7 +1,7 @@
 -- The parts that were passed have their pieces.
 use Rattle.std.proofs.Common.{take}
 use Rattle.std.specs.List.{AllZip}
-use Rattle.swarm_door.specs.Doors.{IsPieceOf}
+use Rattle.pool_doors.specs.Doors.{IsPieceOf}
 use Rattle.swarm_history.proofs.pieces.pieces_of_parts.Given as goal
 
 abbrev pub invariant-loop-part : goal.invariant-loop-part

@@ -1,8 +1,8 @@
 -- The reply's blobs are there, and what the answer adds may follow, with the bytes that it brings.
 use Rattle.std.proofs.Common.{sym, ap, subst, ◌∙◌}
 use Rattle.swarm_model.specs.declared.answer.Answer.{Answer}
-use Rattle.swarm_laws.proofs.Carrying.{new_is_brought}
-use Rattle.swarm_laws.proofs.Legality.{answer_follows}
+use Rattle.pool_laws.proofs.Carrying.{new_is_brought}
+use Rattle.pool_laws.proofs.Legality.{answer_follows}
 use Rattle.swarm_history.specs.Pieces.{HasNamed}
 use Rattle.swarm_history.proofs.Bringing.{answer_bears, entry_carried}
 use Rattle.swarm_history.proofs.Named.{reply_named}

@@ -10,9 +10,9 @@ use Rattle.swarm_model.specs.Deadlines.{due_entry}
 use Rattle.swarm_model.specs.Effects.{opening}
 use Rattle.swarm_model.specs.History.{moment_of}
 use Rattle.swarm_model.specs.Points.{is_ahead, Call, LacksRoom}
-use Rattle.swarm_door.specs.declared.door.Answered.{Answered}
-use Rattle.swarm_history.specs.Settling.{IsOwnPoint, Responds, Settles}
-use Rattle.swarm_door.specs.Doors.{is_log_full}
+use Rattle.pool_doors.specs.declared.door.Answered.{Answered}
+use Rattle.swarm_history.specs.Settling.{IsPointAlone, Responds, Settles}
+use Rattle.pool_doors.specs.Doors.{is_log_full}
 use Rattle.swarm_history.proofs.OwnPoints.{sound_history, early_point, due_next, own_next, settled_point, settled_stop}
 use Rattle.swarm_history.proofs.serving.serve.Goals as goal
 
@@ -35,7 +35,7 @@ returns-then-is_ahead-clause-point g c =
     let the_call : Call = record { pass = g.D.Desk.number c.args.desk.now; caller = c.args.who.now; moment = c.args.moment; after = c.args.after; request = c.args.request.now } in
     let ahead = ahead_is (length k.log) c.length-length.result c.args.after c.is_ahead.result true c.length-length.ensures.length c.is_ahead.ensures c.if-is_ahead.true in
     rw c.length-length.ensures.same
-    (subst (λ (n : ℕ). IsOwnPoint (opening k.pool.settings) the_call k.log k.log (reply.No (rule.FrontAhead n)))
+    (subst (λ (n : ℕ). IsPointAlone (opening k.pool.settings) the_call k.log k.log (reply.No (rule.FrontAhead n)))
     (sym c.length-length.ensures.length)
     (early_point (opening k.pool.settings) the_call k.log c.length-length.ensures.history.legal ahead))
 

@@ -2,8 +2,8 @@
 use Rattle.std.proofs.Common.{arith, ap, sym, subst, ◌≤◌, ◌∙◌}
 use Rattle.swarm_model.specs.Deadlines.{due_entry}
 use Rattle.swarm_model.specs.Points.{IsSettled}
-use Rattle.swarm_laws.proofs.Carrying.{due_brings}
-use Rattle.swarm_laws.proofs.Legality.{due_follows, due_settled}
+use Rattle.pool_laws.proofs.Carrying.{due_brings}
+use Rattle.pool_laws.proofs.Legality.{due_follows, due_settled}
 use Rattle.swarm_history.specs.Records.{HoldsNoOthers}
 use Rattle.swarm_history.specs.Settling.{Adds}
 use Rattle.swarm_history.proofs.Additions.{settles_more}

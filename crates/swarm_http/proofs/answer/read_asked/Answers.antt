@@ -11,7 +11,7 @@ returns-in-Broken-clause-refused c =
 pub returns-in-Err : goal.returns-in-Err
 returns-in-Err c = record {
   asks = tt;
-  refused = c.shown_fault.ensures (asked_of c.args.settings.now c.args.route c.args.parts.now c.args.body.items) c.in-Err.ensures.refused;
+  refused = c.fault_reply.ensures (asked_of c.args.settings.now c.args.route c.args.parts.now c.args.body.items) c.in-Err.ensures.refused;
   carries = tt;
   fits = tt;
   place = tt;

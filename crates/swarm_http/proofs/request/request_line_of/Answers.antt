@@ -9,10 +9,10 @@ pub returns : goal.returns
 returns c = λ h says.
     let found = c.find-found.ensures in
     record {
-      resource = c.held_resource.ensures ∙ found.resource ∙ ap resource_of says.target;
-      parts = subst (λ (t : List ℕ). IfSome c.held_parts.result (λ p. p ≡ parts_of t)) says.target (c.held_parts.ensures c.args.head.now.target.now found.pool found.digest);
+      resource = c.owned_resource.ensures ∙ found.resource ∙ ap resource_of says.target;
+      parts = subst (λ (t : List ℕ). IfSome c.owned_parts.result (λ p. p ≡ parts_of t)) says.target (c.owned_parts.ensures c.args.head.now.target.now found.pool found.digest);
       method = says.method;
-      who = subst (IsCaller c.held_caller.result) says.caller c.held_caller.ensures;
+      who = subst (IsCaller c.owned_caller.result) says.caller c.owned_caller.ensures;
       after = says.after;
       closes = says.closes;
     }

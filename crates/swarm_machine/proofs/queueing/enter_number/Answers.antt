@@ -1,7 +1,7 @@
 -- The row that is found has the number.
 use Rattle.std.proofs.Common.{sym, ◌∙◌, eqb-true}
 use Rattle.swarm_model.specs.Finding.{is_task}
-use Rattle.swarm_laws.proofs.Lists.{find_is}
+use Rattle.pool_laws.proofs.Lists.{find_is}
 use Rattle.swarm_machine.proofs.queueing.enter_number.Goals as goal
 
 pub enter-requires-clause-absent : goal.enter-requires-clause-absent

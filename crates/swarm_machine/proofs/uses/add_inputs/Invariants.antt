@@ -3,11 +3,11 @@ use Rattle.std.proofs.Common.{take}
 use Rattle.std.specs.List.{count_by}
 use Rattle.swarm_model.specs.Uses.{is_file_of}
 use Rattle.pool_index.specs.Uses.{StaysListed}
-use Rattle.swarm_machine.specs.Uses.{Gains}
+use Rattle.swarm_machine.specs.Uses.{AddsUses}
 use Rattle.swarm_machine.proofs.uses.add_inputs.Given as goal
 
 abbrev pub invariant-loop-file : goal.invariant-loop-file
 invariant-loop-file l = record {
-  gains : Gains (λ digest. count_by (is_file_of digest) (take l.file-index l.inputs)) l.fn.uses l.uses;
+  gains : AddsUses (λ digest. count_by (is_file_of digest) (take l.file-index l.inputs)) l.fn.uses l.uses;
   kept : StaysListed l.fn.uses l.uses;
 }

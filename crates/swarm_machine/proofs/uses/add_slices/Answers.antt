@@ -5,7 +5,7 @@ use Rattle.swarm_model.specs.Uses.{is_file_of}
 use Rattle.pool_index.specs.Uses.{IsListed}
 use Rattle.pool_index.proofs.UseKeys.{kept_then}
 use Rattle.index_laws.specs.TaskUses.{inputs_with}
-use Rattle.swarm_machine.specs.Uses.{AreInputsListed, Gains, HasRoomFor}
+use Rattle.swarm_machine.specs.Uses.{AreInputsListed, AddsUses, HasRoomFor}
 use Rattle.swarm_machine.proofs.UsesChange.{slices_stay, of_item, room_for_item, gains_item}
 use Rattle.swarm_machine.proofs.uses.add_slices.Goals as goal
 
@@ -30,6 +30,6 @@ loop-slice-preserved c =
     record {
       gains =
           gains_item c.args.slices.now c.loop-slice.slice-index c.slice-item.result c.loop-slice-test.true c.slice-item.is inputs_with old now new i.gains
-          (subst (λ (inputs : List File). Gains (λ digest. count_by (is_file_of digest) inputs) now new) c.as_slice.ensures c.add_inputs.ensures.gains);
+          (subst (λ (inputs : List File). AddsUses (λ digest. count_by (is_file_of digest) inputs) now new) c.as_slice.ensures c.add_inputs.ensures.gains);
       kept = kept_then old now new i.kept c.add_inputs.ensures.kept;
     }

@@ -3,7 +3,7 @@ use Rattle.std.specs.List.{count_by}
 use Rattle.task_props.specs.declared.file.File.{File}
 use Rattle.swarm_model.specs.Uses.{is_file_of}
 use Rattle.index_laws.specs.TaskUses.{inputs_with}
-use Rattle.swarm_machine.specs.Uses.{Loses, HasUsesFor}
+use Rattle.swarm_machine.specs.Uses.{RemovesUses, HasUsesFor}
 use Rattle.swarm_machine.proofs.UsesChange.{uses_for_item, loses_item}
 use Rattle.swarm_machine.proofs.uses.remove_slices.Goals as goal
 
@@ -17,4 +17,4 @@ loop-slice-preserved c =
     let now = c.loop-slice.uses in
     let new = c.remove_inputs.new.uses in
     loses_item c.args.slices.now c.loop-slice.slice-index c.slice-item.result c.loop-slice-test.true c.slice-item.is inputs_with c.args.uses.now now new c.loop-slice.invariant
-    (subst (λ (inputs : List File). Loses (λ digest. count_by (is_file_of digest) inputs) now new) c.as_slice.ensures c.remove_inputs.ensures)
+    (subst (λ (inputs : List File). RemovesUses (λ digest. count_by (is_file_of digest) inputs) now new) c.as_slice.ensures c.remove_inputs.ensures)

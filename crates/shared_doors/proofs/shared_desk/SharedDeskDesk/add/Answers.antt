@@ -4,7 +4,7 @@ use Rattle.std.proofs.lemmas.Result.{err_from_is_err_and}
 use Rattle.swarm_model.specs.Bytes.{new_digest}
 use Rattle.swarm_model.specs.History.{MayFollow}
 use Rattle.swarm_model.specs.MachineState.{MachineState, IsHistory}
-use Rattle.swarm_history.specs.Settling.{Stays}
+use Rattle.swarm_history.specs.Settling.{IsUnchanged}
 use Rattle.turnstile.specs.Passes.{of_value}
 use Rattle.turnstile.proofs.Lending.{IsTurn-turn_with}
 use Rattle.shared_doors.specs.Desks.{no_state}
@@ -38,7 +38,7 @@ pub returns-in_err-add-clause-stays : goal.returns-in_err-add-clause-stays
 returns-in_err-add-clause-stays g c =
     let is = kept_is (λ k. g.M.Machine.kept k.machine) c.args.self.now.turn c.value.result.now c.value.ensures.value in
     let p = err_from_is_err_and c.from_residual.result c.from_residual.ensures.1 in
-    rw p.1 (subst (λ (k : MachineState). Stays k (g.M.Machine.kept c.add.new.self.machine)) (sym is) c.in_err-add.ensures.stays)
+    rw p.1 (subst (λ (k : MachineState). IsUnchanged k (g.M.Machine.kept c.add.new.self.machine)) (sym is) c.in_err-add.ensures.stays)
 
 pub raise-requires : goal.raise-requires
 raise-requires g c =

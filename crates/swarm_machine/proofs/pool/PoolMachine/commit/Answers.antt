@@ -11,8 +11,8 @@ use Rattle.swarm_model.specs.Entries.{weight}
 use Rattle.swarm_model.specs.History.{replay}
 use Rattle.swarm_model.specs.MachineState.{MachineState, IsRight, KeepsFinals}
 use Rattle.swarm_model.specs.Soundness.{IsSound}
-use Rattle.swarm_laws.proofs.MachineLaws.{is_right, keeps_finals}
-use Rattle.swarm_laws.proofs.Sound.{sound_after}
+use Rattle.pool_laws.proofs.MachineLaws.{is_right, keeps_finals}
+use Rattle.pool_laws.proofs.Sound.{sound_after}
 use Rattle.pool_changes.specs.Blobs.{held_in}
 use Rattle.pool_changes.proofs.Growing.{replayed_more, placed_below, brought_is}
 use Rattle.pool_changes.proofs.Legality.{rooms, legal_more}
@@ -43,13 +43,13 @@ apply-requires-clause-few c =
 pub apply-requires-clause-bytes : goal.apply-requires-clause-bytes
 apply-requires-clause-bytes c = brought_is c.args.entry.kind c.args.bytes c.requires.bytes
 
-pub follow-requires-clause-sound : goal.follow-requires-clause-sound
-follow-requires-clause-sound c =
+pub update_from-requires-clause-sound : goal.update_from-requires-clause-sound
+update_from-requires-clause-sound c =
     let follows = rw (← c.self.view_is) at c.requires.follows in
     subst IsSound (sym c.apply.ensures.state) (sound_after (state_of c.self.inside.rows) c.args.entry (kept_sound c.self.inside c.self.invariant) follows)
 
-pub follow-requires-clause-behind : goal.follow-requires-clause-behind
-follow-requires-clause-behind c =
+pub update_from-requires-clause-behind : goal.update_from-requires-clause-behind
+update_from-requires-clause-behind c =
     record {
       before = state_of c.self.inside.rows;
       sound = kept_sound c.self.inside c.self.invariant;
@@ -76,7 +76,7 @@ invariant_of-self c =
       legal = rw (settings, c.push_reserved.ensures.items) (legal_more (opening c.self.inside.rows.settings) c.self.inside.log.items c.args.entry c.self.invariant.legal follows room);
       weighs = omega (arith, sum_by-append weight c.self.inside.log.items (c.args.entry ∷ []), ap (sum_by weight) c.push_reserved.ensures.items, made.weighs, c.self.invariant.weighs);
       of_settings = c.apply.ensures.of_settings;
-      indexed = c.follow.ensures;
+      indexed = c.update_from.ensures;
       prepared = rw c.take.ensures.after tt;
     }
 

@@ -6,7 +6,7 @@ use Rattle.swarm_model.specs.Answers.{entry_at}
 use Rattle.swarm_model.specs.declared.reply.Reply.{Reply}
 use Rattle.swarm_model.specs.declared.answer.Decision.{Decision}
 use Rattle.swarm_model.specs.MachineState.{IsHistory, ShowsVerdict, ShowsOutput, ActsOnce, TakesOutcome}
-use Rattle.swarm_laws.proofs.MachineLaws.{shows_verdict, shows_output, repeats_once, takes_outcome}
+use Rattle.pool_laws.proofs.MachineLaws.{shows_verdict, shows_output, repeats_once, takes_outcome}
 use Rattle.swarm_plain.specs.Plain.{ListPoolState, machine_of}
 use Rattle.swarm_plain.proofs.Holding.{kept_history}
 use Rattle.swarm_plain.proofs.list_pool.ListPoolMachine.answer.Goals as goal

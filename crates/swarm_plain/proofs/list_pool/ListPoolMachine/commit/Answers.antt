@@ -5,7 +5,7 @@ use Rattle.std.proofs.lemmas.List.Sums.{sum_by-append}
 use Rattle.swarm_model.specs.declared.pool_settings.PoolSettings.{PoolSettings}
 use Rattle.std.specs.Option.{option_map}
 use Rattle.swarm_model.specs.MachineState.{MachineState, IsRight, KeepsFinals}
-use Rattle.swarm_laws.proofs.MachineLaws.{is_right, keeps_finals}
+use Rattle.pool_laws.proofs.MachineLaws.{is_right, keeps_finals}
 use Rattle.swarm_plain.specs.declared.list_pool.Ready.{Ready}
 use Rattle.swarm_model.specs.Effects.{opening, after}
 use Rattle.swarm_model.specs.Entries.{weight}

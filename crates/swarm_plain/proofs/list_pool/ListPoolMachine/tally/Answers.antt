@@ -1,7 +1,7 @@
 -- What is counted in the rows is what the log tells.
 use Rattle.std.proofs.Common.{ℕ, ap, ◌∙◌, sum_by, count_by}
 use Rattle.swarm_model.specs.Verdicts.{is_new, verdict_tally}
-use Rattle.swarm_laws.proofs.MachineLaws.{tally_told, tally_total}
+use Rattle.pool_laws.proofs.MachineLaws.{tally_told, tally_total}
 use Rattle.swarm_plain.specs.Plain.{ListPoolState, machine_of}
 use Rattle.swarm_plain.specs.Invariant.{kept_of}
 use Rattle.swarm_plain.proofs.Holding.{kept_history}

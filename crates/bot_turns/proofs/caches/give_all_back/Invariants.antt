@@ -1,6 +1,0 @@
-use Rattle.std.proofs.Common.{◌≡◌, drop}
-use Rattle.bot_turns.specs.CacheTurns.{with_caches}
-use Rattle.bot_turns.proofs.caches.give_all_back.Given as goal
-
-abbrev pub invariant-loop-at : goal.invariant-loop-at
-invariant-loop-at l = with_caches (drop l.at l.caches) (drop l.at l.sizes) l.table ≡ with_caches l.caches l.sizes l.initial.table

@@ -1,0 +1,58 @@
+//! One exchange of a command.
+ghost use Rattle.std.specs.Prelude.{◌≡◌, ℕ, Option};
+ghost use Rattle.client_commands.specs.Requests.{Call, IsBody};
+ghost use Rattle.client_commands.specs.Steps.{world, Asks};
+
+use crate::printing::print_code;
+use crate::server::Server;
+use client_requests::request_text;
+use dimensions::Seq;
+use routes::Route;
+use server_calls::{Exchanged, Told, exchange};
+use std::alloc::Global;
+use sw_base::{Dialer, Link};
+use swarm_model::Reply;
+
+/// A reply that is no refusal, of the pool at a place, and the bytes that come with it.
+#[derive(Drop)]
+pub(crate) struct Answer {
+    pub place: u32,
+    pub reply: Reply,
+    pub bytes: Seq<u8>,
+}
+
+/// Sends a request of the call of a route, and answers the reply to it. Where there is none, or a
+/// refusal, it tells that, and answers the status of the command.
+pub(crate) fn ask<W: Dialer, L: Link>(
+    alloc: Global,
+    dialer: &mut W,
+    console: &mut L,
+    server: &Server,
+    route: Route,
+    path: &str,
+    body: &[u8],
+) -> Result<Answer, u8>
+    ensures { (call : Call) (waited : Option ℕ) → call.route ≡ route → call.path ≡ path.now → IsBody route call.body body.now →
+        Asks server.now call (world (W.state dialer.old) (L.state console.old) waited) (world (W.state dialer.new) (L.state console.new) waited) result }
+{
+    let Ok(request) = request_text(alloc, "POST", path, server.host, server.caller, body) else {
+        return Err(5);
+    };
+    match exchange(alloc, dialer, server.address, &request, route) {
+        Exchanged::Told(
+            Told::Good {
+                place,
+                reply,
+                bytes,
+            },
+        ) => Ok(Answer {
+            place,
+            reply,
+            bytes,
+        }),
+        Exchanged::Told(Told::No { code, .. }) => Err(print_code(alloc, console, code.as_str())),
+        Exchanged::NoReply => Err(9),
+        Exchanged::Lost => Err(4),
+        Exchanged::Memory => Err(5),
+    }
+}

@@ -1,0 +1,52 @@
+ghost use Rattle.std.specs.Prelude.{◌<◌, ◌^◌, length, slice_get, IsTrue, IsSomeAnd};
+ghost use Rattle.swarm_model.specs.Bytes.{Carries};
+ghost use Rattle.swarm_model.specs.Fits.{fits};
+ghost use Rattle.pool_doors.specs.Doors.{DoorState, IsCall};
+
+use dimensions::{Seq, Text};
+use swarm_model::{Reply, Request};
+
+/// Why a call was not answered.
+#[derive(Clone, Copy, Debug, PartialEq, Eq)]
+pub enum CallFault {
+    Memory,
+    /// The log has no room for the entry that comes next.
+    LogFull,
+    /// What keeps the pool's records failed, and counts it.
+    Keeper,
+}
+
+/// A reply at its point of the log.
+#[derive(Drop)]
+pub struct Answered {
+    /// The length of the log as the call ends.
+    pub front: u64,
+    pub reply: Reply,
+    /// The bytes of the blobs that the reply names, in their order.
+    pub pieces: Seq<Seq<u8>>,
+}
+
+/// What answers a session's requests.
+pub trait Door {
+    /// What the door tells.
+    ghost state: { Self → DoorState };
+
+    /// Answers a request of `who` to the pool at the place, at the moment or, where that is past,
+    /// at the moment of the log's last entry. `after` is the length of a log that the caller has
+    /// seen, `bytes` what the request carries.
+    fn call(
+        &mut self,
+        place: u32,
+        moment: u64,
+        after: Option<u64>,
+        who: &Text,
+        request: &Request,
+        bytes: &[u8],
+    ) -> Result<Answered, CallFault>
+        requires place { place < length (state self.old).settings.pools }
+        requires fits { IsSomeAnd (slice_get (state self.old).settings.pools place) (λ pool. IsTrue (fits pool request.now)) }
+        requires carries { Carries request.now bytes.now }
+        requires calls { (state self.old).calls < 2 ^ 40 }
+        ensures { IsCall (state self.old) (state self.new) place
+            (record { pass = (state self.old).writer.numbers place; caller = who.now; moment = moment; after = after; request = request.now }) result };
+}

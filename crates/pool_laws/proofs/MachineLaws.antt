@@ -1,0 +1,98 @@
+-- What the laws say of a pool that keeps its log.
+use Rattle.std.proofs.Common.{◌≡◌, ℕ, ◌≤◌, ◌^◌, List, Option, Some, None, IfSome, IsTrue, refl, subst, sym, ap, ◌∙◌, sum_by, count_by}
+use Rattle.swarm_model.specs.declared.task_row.TaskRow.{TaskRow}
+use Rattle.swarm_model.specs.declared.pool_state.PoolState.{PoolState}
+use Rattle.swarm_model.specs.declared.entry.Entry.{Entry}
+use Rattle.swarm_model.specs.declared.request.Request.{Request}
+use Rattle.swarm_model.specs.Fits.{fits}
+use Rattle.swarm_model.specs.Finding.{task_of}
+use Rattle.swarm_model.specs.Answers.{answer, named_task}
+use Rattle.swarm_model.specs.Claims.{IsRightClaim}
+use Rattle.swarm_model.specs.Deadlines.{due_entry}
+use Rattle.swarm_model.specs.Effects.{opening, after}
+use Rattle.swarm_model.specs.History.{replay, MayFollow, tally}
+use Rattle.swarm_model.specs.MachineState.{MachineState, IsHistory, IsRight, KeepsFinals, ShowsVerdict, ShowsOutput, ActsOnce, TakesOutcome}
+use Rattle.swarm_model.specs.Soundness.{IsSound}
+use Rattle.swarm_model.specs.Verdicts.{is_new, verdict, verdict_tally}
+use Rattle.pool_laws.proofs.Lists.{Among, all}
+use Rattle.pool_laws.proofs.Preconditions.{Finds}
+use Rattle.pool_laws.proofs.EntryPreconditions.{IsNamed, named_is, finds}
+use Rattle.pool_laws.proofs.Rows.{find_task}
+use Rattle.pool_laws.proofs.Sound.{sound_always}
+use Rattle.pool_laws.proofs.Legality.{answer_follows}
+use Rattle.pool_laws.proofs.Repeating.{acts_once}
+use Rattle.pool_laws.proofs.OutcomeLaw.{new_source}
+use Rattle.pool_laws.proofs.OutputLaw.{tell_output}
+use Rattle.pool_laws.proofs.ClaimLaw.{claims_right}
+use Rattle.pool_laws.proofs.VerdictLaw.{verdict_is_state}
+use Rattle.pool_laws.proofs.Finals.{final_through}
+use Rattle.pool_laws.proofs.TallyLaw.{tally_counts_verdicts, tally_adds_up}
+use Rattle.pool_laws.proofs.Shown.{tell_shows}
+
+module _ (kept : MachineState) (h : IsHistory kept) where
+  -- the rows are those of the log
+  abbrev rows : PoolState
+  rows = replay (opening kept.pool.settings) kept.log
+
+  -- the rows are sound
+  pub is_sound : IsSound kept.pool
+  is_sound = subst IsSound (sym h.replayed) (sound_always kept.pool.settings kept.log h.legal.caused)
+
+  -- the log tells the state of each task
+  pub tells_state : (t : ℕ) (task : TaskRow) → task_of kept.pool t ≡ Some task → verdict kept.log t ≡ task.state
+  tells_state t task e = verdict_is_state kept.pool.settings kept.log t task h.legal.caused (ap (λ (s : PoolState). task_of s t) (sym h.replayed) ∙ e)
+
+  -- so a result shows it
+  pub shows_verdict : (who : List ℕ) (moment pass : ℕ) (request : Request) → ShowsVerdict kept (answer kept.pool who moment pass request).reply
+  shows_verdict who moment pass request = tell_shows kept told (all (λ task. verdict kept.log task.no ≡ task.state) kept.pool.tasks told_of) who moment request
+    where
+      told_of : (task : TaskRow) → Among task kept.pool.tasks → verdict kept.log task.no ≡ task.state
+      told_of task a = tells_state task.no task (find_task kept.pool is_sound task task.no a refl)
+
+      told : (number try_no : ℕ) (task : TaskRow) → named_task kept.pool number try_no ≡ Some task → verdict kept.log task.no ≡ task.state
+      told number try_no task e =
+          (let f : IsNamed kept.pool number try_no task = named_is kept.pool number try_no task e in
+          told_of task f.among)
+
+  -- what is sent again adds at most a contact
+  pub repeats_once : (who : List ℕ) (moment pass : ℕ) (request : Request) → ActsOnce kept who request (answer kept.pool who moment pass request).entry
+  repeats_once who moment pass request = acts_once kept is_sound who moment pass request
+
+  -- the parts of an output are the bytes that were asked for
+  pub shows_output : (who : List ℕ) (moment pass : ℕ) (request : Request) → ShowsOutput kept request (answer kept.pool who moment pass request).reply
+  shows_output who moment pass request = tell_output kept is_sound who moment request
+
+  -- an outcome that a new task takes is there
+  pub takes_outcome : (who : List ℕ) (moment pass : ℕ) (request : Request) → kept.pool.last ≤ moment → moment ≤ 2 ^ 40 → due_entry kept.pool moment pass ≡ None →
+      IsTrue (fits kept.pool.settings request) → IfSome (answer kept.pool who moment pass request).entry (TakesOutcome kept)
+  takes_outcome who moment pass request before late none may = by_entry (answer kept.pool who moment pass request).entry refl
+    where
+      by_entry : (r : Option Entry) → (answer kept.pool who moment pass request).entry ≡ r → IfSome r (TakesOutcome kept)
+      by_entry None g = tt
+      by_entry (Some e) g = λ t by sent state slice number is.
+          new_source kept.pool e.moment t by sent state slice number is_sound
+          (subst (Finds kept.pool) is (finds kept.pool e (answer_follows kept.pool who moment pass request e is_sound before late none may g)))
+
+  -- the tally counts what the log tells
+  pub tally_told : tally kept.pool ≡ verdict_tally kept.log
+  tally_told = ap tally h.replayed ∙ tally_counts_verdicts kept.pool.settings kept.log h.legal.caused
+
+  -- and adds up
+  pub tally_total : sum_by (λ (count : ℕ). count) (tally kept.pool) ≡ count_by is_new kept.log
+  tally_total = ap (λ (s : PoolState). sum_by (λ (count : ℕ). count) (tally s)) h.replayed ∙ tally_adds_up kept.pool.settings kept.log h.legal.caused
+
+  module _ (e : Entry) (follows : MayFollow kept.pool e) where
+    -- the entry may follow the log
+    may_follow : MayFollow rows e
+    may_follow = subst (λ (s : PoolState). MayFollow s e) h.replayed follows
+
+    -- a claim that is added is right
+    pub is_right : IsRight kept e
+    is_right b t claim is =
+        subst (λ (s : PoolState). IsRightClaim s kept.log e.moment b t) (sym h.replayed) (claims_right kept.pool.settings kept.log e b t claim h.legal.caused may_follow is)
+
+    -- and what has ended stays
+    pub keeps_finals : (new : MachineState) → new.pool ≡ after kept.pool e → KeepsFinals kept new
+    keeps_finals new is t task there final =
+        ap (λ (s : PoolState). task_of s t) (is ∙ ap (λ (s : PoolState). after s e) h.replayed)
+        ∙ final_through kept.pool.settings kept.log e t task h.legal.caused may_follow (ap (λ (s : PoolState). task_of s t) (sym h.replayed) ∙ there) final

@@ -1,0 +1,107 @@
+-- What is done with a door.
+use Rattle.std.specs.Prelude.{◌≡◌, ◌==◌, if◌then◌else◌, ℕ, List, [], ◌∷◌, ◌++◌, Option}
+use Rattle.std.specs.List.{flat_map}
+use Rattle.sw_base.specs.Acceptors.{AcceptorState}
+use Rattle.sw_base.specs.Listeners.{ListenerState, Gives, FailsToListen, Shuts}
+use Rattle.sw_base.specs.declared.start_fault.StartFault.{StartFault}
+use Rattle.sw_base.specs.declared.start_fault.StartFault.TheVariants as start
+use Rattle.pool_doors.specs.Doors.{DoorState}
+use Rattle.swarm_http.specs.declared.ended.Ended.{Ended}
+use Rattle.swarm_http.specs.declared.ended.Ended.TheVariants.{Closed, LastAsked, CutShort, BadHead, Retired, ReadFault, WriteFault, Memory}
+use Rattle.swarm_http.specs.Exchange.{entries_of}
+use Rattle.swarm_http.specs.Answered.{IsAnswered}
+use Rattle.pool_summaries.specs.Summaries.{summary_of}
+use Rattle.swarm_workers.specs.declared.worked.Worked.{Worked}
+use Rattle.swarm_workers.specs.declared.worked.WorkStop.{WorkStop}
+use Rattle.swarm_workers.specs.declared.worked.WorkStop.TheVariants as stop
+use Rattle.swarm_cli.specs.Streams.{Streams, PrintsMade}
+use Rattle.swarm_workers.specs.Works.{IsWorked}
+
+-- one connection over the console is served, or those that come at an address, at most so many
+pub data ServerWork : Type 0 where
+  session : ServerWork
+  serve : List ℕ → ℕ → ServerWork
+
+-- that is done over one door, or several workers serve the connections that come at an address: so many workers, each at most so many
+pub data Service : Type 0 where
+  by_one : ServerWork → Service
+  by_several : List ℕ → ℕ → ℕ → Service
+
+-- one worker serves over a door of its own
+abbrev pub serving : List ℕ → ℕ → ℕ → Service
+serving address workers connections = if workers == 1 then by_one (serve address connections) else by_several address workers connections
+
+-- ---- a session
+
+-- the status of an ending
+abbrev pub exit_status : Ended → ℕ
+exit_status Closed = 0
+exit_status LastAsked = 0
+exit_status Retired = 0
+exit_status ReadFault = 4
+exit_status WriteFault = 4
+exit_status Memory = 5
+exit_status CutShort = 7
+exit_status BadHead = 7
+
+-- one connection over the console was served; each log has grown by the entries of its exchanges, in order
+pub record ServesConsole (before after : DoorState) (o u : Streams) (status : ℕ) : Type 0 where
+  pub ended : Ended
+  pub answered : IsAnswered (record { link = o.console; clock = o.clock; door = before }) (record { link = u.console; clock = u.clock; door = after }) ended
+  pub logs_are : (p : ℕ) → after.seen p ≡ before.seen p ++ flat_map (entries_of p) answered.xs
+  pub listener : u.listener ≡ o.listener
+  pub status_is : status ≡ exit_status ended
+
+-- ---- connections that come
+
+-- the status where something can't be made or reached before the first request
+abbrev pub start_status : StartFault → ℕ
+start_status start.Memory = 5
+start_status start.Failed = 4
+
+-- the status of a worker's stop
+abbrev pub work_status : WorkStop → ℕ
+work_status stop.Done = 0
+work_status stop.NoMore = 0
+work_status stop.Failed = 4
+work_status stop.Memory = 5
+
+-- An acceptor was given at the address, the first of those that waited; a worker served the links that came to it, and
+-- it was shut.
+pub record ServesListener (address : List ℕ) (connections : ℕ) (n m : ListenerState) (a b : ℕ → Option (List ℕ)) (before after : DoorState) (stopped : WorkStop) : Type 0 where
+  pub listening : ListenerState
+  pub first : AcceptorState
+  pub last : AcceptorState
+  pub worked : Worked
+  pub gives : Gives (λ (given : AcceptorState). given) (first ∷ []) address n listening 1
+  pub works : IsWorked first last a b before after connections worked
+  pub shuts : Shuts last listening m
+  pub stop_is : stopped ≡ worked.stop
+
+-- no acceptor was given, and nothing else was done
+pub record CannotListen (fault : StartFault) (n m : ListenerState) (a b : ℕ → Option (List ℕ)) (before after : DoorState) : Type 0 where
+  pub fails : FailsToListen fault n m
+  pub clock : b ≡ a
+  pub door : after ≡ before
+
+-- the links that came were served, and the summary of the logs was printed
+pub record ServesLinks (address : List ℕ) (connections : ℕ) (before after : DoorState) (o u : Streams) (status : ℕ) : Type 0 where
+  pub stopped : WorkStop
+  pub serves : ServesListener address connections o.listener u.listener o.clock u.clock before after stopped
+  pub summary : PrintsMade (summary_of before.settings.pools after.seen) (work_status stopped) o.console u.console status
+
+-- nothing was served, since no acceptor was given
+pub record ServesNothing (before after : DoorState) (o u : Streams) (status : ℕ) : Type 0 where
+  pub fault : StartFault
+  pub cannot : CannotListen fault o.listener u.listener o.clock u.clock before after
+  pub console : u.console ≡ o.console
+  pub status_is : status ≡ start_status fault
+
+pub data IsServedBy (address : List ℕ) (connections : ℕ) (before after : DoorState) (o u : Streams) (status : ℕ) : Type 0 where
+  served : ServesLinks address connections before after o u status → IsServedBy address connections before after o u status
+  not_served : ServesNothing before after o u status → IsServedBy address connections before after o u status
+
+-- what was done, between two states of the door and of the outside, with which status
+abbrev pub CarriesOutWork : ServerWork → DoorState → DoorState → Streams → Streams → ℕ → Type 0
+CarriesOutWork session before after o u status = ServesConsole before after o u status
+CarriesOutWork (serve address connections) before after o u status = IsServedBy address connections before after o u status

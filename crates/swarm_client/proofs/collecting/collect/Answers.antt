@@ -1,5 +1,0 @@
-use Rattle.swarm_client.specs.Plans.{lacks_memory}
-use Rattle.swarm_client.proofs.collecting.collect.Goals as goal
-
-pub returns-in_default : goal.returns-in_default
-returns-in_default g c = lacks_memory _ _

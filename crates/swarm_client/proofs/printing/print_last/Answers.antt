@@ -1,5 +1,0 @@
-use Rattle.swarm_client.specs.Plans.{end, ends}
-use Rattle.swarm_client.proofs.printing.print_last.Goals as goal
-
-pub returns-in-Ok : goal.returns-in-Ok
-returns-in-Ok g c = λ server dialer waited. c.in-Ok.ensures server (end c.args.status) dialer waited _ _ (ends c.args.status _)

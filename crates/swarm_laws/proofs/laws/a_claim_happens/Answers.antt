@@ -1,6 +1,0 @@
--- Each entry is looked up.
-use Rattle.swarm_laws.proofs.Worked.{it_happens}
-use Rattle.swarm_laws.proofs.laws.a_claim_happens.Goals as goal
-
-pub returns : goal.returns
-returns c = it_happens

@@ -1,6 +1,0 @@
--- No entry changes a row that is final.
-use Rattle.swarm_laws.proofs.Finals.{final_stays}
-use Rattle.swarm_laws.proofs.laws.finals_stay.Goals as goal
-
-pub returns : goal.returns
-returns c = final_stays

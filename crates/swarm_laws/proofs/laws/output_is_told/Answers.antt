@@ -1,6 +1,0 @@
--- The chunks of a run are in a row.
-use Rattle.swarm_laws.proofs.OutputLaw.{output_told}
-use Rattle.swarm_laws.proofs.laws.output_is_told.Goals as goal
-
-pub returns : goal.returns
-returns c = output_told

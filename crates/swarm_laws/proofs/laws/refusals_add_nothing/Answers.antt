@@ -1,6 +1,0 @@
--- Each refusal stands without an entry in the table.
-use Rattle.swarm_laws.proofs.Refusals.{refusals_add_nothing}
-use Rattle.swarm_laws.proofs.laws.refusals_add_nothing.Goals as goal
-
-pub returns : goal.returns
-returns c = refusals_add_nothing

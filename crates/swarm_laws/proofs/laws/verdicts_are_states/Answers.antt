@@ -1,6 +1,0 @@
--- Each entry moves a task as the log tells.
-use Rattle.swarm_laws.proofs.VerdictLaw.{verdict_is_state}
-use Rattle.swarm_laws.proofs.laws.verdicts_are_states.Goals as goal
-
-pub returns : goal.returns
-returns c = verdict_is_state

@@ -1,0 +1,97 @@
+#![tactic(auto)]
+
+//! Transcripts: what is sent over a connection and what comes back, as rows of a readable text.
+//!
+//! [`read`] takes the transcripts out of a text. [`compare_console`] holds what was printed in a run
+//! against a transcript, [`compare_link`] what was written to another link, [`compare_links`] how many
+//! links it used, [`compare_status`] its status, [`compare_moments`] how often its clock was asked,
+//! [`compare_waits`] how many seconds it waited and [`compare_runner`] whether it took all answers of
+//! its runner. A text has one entry a line. Lines that are blank or begin with `#` are left out.
+//!
+//! | Line | Meaning |
+//! |---|---|
+//! | `let NAME TEXT` | from here on `${NAME}` stands for the text, and `${NAME*9}` for it nine times |
+//! | `transcript NAME` | begins a transcript: one run of the program over a console and other links, on a new store that keeps nothing |
+//! | `from NAME` | the transcript begins with the rows of an earlier one of the text, up to its first `again`, and has its files |
+//! | `again` | ends the run, and begins the next one of the same words and files, over the store that it left |
+//! | `words WORD ..` | the words of the command line; `session` where the line is absent |
+//! | `caller NAME` | who sends the requests from here on, also in the transcripts that follow |
+//! | `field TEXT` | one more field in the head of the next request |
+//! | `> MOMENT PATH BODY` | a request: the clock's second at which its pool is asked, or `-` where no pool is asked, its path and its body |
+//! | `>put MOMENT PATH BODY`, `>get MOMENT PATH` | the same by PUT, and by GET |
+//! | `< STATUS \| FRONT \| BODY` | its reply: the status, the `X-Swarming-Front` or `-` for none, and the body |
+//! | `<blob STATUS \| FRONT \| BYTES` | the same, where the body are the bytes of a blob, as `application/octet-stream` |
+//! | `>> TEXT` | bytes that are sent as they stand |
+//! | `<< TEXT` | bytes that are answered as they stand |
+//! | `connection` | begins the next link that comes to the listener: the rows that follow go over it |
+//! | `dial` | begins the next link that the program dials: what is sent over it is what the program reads, and what is answered what the program writes |
+//! | `console` | the rows that follow go over the console, as those before the first `connection` or `dial` |
+//! | `>reply STATUS \| FRONT \| BODY` | a reply that a dialed link gives, in the form of `<` |
+//! | `>blob STATUS \| FRONT \| BYTES` | the same, in the form of `<blob` |
+//! | `<request PATH BODY` | a request that the program writes to a dialed link, with the fields `Host: lab`, `X-Swarming-Caller` and `Content-Length` in this order |
+//! | `<put PATH BODY`, `<get PATH` | the same by PUT, and by GET |
+//! | `runner ANSWER` | what the runner answers next to a call of the program: `done`, `output TEXT`, `quiet`, `ended CODE`, `file TEXT`, `no_file`, `cleaned SIZE ..` or `fails`, each as the [`RunnerAnswer`](runners::RunnerAnswer) of this name. Past the last answer each call fails |
+//! | `mentions TEXT` | the text stands somewhere in what is printed, which is then not compared with the replies |
+//! | `cuts STATUS` | the transcript is also run with what its last dialed link gives cut at each place: nothing is printed, and the program ends with this status |
+//! | `listen_fails CALL ..`, `accept_fails CALL ..`, `dial_fails CALL ..` | the calls that listen, accept and dial and that fail, each kind counted from 0 |
+//! | `moment SECONDS ..` | more moments that the clock answers, for requests that are sent by `>>`, and for a bot, whose clock is asked at its begin and after each of its actions |
+//! | `waits SECONDS` | how many seconds the program waits in all, over the clock of these moments; not compared where the line is absent |
+//! | `step SECONDS` | the transcript is also run over a clock that begins at its first moment and goes on by this step at each call |
+//! | `pieces FIRST LAST` | the transcript is run once for each size of the pieces in which its bytes come; `pieces 1000 1000` where the line is absent |
+//! | `fails CALL ..` | the calls on the link that the rows go over that fail: reads, writes and flushes, counted together from 0 |
+//! | `file PATH` | the program finds a file at this path, with the lines that follow; it stands before the first row |
+//! | `\| TEXT` | the next line of the file, which ends in LF |
+//! | `file_fails CALL ..` | the loads of files that fail, counted from 0 |
+//! | `attach_fails CALL ..` | the attaches of keepers that fail, counted from 0 over all runs of the transcript |
+//! | `keeper_fails CALL ..` | the calls that fail of one keeper, counted from 0: the first such line is of the keeper that is attached first, and so on |
+//! | `ends STATUS` | the status with which the run ends; 0 where the line is absent |
+//!
+//! Each TEXT and BODY may be empty, and white space at its end counts. In it, and in a PATH, `${NAME}` and
+//! `${NAME*9}` are put in, `${0x0a}` stands for one byte, and `${0x61*65}` for 65 of them. A name is
+//! letters, digits and `_`. It is given once in a text, and used below the line that gives it.
+//!
+//! The lines of a file follow its `file` at once: any other key ends it. A file without lines is
+//! empty, and no two files of a transcript have one path.
+//!
+//! A request is sent as
+//!
+//! ```text
+//! POST PATH HTTP/1.1
+//! X-Swarming-Caller: NAME
+//! Content-Length: SIZE
+//!
+//! BODY
+//! ```
+//!
+//! with its further fields behind these two, and a reply is
+//!
+//! ```text
+//! HTTP/1.1 STATUS
+//! Content-Length: SIZE
+//! Content-Type: application/json
+//! X-Swarming-Front: FRONT
+//!
+//! BODY
+//! ```
+//!
+//! without the last field where its front is `-`. Each line of a head ends in CR LF.
+
+mod comparison;
+mod conversation;
+mod draft;
+mod error;
+mod exchange;
+mod names;
+mod parts;
+mod reader;
+mod runner_answers;
+mod transcript;
+
+pub use comparison::{
+    compare_console, compare_link, compare_links, compare_moments, compare_nothing, compare_runner,
+    compare_status, compare_waits,
+};
+pub use conversation::Conversation;
+pub use error::{TextFault, TranscriptError};
+pub use reader::read;
+pub use test_transcript_reader::{File, Pieces, Reply, Transcript};

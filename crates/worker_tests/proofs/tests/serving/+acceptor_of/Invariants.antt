@@ -1,5 +1,0 @@
-use Rattle.std.proofs.Common.{length}
-use Rattle.worker_tests.proofs.tests.serving.+acceptor_of.Given as goal
-
-abbrev pub decreases-acceptor_of : goal.decreases-acceptor_of
-decreases-acceptor_of l = length l.links.now

@@ -1,7 +1,0 @@
--- The machine of a pool can be sent to the thread of a worker.
-use denote.Param.Send.{sendable}
-use Rattle.swarm_machine.proofs.Sending.{pool_send}
-use Rattle.worker_tests.proofs.tests.serving.serve_links.Goals as goal
-
-pub serve_shared-requires-send-M : goal.serve_shared-requires-send-M
-serve_shared-requires-send-M g c κs within = search (pool_send, sendable) depth 20
