@@ -7,7 +7,7 @@ use std::marker::Send;
 /// Links that come one after another to a worker. Each is handed back as it ends, which may be after
 /// others have come.
 pub trait Acceptor: Send {
-    type Link: Link + Drop;
+    type Link: Link + Drop + Send;
 
     ghost state: { Self → AcceptorState };
 

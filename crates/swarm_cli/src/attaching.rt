@@ -17,8 +17,6 @@ pub(crate) fn detach_all<P: Store>(
     pools: &[PoolSettings],
     keepers: Vec<P::Keeper>,
 )
-where
-    P::Keeper: Drop,
     requires own_names { IsTrue (have_own_names pools.now) }
     requires count { length keepers.items ≡ length pools.now }
     requires places { AllByRecursion (λ pool. HasPlace (P.state store.old) folder.now pool.name) pools.now }
@@ -66,8 +64,6 @@ pub(crate) fn attach_all<P: Store>(
     folder: &str,
     pools: &[PoolSettings],
 ) -> Result<Vec<P::Keeper>, StartFault>
-where
-    P::Keeper: Drop,
     requires { IsTrue (have_own_names pools.now) }
     ensures attached { IfOk result (λ keepers. AttachesAll (P.state store.old) (P.state store.new) folder.now pools.now (map P.Keeper.tables keepers.items) (sum_by P.Keeper.faults keepers.items)) }
     ensures not_attached { IfErr result (AttachesNone (P.state store.old) (P.state store.new)) }

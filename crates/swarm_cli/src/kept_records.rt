@@ -26,8 +26,6 @@ pub(crate) fn run_kept<L: Link, C: Clock, P: Store, N: Listener>(
     store: &mut P,
     listener: &mut N,
 ) -> u8
-where
-    P::Keeper: Drop,
     requires rules { IsTrue (are_settings settings.now) }
     requires own_names { IsTrue (have_own_names settings.now.pools) }
     requires clean { IsClean (L.state console.old) }

@@ -46,9 +46,6 @@ fn run_service<
     store: &mut P,
     listener: &mut N,
 ) -> u8
-where
-    P::Keeper: Drop,
-    <N::Acceptor as Acceptor>::Link: Send,
     requires clean { IsClean (L.state console.old) }
     requires range { HasRanges service.now }
     ensures { (dialer : DialerState) (runner : RunnerState) → RunsBy (service_of service.now) (option_map string_bytes settings.now)
@@ -115,9 +112,6 @@ fn carry_out<
     dialer: &mut W,
     runner: &mut R,
 ) -> u8
-where
-    P::Keeper: Drop,
-    <N::Acceptor as Acceptor>::Link: Send,
     requires clean { IsClean (L.state console.old) }
     requires ranges { words.HasRanges (value_of command) }
     ensures { CarriesOut (value_of command)
@@ -198,9 +192,6 @@ pub fn run<
     dialer: &mut W,
     runner: &mut R,
 ) -> u8
-where
-    P::Keeper: Drop,
-    <N::Acceptor as Acceptor>::Link: Send,
     requires { IsClean (L.state console.old) }
     ensures { Runs (command_of (map string_bytes words.now))
         (record { files = F.state files.old; store = P.state store.old; streams = record { console = L.state console.old; clock = C.ahead clock.old; listener = N.state listener.old }; dialer = W.state dialer.old; waited = C.waited clock.old; runner = R.state runner.old })

@@ -36,8 +36,6 @@ pub(crate) fn run_unkept<T: Threads + Wait + Sync, L: Link, C: Clock + Drop + Se
     clock: &mut C,
     listener: &mut N,
 ) -> u8
-where
-    <N::Acceptor as Acceptor>::Link: Send,
     requires rules { IsTrue (are_settings settings.now) }
     requires clean { IsClean (L.state console.old) }
     requires range { HasRanges service.now }
@@ -75,9 +73,6 @@ fn run_accepted<T: Threads + Wait + Sync, L: Link, C: Clock + Drop + Send, P: St
     store: &mut P,
     listener: &mut N,
 ) -> u8
-where
-    P::Keeper: Drop,
-    <N::Acceptor as Acceptor>::Link: Send,
     requires rules { IsTrue (are_settings settings.now) }
     requires own_names { IsTrue (have_own_names settings.now.pools) }
     requires clean { IsClean (L.state console.old) }
@@ -127,9 +122,6 @@ fn run_text<T: Threads + Wait + Sync, L: Link, C: Clock + Drop + Send, P: Store,
     store: &mut P,
     listener: &mut N,
 ) -> u8
-where
-    P::Keeper: Drop,
-    <N::Acceptor as Acceptor>::Link: Send,
     requires clean { IsClean (L.state console.old) }
     requires range { HasRanges service.now }
     ensures { RunsText (service_of service.now) text.now (P.state store.old) (P.state store.new)
@@ -164,9 +156,6 @@ pub(crate) fn run_file<
     store: &mut P,
     listener: &mut N,
 ) -> u8
-where
-    P::Keeper: Drop,
-    <N::Acceptor as Acceptor>::Link: Send,
     requires clean { IsClean (L.state console.old) }
     requires range { HasRanges service.now }
     ensures { RunsFile (service_of service.now) path.now (F.state files.old) (F.state files.new) (P.state store.old) (P.state store.new)

@@ -28,8 +28,6 @@ pub(crate) fn run_shared<T: Threads + Wait + Sync, L: Link, C: Clock + Drop + Se
     clock: &C,
     listener: &mut N,
 ) -> u8
-where
-    <N::Acceptor as Acceptor>::Link: Send,
     requires rules { IsTrue (are_settings settings.now) }
     requires workers { (1 ≤ workers) × (workers ≤ 32) }
     requires number { connections ≤ 1000000 }

@@ -8,7 +8,7 @@ use sw_base::StartFault;
 
 /// Where the records of pools are kept, by folder and pool.
 pub trait Store {
-    type Keeper: Keeper;
+    type Keeper: Keeper + Drop;
 
     /// What the store tells.
     ghost state: { Self → StoreState };

@@ -54,8 +54,6 @@ pub fn run_workers<T: Threads + Sync, D: Door + Send, C: Clock + Send, A: Accept
     workers: &mut [Worker<D, C, A>],
     connections: u32,
 )
-where
-    A::Link: Send,
     requires settings { All (λ w. (D.state w.door).settings ≡ settings.now) workers.old }
     requires rules { IsTrue (are_settings settings.now) }
     requires number { connections ≤ 1000000 }

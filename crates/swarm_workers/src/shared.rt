@@ -43,8 +43,6 @@ pub fn serve_shared<
     clock: &C,
     listener: &mut N,
 ) -> Result<(WorkStop, Vec<M>), StartFault>
-where
-    <N::Acceptor as Acceptor>::Link: Send,
     requires rules { IsTrue (are_settings settings.now) }
     requires sure { IsTrue K.SURE }
     requires keepers { length keepers.items ≡ length settings.now.pools }

@@ -32,10 +32,7 @@ fn run_over<P: Store>(
     alloc: Global,
     store: &mut P,
     input: &[u8],
-) -> Result<(Result<Ended, LoadFault>, Vec<u8>), StartFault>
-where
-    P::Keeper: Drop,
-{
+) -> Result<(Result<Ended, LoadFault>, Vec<u8>), StartFault> {
     let Ok(settings) = read_settings(alloc, SETTINGS) else {
         return Err(StartFault::Failed);
     };

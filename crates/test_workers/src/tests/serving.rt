@@ -69,8 +69,6 @@ pub fn serve_links<R: Threads + Wait + Sync, N: Listener>(
     workers: u32,
     listener: &mut N,
 ) -> Result<(WorkStop, Vec<Pool>), StartFault>
-where
-    <N::Acceptor as Acceptor>::Link: Send,
     requires rules { IsTrue (are_settings settings.now) }
     requires workers { (1 ≤ workers) × (workers ≤ 32) }
     ensures { IfOk result (λ served. length served.1.items ≡ length settings.now.pools) }
