@@ -9,7 +9,7 @@ import socket
 import subprocess
 import time
 
-import records
+from lib import records
 
 HOST = "127.0.0.1"
 # The limits of time of a connection, in seconds (docs/limits.md): before a request, with one worker and

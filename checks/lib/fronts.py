@@ -15,8 +15,7 @@ import subprocess
 import sys
 import time
 
-import records
-import serving
+from lib import records, serving
 
 # What stands around a file of conf.d in Debian's nginx.conf, with all files in a folder of the check.
 AROUND = """user www-data;

@@ -13,7 +13,7 @@ import sqlite3
 import subprocess
 import sys
 
-TOP = os.path.dirname(os.path.dirname(os.path.abspath(__file__)))
+TOP = os.path.dirname(os.path.dirname(os.path.dirname(os.path.abspath(__file__))))
 SWARM = os.path.join(TOP, "swarm")
 PERMISSIONS = [
     "swarming.pools.createTask",
