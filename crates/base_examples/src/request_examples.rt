@@ -2,7 +2,7 @@
 ghost use Rattle.std.specs.Prelude.{◌≡◌, [], Some, None, codes};
 ghost use Rattle.client_requests.specs.Requests.{request_text};
 ghost use Rattle.url.specs.declared.host.Host.TheVariants.{Domain};
-ghost use Rattle.server_address.specs.Addresses.{texts_of, url_texts};
+ghost use Rattle.client_requests.specs.Addresses.{texts_of, url_texts};
 ghost use Rattle.base_examples.specs.RequestExamples.{url_of};
 
 /// A request names its method and target, its host, its caller and the length of its body, in this

@@ -6,7 +6,7 @@ ghost use Rattle.bot_bodies.specs.BotCalls.{handshake_in, poll_in, claim_in, eve
 
 use crate::PoolRequest;
 use crate::bot_fields::{check_bot_info, read_bot_info, read_event, read_message};
-use crate::names::{read_name, read_optional_name};
+use crate::names::{read_kept_text, read_name, read_optional_name};
 use dimensions::Text;
 use json_fields::{read_limit, read_number, read_required_text, read_text};
 use serde_json::Value;
@@ -64,12 +64,11 @@ pub fn read_claim(alloc: Global, body: &Value) -> Result<PoolRequest, PropFault>
     ensures fits { IfOk result FitsNamed }
     ensures bare { IfOk result IsBare }
 {
-    let pool = read_required_text(alloc, body, "pool")?;
+    let pool = read_kept_text(alloc, body, "pool")?;
     let name = read_required_text(alloc, body, "bot_id")?;
     let text = read_required_text(alloc, body, "claim_id")?;
     let bot = read_name(alloc, "bot_id", name)?;
     let claim = read_name(alloc, "claim_id", text)?;
-    let pool = Text::from_str(alloc, pool)?;
     let request = Request::Claim { bot, claim };
     Ok(PoolRequest { pool, request })
 }
@@ -81,14 +80,13 @@ pub fn read_bot_event(alloc: Global, body: &Value) -> Result<PoolRequest, PropFa
     ensures fits { IfOk result FitsNamed }
     ensures bare { IfOk result IsBare }
 {
-    let pool = read_required_text(alloc, body, "pool")?;
+    let pool = read_kept_text(alloc, body, "pool")?;
     let name = read_required_text(alloc, body, "bot_id")?;
     let event = read_required_text(alloc, body, "event")?;
     let text = read_text(alloc, body, "message")?;
     let bot = read_name(alloc, "bot_id", name)?;
     let kind = read_event(alloc, event)?;
     let message = read_message(alloc, kind, text)?;
-    let pool = Text::from_str(alloc, pool)?;
     let request = Request::Event { bot, kind, message };
     Ok(PoolRequest { pool, request })
 }
@@ -100,10 +98,9 @@ pub fn read_terminate(alloc: Global, body: &Value) -> Result<PoolRequest, PropFa
     ensures fits { IfOk result FitsNamed }
     ensures bare { IfOk result IsBare }
 {
-    let pool = read_required_text(alloc, body, "pool")?;
+    let pool = read_kept_text(alloc, body, "pool")?;
     let name = read_required_text(alloc, body, "bot_id")?;
     let bot = read_name(alloc, "bot_id", name)?;
-    let pool = Text::from_str(alloc, pool)?;
     let request = Request::Terminate { bot };
     Ok(PoolRequest { pool, request })
 }
@@ -115,10 +112,9 @@ pub fn read_get_bot(alloc: Global, body: &Value) -> Result<PoolRequest, PropFaul
     ensures fits { IfOk result FitsNamed }
     ensures bare { IfOk result IsBare }
 {
-    let pool = read_required_text(alloc, body, "pool")?;
+    let pool = read_kept_text(alloc, body, "pool")?;
     let name = read_required_text(alloc, body, "bot_id")?;
     let bot = read_name(alloc, "bot_id", name)?;
-    let pool = Text::from_str(alloc, pool)?;
     let request = Request::Bot { bot };
     Ok(PoolRequest { pool, request })
 }
@@ -130,12 +126,11 @@ pub fn read_list_bots(alloc: Global, body: &Value) -> Result<PoolRequest, PropFa
     ensures fits { IfOk result FitsNamed }
     ensures bare { IfOk result IsBare }
 {
-    let pool = read_required_text(alloc, body, "pool")?;
+    let pool = read_kept_text(alloc, body, "pool")?;
     let number = read_number(alloc, body, "limit")?;
     let text = read_text(alloc, body, "cursor")?;
     let limit = read_limit(alloc, number)?;
     let after = read_optional_name(alloc, "cursor", text.as_str())?;
-    let pool = Text::from_str(alloc, pool)?;
     let request = Request::Bots { limit, after };
     Ok(PoolRequest { pool, request })
 }

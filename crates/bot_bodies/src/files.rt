@@ -6,10 +6,11 @@ ghost use Rattle.task_props.specs.Sorted.{is_file, is_path};
 ghost use Rattle.json_fields.specs.Readings.{Reads, at};
 ghost use Rattle.bot_bodies.specs.Files.{file_in, files_in, path_of, file_of, files_of};
 
+use crate::names::read_kept_text;
 use dimensions::{Seq, Text};
 use json_fields::{
     CheckItem, ReadFields, broken, check_items, read_digest_at, read_number, read_optional_objects,
-    read_required_text, read_text, read_whole,
+    read_text, read_whole,
 };
 use serde_json::Value;
 use std::alloc::Global;
@@ -27,9 +28,8 @@ impl ReadFields for FileFields {
     #[tactic(auto, unfolding(crate::specs::Files::file_in))]
     fn read_fields(alloc: Global, file: &Value) -> Result<RawFile, PropFault> {
         let path = read_text(alloc, file, "path")?;
-        let text = read_required_text(alloc, file, "digest")?;
+        let digest = read_kept_text(alloc, file, "digest")?;
         let size = read_number(alloc, file, "size")?;
-        let digest = Text::from_str(alloc, text)?;
         Ok(RawFile { path, digest, size })
     }
 }

@@ -1,15 +1,26 @@
-//! The names of bots, of their sessions and of their claims.
+//! The names of bots, of their sessions and of their claims, and texts that are kept.
 ghost use Rattle.std.specs.Prelude.{◌≡◌, ◌||◌, IfOk, true};
+ghost use Rattle.serde_json.specs.View.{view};
 ghost use Rattle.dimensions.specs.Rules.{is_empty};
 ghost use Rattle.swarm_model.specs.Fits.{is_name as spec_is_name};
+ghost use Rattle.json_fields.specs.Fields.{required_text_at};
 ghost use Rattle.json_fields.specs.Readings.{Gives, Reads};
 ghost use Rattle.bot_bodies.specs.Names.{name_of as spec_name_of, name_at, optional_name_at};
 
 use dimensions::Text;
-use json_fields::broken;
+use json_fields::{broken, read_required_text};
+use serde_json::Value;
 use std::alloc::Global;
 use swarm_model::is_name;
 use task_props::{PropFault, PropRule};
+
+/// A text that must be there, to be kept.
+pub(crate) fn read_kept_text(alloc: Global, body: &Value, key: &str) -> Result<Text, PropFault>
+    ensures { Reads result (required_text_at key.now (view body.now)) }
+{
+    let text = read_required_text(alloc, body, key)?;
+    Ok(Text::from_str(alloc, text)?)
+}
 
 /// A text that is a name.
 #[tactic(auto, unfolding(crate::specs::Names::name_of))]
@@ -17,10 +28,7 @@ fn name_of(text: &str) -> Result<&str, PropRule>
     ensures exact { Gives (λ s. s.now) result (spec_name_of text.now) }
     ensures named { IfOk result (λ name. spec_is_name name.now ≡ true) }
 {
-    if text.is_empty() {
-        return Err(PropRule::Count);
-    }
-    if text.len() > 64 {
+    if text.is_empty() || text.len() > 64 {
         return Err(PropRule::Count);
     }
     if !is_name(text) {

@@ -5,7 +5,6 @@ ghost use Rattle.std.specs.Option.{option_map_or};
 ghost use Rattle.sha2.specs.Sha256.{sha256};
 ghost use Rattle.serde_json.specs.View.{view};
 ghost use Rattle.json_fields.specs.Readings.{Reads, at};
-ghost use Rattle.json_fields.specs.Fields.{required_text_at};
 ghost use Rattle.swarm_model.specs.Fits.{is_name, fits_chunk, fits_last};
 ghost use Rattle.task_props.specs.Sorted.{is_file};
 ghost use Rattle.bot_bodies.specs.ExitCodes.{code_of as spec_code_of};
@@ -13,12 +12,10 @@ ghost use Rattle.bot_bodies.specs.Reports.{raw_exit_in, raw_end_in, raw_report_i
 
 use crate::exit_codes::code_of;
 use crate::files::{read_files, read_raw_files};
-use crate::names::read_name;
+use crate::names::{read_kept_text, read_name};
 use crate::outputs::{Output, RawOutput, read_output, read_raw_output};
 use dimensions::{Seq, Text};
-use json_fields::{
-    broken, read_flag, read_number, read_optional_number, read_required_text, read_run, read_whole,
-};
+use json_fields::{broken, read_flag, read_number, read_optional_number, read_run, read_whole};
 use serde_json::Value;
 use std::alloc::Global;
 use swarm_model::Last;
@@ -100,16 +97,6 @@ fn read_raw_end(alloc: Global, body: &Value) -> Result<RawEnd, PropFault>
         dropped,
         files,
     })
-}
-
-// A text that must be there, to be kept.
-fn read_kept_text(alloc: Global, body: &Value, key: &str) -> Result<Text, PropFault>
-    ensures { Reads result (required_text_at key.now (view body.now)) }
-{
-    match read_required_text(alloc, body, key) {
-        Ok(text) => Ok(Text::from_str(alloc, text)?),
-        Err(fault) => Err(fault),
-    }
 }
 
 #[tactic(auto, unfolding(crate::specs::Reports::raw_report_in))]

@@ -26,11 +26,11 @@ use Rattle.task_bodies.specs.Results.{id_in}
 use Rattle.task_bodies.specs.Cancels.{cancel_in}
 use Rattle.task_bodies.specs.Lists.{list_body_in, cursor_at}
 use Rattle.task_bodies.specs.States.{state_text_in, state_of}
-use Rattle.blob_bodies.specs.Stdouts.{stdout_in, length_of}
+use Rattle.task_bodies.specs.Stdouts.{stdout_in, length_of}
 use Rattle.bot_bodies.specs.BotCalls.{list_bots_in}
 use Rattle.bot_bodies.specs.Names.{optional_name_at}
 use Rattle.task_bodies.specs.declared.lists.ListBody.{ListBody}
-use Rattle.blob_bodies.specs.declared.stdouts.StdoutBody.{StdoutBody}
+use Rattle.task_bodies.specs.declared.stdouts.StdoutBody.{StdoutBody}
 use Rattle.bot_bodies.specs.declared.pool_request.PoolRequest.{PoolRequest}
 use Rattle.swarm_wire.specs.declared.asked.Asked.{Asked}
 use Rattle.swarm_wire.specs.declared.asked.WireFault.{WireFault}

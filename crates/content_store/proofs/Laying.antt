@@ -1,19 +1,19 @@
 -- Slots that come and go keep what is said of all slots.
-use Rattle.std.proofs.Common.{◌≡◌, ℕ, suc, ◌+◌, ◌≤◌, ◌<◌, Bool, true, false, not, cond, List, [], ◌∷◌, ◌++◌, length, get_or, take, drop, map, Option, Some, None, refl, sym, ap, ◌∙◌, subst, arith}
+use Rattle.std.proofs.Common.{◌≡◌, ℕ, ◌+◌, ◌≤◌, ◌<◌, Bool, true, false, not, cond, List, [], ◌∷◌, length, get_or, map, Option, Some, None, refl, sym, ap, ◌∙◌, subst, arith}
 use Rattle.std.specs.Bool.{OnTrue}
 use Rattle.std.specs.Option.{option_map}
 use Rattle.std.specs.List.{insert, remove, All, Contains}
 use Rattle.std.specs.List.Sorted.{IsStrictlySortedBy}
-use Rattle.std.proofs.lemmas.List.{map-append, map-id, take-map, drop-map, length-map, get_or-map}
+use Rattle.std.proofs.lemmas.List.{map-id, length-map, get_or-map}
 use Rattle.std.proofs.lemmas.List.Kept.{IsStrictlySortedBy-filter}
 use Rattle.std.proofs.lemmas.List.Quantifiers.{all_pairs_remove}
-use Rattle.std.proofs.lemmas.List.Elements.{All-append, All-cons, All-take, All-drop}
 use Rattle.blob_rows.specs.declared.extent.Extent.{Extent}
 use Rattle.blob_rows.specs.Places.{least_place, is_free, overlaps}
 use Rattle.blob_rows.specs.Extents.{extent_at, without_extent, AreApart}
 use Rattle.blob_rows.specs.Digests.{digest_cmp, same_digest}
 use Rattle.blob_rows.specs.BlobRows.{units_of}
 use Rattle.blob_rows.proofs.LeastPlaces.{least_place-free}
+use Rattle.placed_list.proofs.Listing.{map-insert, map-remove, All-insert, All-remove}
 use Rattle.region.specs.Plain.{RegionState}
 use Rattle.region.specs.FreeUnits.{IsFreeBeside, AreInUse}
 use Rattle.region.proofs.Overlaps.{insert-apart}
@@ -24,16 +24,6 @@ use Rattle.content_store.specs.declared.slot.Slot.{Slot}
 use Rattle.content_store.proofs.ByDigest.{name_of, find_at, belongs_find, insert-sorted, remove_named, with_content-is}
 
 -- ---- lists under a map
-
-pub map-insert : {X Y : Type 0} (f : X → Y) (xs : List X) (i : ℕ) (x : X) → map f (insert xs i x) ≡ insert (map f xs) i (f x)
-map-insert f xs i x =
-    map-append f (take i xs) (x ∷ drop i xs) ∙ ap (λ (l : List _). l ++ f x ∷ map f (drop i xs)) (sym (take-map f i xs))
-    ∙ ap (λ (l : List _). take i (map f xs) ++ f x ∷ l) (sym (drop-map f i xs))
-
-pub map-remove : {X Y : Type 0} (f : X → Y) (xs : List X) (i : ℕ) → map f (remove xs i) ≡ remove (map f xs) i
-map-remove f xs i =
-    map-append f (take i xs) (drop (suc i) xs) ∙ ap (λ (l : List _). l ++ map f (drop (suc i) xs)) (sym (take-map f i xs))
-    ∙ ap (λ (l : List _). take i (map f xs) ++ l) (sym (drop-map f (suc i) xs))
 
 pub names_in : (bytes : List ℕ) (slots : List Slot) → map name_of (map (content_in bytes) slots) ≡ map digest_of slots
 names_in bytes [] = refl
@@ -53,13 +43,6 @@ found_parts n (Some at) e is =
 
 -- ---- a slot more
 
-module _ {X : Type 0} (P : X → Type 0) where
-  pub All-inserted : (xs : List X) (i : ℕ) (x : X) → P x → All P xs → All P (insert xs i x)
-  All-inserted xs i x one all = All-append P (take i xs) (x ∷ drop i xs) (All-take P i xs all) (All-cons P x (drop i xs) one (All-drop P i xs all))
-
-  pub All-removed : (xs : List X) (i : ℕ) → All P xs → All P (remove xs i)
-  All-removed xs i all = All-append P (take i xs) (drop (suc i) xs) (All-take P i xs all) (All-drop P (suc i) xs all)
-
 module _ (layout : RegionState) (slots : List Slot) (i : ℕ) (slot : Slot) (laid : AreLaidOut layout slots) (belongs : BelongsAt (map digest_of slots) slot.digest i)
     (least : least_place (map extent_of_slot slots) layout.units (units_of slot.size) ≡ Some slot.at) where
   within : i ≤ length slots
@@ -76,7 +59,7 @@ module _ (layout : RegionState) (slots : List Slot) (i : ℕ) (slot : Slot) (lai
       record {
         sorted = subst (λ (l : List (List ℕ)). IsStrictlySortedBy digest_cmp l) (sym (map-insert digest_of slots i slot)) (insert-sorted slot.digest (map digest_of slots) i laid.sorted belongs);
         apart = subst (λ (l : List Extent). AreApart l) (sym (map-insert extent_of_slot slots i slot)) (insert-apart extents i (extent_of_slot slot) low laid.apart free.1);
-        inside = subst (λ (n : ℕ). All (λ s. s.at + units_of s.size ≤ n) (insert slots i slot)) (sym units) (All-inserted (λ s. s.at + units_of s.size ≤ layout.units) slots i slot free.0 laid.inside);
+        inside = subst (λ (n : ℕ). All (λ s. s.at + units_of s.size ≤ n) (insert slots i slot)) (sym units) (All-insert (λ s. s.at + units_of s.size ≤ layout.units) slots i slot free.0 laid.inside);
         beside = subst (λ (l : List Extent). IsFreeBeside next l) (sym (map-insert extent_of_slot slots i slot)) beside;
       }
 
@@ -92,7 +75,7 @@ module _ (layout : RegionState) (slots : List Slot) (i : ℕ) (slot : Slot) (lai
 
   pub added-there : slot.is_filled ≡ false → (bytes : List ℕ) → AreThere bytes slots → AreThere bytes (insert slots i slot)
   added-there empty bytes there =
-      All-inserted (λ s. OnTrue s.is_filled (IsThere bytes s)) slots i slot (subst (λ (t : Bool). OnTrue t (IsThere bytes slot)) (sym empty) tt) there
+      All-insert (λ s. OnTrue s.is_filled (IsThere bytes s)) slots i slot (subst (λ (t : Bool). OnTrue t (IsThere bytes slot)) (sym empty) tt) there
 
 -- ---- what is not held, and what is
 
@@ -168,7 +151,7 @@ module _ (layout : RegionState) (slots : List Slot) (i : ℕ) (d : Slot) (laid :
       record {
         sorted = subst (λ (l : List (List ℕ)). IsStrictlySortedBy digest_cmp l) (sym (map-remove digest_of slots i)) (remove-sorted (map digest_of slots) i (omega (arith, low, length-map slots digest_of)) laid.sorted);
         apart = subst (λ (l : List Extent). AreApart l) (sym (map-remove extent_of_slot slots i)) (all_pairs_remove (λ a b. overlaps a.at a.units b ≡ false) extents i far laid.apart);
-        inside = subst (λ (n : ℕ). All (λ s. s.at + units_of s.size ≤ n) (remove slots i)) (sym units) (All-removed (λ s. s.at + units_of s.size ≤ layout.units) slots i laid.inside);
+        inside = subst (λ (n : ℕ). All (λ s. s.at + units_of s.size ≤ n) (remove slots i)) (sym units) (All-remove (λ s. s.at + units_of s.size ≤ layout.units) slots i laid.inside);
         beside = subst (λ (l : List Extent). IsFreeBeside next l) (sym left) beside;
       }
 

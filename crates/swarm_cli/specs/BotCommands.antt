@@ -4,7 +4,7 @@ use Rattle.sw_base.specs.declared.start_fault.StartFault.TheVariants as fault
 use Rattle.sw_base.specs.Dialers.{DialerState}
 use Rattle.sw_base.specs.Link.{LinkState}
 use Rattle.link_writer.specs.Printing.{Prints}
-use Rattle.server_address.specs.Addresses.{address_of}
+use Rattle.client_requests.specs.Addresses.{address_of}
 use Rattle.command_words.specs.Commands.{BotOptions}
 use Rattle.swarm_model.specs.Fits.{is_name}
 use Rattle.bot_dimensions.specs.Pairs.{fitting_pairs}

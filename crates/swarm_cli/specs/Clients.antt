@@ -7,7 +7,7 @@ use Rattle.sw_base.specs.Link.{LinkState}
 use Rattle.link_writer.specs.Printing.{Prints}
 use Rattle.json_fields.specs.Ids.{id_of}
 use Rattle.request_head.specs.HeadFields.{is_caller}
-use Rattle.server_address.specs.Addresses.{address_of}
+use Rattle.client_requests.specs.Addresses.{address_of}
 use Rattle.swarm_model.specs.declared.task_state.TaskState.{TaskState}
 use Rattle.swarm_model.specs.States.{state_named}
 use Rattle.client_commands.specs.declared.server.Server.{Server}

@@ -1,6 +1,6 @@
 //! The command of a bot.
 ghost use Rattle.std.specs.Prelude.{◌≡◌, ◌∷◌, [], None, Some, IfOk, codes, string_bytes};
-ghost use Rattle.server_address.specs.Addresses.{address_of};
+ghost use Rattle.client_requests.specs.Addresses.{address_of};
 ghost use Rattle.bot_dimensions.specs.Pairs.{fitting_pairs};
 ghost use Rattle.command_words.specs.Commands.{BotOptions, options_of};
 ghost use Rattle.swarm_cli.specs.Clients.{Fits, first_unfit};
@@ -14,12 +14,12 @@ use bot_core::{BotLimits, StopWhy};
 use bot_dimensions::{PairsFault, read_pairs};
 use bot_requests::Hands;
 use bot_turns::{Stopped, run_bot};
+use client_requests::ServerAddress;
 use command_words::Bot;
 use dimensions::{Seq, Text};
 use link_writer::print;
 use named_caches::CacheTable;
 use runners::Runner;
-use server_address::ServerAddress;
 use std::alloc::{AllocError, Global};
 use sw_base::{Dialer, StartFault};
 use swarm_http::{Clock, Link};

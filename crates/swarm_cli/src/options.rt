@@ -1,13 +1,13 @@
 //! The options of a client's command, and their grammars.
 ghost use Rattle.std.specs.Prelude.{◌≡◌, ◌∷◌, [], None, Some, Err, IfOk, codes, string_bytes};
-ghost use Rattle.server_address.specs.Addresses.{address_of};
+ghost use Rattle.client_requests.specs.Addresses.{address_of};
 ghost use Rattle.swarm_cli.specs.Clients.{Fits, PrintsOptionFault, server_test, caller_test, id_test, state_test, wanted_state};
 
 use crate::option_fault::OptionFault;
 use crate::printing::print_grammar;
+use client_requests::{AddressFault, ServerAddress, read_address};
 use json_fields::read_id;
 use request_head::is_caller;
-use server_address::{AddressFault, ServerAddress, read_address};
 use std::alloc::Global;
 use swarm_http::Link;
 use swarm_model::TaskState;

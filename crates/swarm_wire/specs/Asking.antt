@@ -31,8 +31,8 @@ use Rattle.task_bodies.specs.Lists.{list_body_in}
 use Rattle.task_bodies.specs.Counts.{count_in}
 use Rattle.bot_bodies.specs.BotCalls.{handshake_in, poll_in, claim_in, event_in, terminate_in, get_bot_in, list_bots_in}
 use Rattle.bot_bodies.specs.Reports.{report_in, update_by}
-use Rattle.blob_bodies.specs.BlobLists.{blobs_in}
-use Rattle.blob_bodies.specs.Stdouts.{stdout_in}
+use Rattle.task_bodies.specs.BlobLists.{blobs_in}
+use Rattle.task_bodies.specs.Stdouts.{stdout_in}
 
 -- a request with which no bytes come, to the pool at a place
 abbrev pub asked : ℕ → Request → Asked

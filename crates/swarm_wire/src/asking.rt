@@ -11,14 +11,13 @@ ghost use Rattle.swarm_wire.specs.Asking.{Asks, FitsPool, CarriesBytes, new_of, 
 
 use crate::pools::{pool_at, pool_place};
 use crate::{Asked, WireFault};
-use blob_bodies::read_stdout;
 use bot_bodies::{PoolRequest, read_report};
 use dimensions::Seq;
 use json_fields::{broken, place_of_number, task_of_id, task_of_number, try_of_id};
 use serde_json::Value;
 use std::alloc::Global;
 use swarm_model::{PoolSettings, Request};
-use task_bodies::{read_cancel, read_count, read_list, read_task, read_task_id};
+use task_bodies::{read_cancel, read_count, read_list, read_stdout, read_task, read_task_id};
 use task_props::{PropFault, PropRule};
 
 /// The task in a body, asked of the pool of its dimensions.

@@ -5,13 +5,13 @@ ghost use Rattle.swarm_wire.specs.Asking.{Asks, FitsPool, CarriesBytes, missing_
 
 use crate::pools::pool_place;
 use crate::{Asked, Parts, WireFault};
-use blob_bodies::read_blobs;
 use dimensions::Seq;
 use json_fields::read_digest_at;
 use serde_json::Value;
 use sha2::{Digest as Hash, Sha256};
 use std::alloc::Global;
 use swarm_model::{PoolSettings, Request};
+use task_bodies::read_blobs;
 
 /// Which blobs are not held, asked of the pool in the target.
 #[tactic(auto, unfolding(crate::specs::Asking::missing_of))]

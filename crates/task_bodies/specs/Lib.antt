@@ -5,3 +5,5 @@ pub mod Results
 pub mod States
 pub mod Counts
 pub mod Lists
+pub mod BlobLists
+pub mod Stdouts

@@ -2,7 +2,7 @@
 ghost use Rattle.std.specs.Prelude.{◌≡◌, ◌≤◌, ◌%◌, ◌&&◌, nat_le, true, IfOk};
 ghost use Rattle.serde_json.specs.View.{view};
 ghost use Rattle.json_fields.specs.Readings.{Reads};
-ghost use Rattle.blob_bodies.specs.Stdouts.{length_of, stdout_in};
+ghost use Rattle.task_bodies.specs.Stdouts.{length_of, stdout_in};
 
 use json_fields::{read_id, read_number, read_required_text, read_whole};
 use serde_json::Value;

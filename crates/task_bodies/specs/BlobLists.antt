@@ -8,7 +8,7 @@ use Rattle.json_fields.specs.Fields.{required_text_at, number_at, object_item, i
 use Rattle.json_fields.specs.Digests.{digest_at}
 use Rattle.json_fields.specs.Ranges.{whole_at}
 use Rattle.json_fields.specs.Checks.{checked_items}
-use Rattle.blob_bodies.specs.declared.blob_lists.RawBlob.{RawBlob}
+use Rattle.task_bodies.specs.declared.blob_lists.RawBlob.{RawBlob}
 
 -- ---- fields
 

@@ -1,7 +1,7 @@
 //! The texts of a host and a port.
 
 ghost use Rattle.std.specs.Prelude.{◌≡◌, IfOk, string_bytes};
-ghost use Rattle.server_address.specs.Addresses.{host_field, with_port as spec_with_port};
+ghost use Rattle.client_requests.specs.Addresses.{host_field, with_port as spec_with_port};
 
 use std::alloc::{AllocError, Global};
 

@@ -3,7 +3,7 @@
 ghost use Rattle.std.specs.Prelude.{◌≡◌, Err, IfOk, None, Some, codes, option_map, string_bytes};
 ghost use Rattle.url.specs.Host.{host_text};
 ghost use Rattle.url.specs.Parts.{nonempty_host};
-ghost use Rattle.server_address.specs.Addresses.{address_of, texts_of, url_texts};
+ghost use Rattle.client_requests.specs.Addresses.{address_of, texts_of, url_texts};
 
 use crate::texts::{host_value, with_port};
 use std::alloc::{AllocError, Global};
@@ -32,7 +32,7 @@ pub enum AddressFault {
 
 impl fmt::Display for AddressFault {
     ghost use Rattle.std.specs.Prelude.{Some};
-    ghost use Rattle.server_address.specs.Faults.{fault_text};
+    ghost use Rattle.client_requests.specs.Faults.{fault_text};
 
     ghost output = { λ fault. Some (fault_text fault) };
 

@@ -3,7 +3,7 @@ ghost use Rattle.std.specs.Prelude.{◌≡◌, ◌≤◌, true, IfOk, length};
 ghost use Rattle.std.specs.List.{list_all};
 ghost use Rattle.serde_json.specs.View.{view};
 ghost use Rattle.json_fields.specs.Readings.{Reads};
-ghost use Rattle.blob_bodies.specs.BlobLists.{raw_blob_in, raw_blobs_in, blob_of, has_blob_size, blobs_in};
+ghost use Rattle.task_bodies.specs.BlobLists.{raw_blob_in, raw_blobs_in, blob_of, has_blob_size, blobs_in};
 
 use dimensions::{Seq, Text};
 use json_fields::{

@@ -1,7 +1,7 @@
 -- How a fault is told.
 use Rattle.std.specs.Prelude.{ℕ, List, codes}
-use Rattle.server_address.specs.declared.address.AddressFault.{AddressFault}
-use Rattle.server_address.specs.declared.address.AddressFault.TheVariants.{Memory, Grammar}
+use Rattle.client_requests.specs.declared.address.AddressFault.{AddressFault}
+use Rattle.client_requests.specs.declared.address.AddressFault.TheVariants.{Memory, Grammar}
 
 abbrev pub fault_text : AddressFault → List ℕ
 fault_text Memory = codes "want of memory"

@@ -6,7 +6,7 @@ use Rattle.json_fields.specs.Readings.{at, ◌>>=◌}
 use Rattle.json_fields.specs.Fields.{required_text_at, number_at}
 use Rattle.json_fields.specs.Ids.{id_of}
 use Rattle.json_fields.specs.Ranges.{whole_at}
-use Rattle.blob_bodies.specs.declared.stdouts.StdoutBody.{StdoutBody}
+use Rattle.task_bodies.specs.declared.stdouts.StdoutBody.{StdoutBody}
 
 -- 0 to 65536 bytes, where 0 means 65536
 unfoldable pub length_of : ℤ → Result ℕ PropFault

@@ -1,2 +1,0 @@
-pub mod BlobLists
-pub mod Stdouts
