@@ -6,8 +6,9 @@ use Rattle.std.proofs.lemmas.Bool.{and_from, and_parts, or_from, or_parts, not-t
 use Rattle.std.proofs.lemmas.List.Folds.{list_all-append, list_any-append}
 use Rattle.swarm_model.specs.declared.pool_settings.PoolSettings.{PoolSettings}
 use Rattle.swarm_model.specs.Settings.{are_placed, is_pool_name, keeps_rules}
-use Rattle.swarm_model.specs.Words.{is_between}
 use Rattle.swarm_policy.specs.Grants.{are_grants}
+use Rattle.swarm_policy.specs.declared.limits.Limit.TheVariants as limit
+use Rattle.swarm_policy.specs.Limits.{is_within}
 use Rattle.swarm_policy.specs.Pools.{are_pools, has_name, have_own_names, is_new, is_next_pool}
 
 all-more : {X : Type 0} (t : X → Bool) (xs : List X) (x : X) → list_all t xs ≡ true → t x ≡ true → list_all t (xs ++ x ∷ []) ≡ true
@@ -53,14 +54,14 @@ pub next_pool : (before : List PoolSettings) (p : PoolSettings)
     → p.place ≡ length before
     → is_pool_name p.name ≡ true
     → is_new before p.name ≡ true
-    → is_between 0 31536000 p.reuse_age_secs ≡ true
-    → is_between 60 2592000 p.death_timeout_secs ≡ true
-    → is_between 60 31536000 p.blob_life_secs ≡ true
-    → is_between 1 4194304 p.store_units ≡ true
-    → is_between 1 262144 p.most_tasks ≡ true
-    → is_between 1 4096 p.most_bots ≡ true
-    → is_between 1 4194304 p.most_entries ≡ true
-    → is_between 1 134217728 p.most_weight ≡ true
+    → is_within limit.ReuseAgeSecs p.reuse_age_secs ≡ true
+    → is_within limit.DeathTimeoutSecs p.death_timeout_secs ≡ true
+    → is_within limit.BlobLifeSecs p.blob_life_secs ≡ true
+    → is_within limit.StoreUnits p.store_units ≡ true
+    → is_within limit.MostTasks p.most_tasks ≡ true
+    → is_within limit.MostBots p.most_bots ≡ true
+    → is_within limit.MostEntries p.most_entries ≡ true
+    → is_within limit.MostWeight p.most_weight ≡ true
     → are_grants p.grants ≡ true
     → is_next_pool before p ≡ true
 unfolding is_next_pool

@@ -1,15 +1,13 @@
 -- The keys of a table, and what their values must be.
-use Rattle.std.specs.Prelude.{ℕ, ℤ, pos, negsuc, Bool, not, List, [], ◌∷◌, is_some, option_and_then, option_map, Option, Some, None, if◌then◌else◌, Result, Ok, Err}
+use Rattle.std.specs.Prelude.{ℕ, Bool, not, List, [], ◌∷◌, is_some, option_and_then, option_map, Option, Some, None, if◌then◌else◌, Result, Ok, Err}
 use Rattle.std.specs.List.{list_any}
-use Rattle.toml.specs.Data.{Data, Items, no_items, item, Members, no_members, member, get, as_integer, as_str, as_array, as_table}
+use Rattle.toml.specs.Data.{Data, Items, no_items, item, Members, no_members, member, as_str, as_array, as_table}
 use Rattle.dimensions.specs.Alike.{same}
-use Rattle.swarm_model.specs.Words.{is_between}
-use Rattle.json_fields.specs.Readings.{◌>>=◌}
 use Rattle.swarm_policy.specs.declared.settings_rule.SettingsRule.{SettingsRule}
-use Rattle.swarm_policy.specs.declared.settings_rule.SettingsRule.TheVariants.{Missing, Range, Unknown}
+use Rattle.swarm_policy.specs.declared.settings_rule.SettingsRule.TheVariants.{Missing, Unknown}
 use Rattle.swarm_policy.specs.declared.settings_fault.SettingsFault.{SettingsFault}
 use Rattle.swarm_policy.specs.declared.settings_fault.SettingsFault.TheVariants.{Broken}
-use Rattle.swarm_policy.specs.Readings.{at, or_wrong, keeping}
+use Rattle.swarm_policy.specs.Readings.{or_wrong}
 
 -- a value that must be there
 abbrev pub required : {A : Type 0} → (Data → Result A SettingsRule) → Option Data → Result A SettingsRule
@@ -39,19 +37,6 @@ values_of d = or_wrong (option_map list_of (as_array d))
 
 abbrev pub is_table : Data → Bool
 is_table d = is_some (as_table d)
-
--- a whole number from the least to the most
-abbrev pub ranged : ℕ → ℕ → ℤ → Result ℕ SettingsRule
-ranged least most (pos n) = keeping Range (is_between least most) n
-ranged least most (negsuc n) = Err Range
-
--- a value that must be such a number
-abbrev pub number_of : ℕ → ℕ → Data → Result ℕ SettingsRule
-number_of least most d = or_wrong (as_integer d) >>= ranged least most
-
--- the number at a key, from the least to the most, with its default
-unfoldable pub number_at : List ℕ → ℕ → ℕ → ℕ → Data → Result ℕ SettingsFault
-number_at key default least most d = at key (or_default default (number_of least most) (get key d))
 
 -- ---- keys that aren't known
 

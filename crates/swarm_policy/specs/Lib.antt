@@ -2,7 +2,6 @@ pub mod Rules
 pub mod Faults
 pub mod Readings
 pub mod Fields
-pub mod Defaults
 pub mod Limits
 pub mod Grants
 pub mod Pools

@@ -1,30 +1,57 @@
--- The limits that a pool's table says: key, default, least and most.
-use Rattle.std.specs.Prelude.{ℕ, codes, Result}
-use Rattle.toml.specs.Data.{Data}
+-- The limits of a pool: the key of each in a pool's table, the number that counts where the table leaves it out, and the range.
+use Rattle.std.specs.Prelude.{ℕ, ℤ, pos, negsuc, Bool, List, [], ◌∷◌, codes, Result, Err}
+use Rattle.toml.specs.Data.{Data, as_integer, get}
+use Rattle.swarm_model.specs.Words.{is_between}
+use Rattle.json_fields.specs.Readings.{◌>>=◌}
+use Rattle.swarm_policy.specs.declared.limits.Limit.{Limit}
+use Rattle.swarm_policy.specs.declared.limits.Limit.TheVariants.{ReuseAgeSecs, DeathTimeoutSecs, BlobLifeSecs, StoreUnits, MostTasks, MostBots, MostEntries, MostWeight}
+use Rattle.swarm_policy.specs.declared.settings_rule.SettingsRule.{SettingsRule}
+use Rattle.swarm_policy.specs.declared.settings_rule.SettingsRule.TheVariants.{Range}
 use Rattle.swarm_policy.specs.declared.settings_fault.SettingsFault.{SettingsFault}
-use Rattle.swarm_policy.specs.Defaults.{default_reuse_age_secs, default_death_timeout_secs, default_blob_life_secs, default_store_units, default_most_tasks, default_most_bots, default_most_entries, default_most_weight}
-use Rattle.swarm_policy.specs.Fields.{number_at}
+use Rattle.swarm_policy.specs.Fields.{or_default}
+use Rattle.swarm_policy.specs.Readings.{at, keeping, or_wrong}
 
-unfoldable pub reuse_age_of : Data → Result ℕ SettingsFault
-reuse_age_of d = number_at (codes "reuse_age_secs") default_reuse_age_secs 0 31536000 d
+pub record Row : Type 0 where
+  pub key : List ℕ
+  pub default : ℕ
+  pub least : ℕ
+  pub most : ℕ
 
-unfoldable pub death_timeout_of : Data → Result ℕ SettingsFault
-death_timeout_of d = number_at (codes "death_timeout_secs") default_death_timeout_secs 60 2592000 d
+-- what counts for each limit
+abbrev pub row_of : Limit → Row
+row_of ReuseAgeSecs = record { key = codes "reuse_age_secs"; default = 604800; least = 0; most = 31536000 }
+row_of DeathTimeoutSecs = record { key = codes "death_timeout_secs"; default = 600; least = 60; most = 2592000 }
+row_of BlobLifeSecs = record { key = codes "blob_life_secs"; default = 604800; least = 60; most = 31536000 }
+row_of StoreUnits = record { key = codes "store_units"; default = 1048576; least = 1; most = 4194304 }
+row_of MostTasks = record { key = codes "most_tasks"; default = 262144; least = 1; most = 262144 }
+row_of MostBots = record { key = codes "most_bots"; default = 4096; least = 1; most = 4096 }
+row_of MostEntries = record { key = codes "most_entries"; default = 4194304; least = 1; most = 4194304 }
+row_of MostWeight = record { key = codes "most_weight"; default = 134217728; least = 1; most = 134217728 }
 
-unfoldable pub blob_life_of : Data → Result ℕ SettingsFault
-blob_life_of d = number_at (codes "blob_life_secs") default_blob_life_secs 60 31536000 d
+-- the limits in the order of the keys of a pool's table
+abbrev pub limits : List Limit
+limits = ReuseAgeSecs ∷ DeathTimeoutSecs ∷ BlobLifeSecs ∷ StoreUnits ∷ MostTasks ∷ MostBots ∷ MostEntries ∷ MostWeight ∷ []
 
-unfoldable pub store_units_of : Data → Result ℕ SettingsFault
-store_units_of d = number_at (codes "store_units") default_store_units 1 4194304 d
+-- from the least to the most
+abbrev pub is_in_row : Row → ℕ → Bool
+is_in_row row n = is_between row.least row.most n
 
-unfoldable pub most_tasks_of : Data → Result ℕ SettingsFault
-most_tasks_of d = number_at (codes "most_tasks") default_most_tasks 1 262144 d
+abbrev pub is_within : Limit → ℕ → Bool
+is_within limit n = is_in_row (row_of limit) n
 
-unfoldable pub most_bots_of : Data → Result ℕ SettingsFault
-most_bots_of d = number_at (codes "most_bots") default_most_bots 1 4096 d
+-- a whole number within the range
+abbrev pub ranged : Row → ℤ → Result ℕ SettingsRule
+ranged row (pos n) = keeping Range (is_in_row row) n
+ranged row (negsuc n) = Err Range
 
-unfoldable pub most_entries_of : Data → Result ℕ SettingsFault
-most_entries_of d = number_at (codes "most_entries") default_most_entries 1 4194304 d
+-- a value that must be such a number
+abbrev pub number_of : Row → Data → Result ℕ SettingsRule
+number_of row d = or_wrong (as_integer d) >>= ranged row
 
-unfoldable pub most_weight_of : Data → Result ℕ SettingsFault
-most_weight_of d = number_at (codes "most_weight") default_most_weight 1 134217728 d
+-- the number at the key of a row
+unfoldable pub number_in : Row → Data → Result ℕ SettingsFault
+number_in row d = at row.key (or_default row.default (number_of row) (get row.key d))
+
+-- the number of a pool's table
+unfoldable pub number_at : Limit → Data → Result ℕ SettingsFault
+number_at limit d = number_in (row_of limit) d

@@ -4,7 +4,8 @@ use Rattle.swarm_model.specs.declared.pool_settings.Grant.{Grant}
 use Rattle.swarm_model.specs.declared.pool_settings.PoolSettings.{PoolSettings}
 use Rattle.swarm_model.specs.declared.pool_settings.Settings.{Settings}
 use Rattle.swarm_model.specs.Permissions.{permissions}
-use Rattle.swarm_policy.specs.Defaults.{default_reuse_age_secs, default_death_timeout_secs, default_blob_life_secs, default_store_units, default_most_tasks, default_most_bots, default_most_entries, default_most_weight}
+use Rattle.swarm_policy.specs.declared.limits.Limit.TheVariants as limit
+use Rattle.swarm_policy.specs.Limits.{row_of}
 
 -- everyone may do everything
 abbrev pub everyone : Grant
@@ -16,14 +17,14 @@ open_pool =
     record {
       place = 0;
       name = codes "default";
-      reuse_age_secs = default_reuse_age_secs;
-      death_timeout_secs = default_death_timeout_secs;
-      blob_life_secs = default_blob_life_secs;
-      store_units = default_store_units;
-      most_tasks = default_most_tasks;
-      most_bots = default_most_bots;
-      most_entries = default_most_entries;
-      most_weight = default_most_weight;
+      reuse_age_secs = (row_of limit.ReuseAgeSecs).default;
+      death_timeout_secs = (row_of limit.DeathTimeoutSecs).default;
+      blob_life_secs = (row_of limit.BlobLifeSecs).default;
+      store_units = (row_of limit.StoreUnits).default;
+      most_tasks = (row_of limit.MostTasks).default;
+      most_bots = (row_of limit.MostBots).default;
+      most_entries = (row_of limit.MostEntries).default;
+      most_weight = (row_of limit.MostWeight).default;
       grants = everyone ∷ [];
     }
 

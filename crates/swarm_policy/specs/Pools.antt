@@ -1,5 +1,5 @@
 -- The pools that a document says.
-use Rattle.std.specs.Prelude.{ℕ, Bool, true, not, ◌&&◌, ◌==◌, List, [], ◌∷◌, ◌++◌, length, codes, decimal, Option, Result, Ok}
+use Rattle.std.specs.Prelude.{ℕ, Bool, true, not, ◌&&◌, ◌==◌, List, [], ◌∷◌, ◌++◌, length, map, codes, decimal, Option, Result, Ok}
 use Rattle.std.specs.List.{list_all, list_any}
 use Rattle.toml.specs.Data.{Data, get}
 use Rattle.dimensions.specs.Alike.{same}
@@ -13,14 +13,13 @@ use Rattle.swarm_policy.specs.declared.settings_rule.SettingsRule.TheVariants.{W
 use Rattle.swarm_policy.specs.declared.settings_fault.SettingsFault.{SettingsFault}
 use Rattle.swarm_policy.specs.Fields.{is_table, required, text_of, unknown_key, unless_unknown, values_of}
 use Rattle.swarm_policy.specs.Grants.{grants_at}
-use Rattle.swarm_policy.specs.Limits.{reuse_age_of, death_timeout_of, blob_life_of, store_units_of, most_tasks_of, most_bots_of, most_entries_of, most_weight_of}
+use Rattle.swarm_policy.specs.declared.limits.Limit.TheVariants as limit
+use Rattle.swarm_policy.specs.Limits.{limits, number_at, row_of}
 use Rattle.swarm_policy.specs.Readings.{at, inside, keeping}
 
 -- the keys of a pool's table
 abbrev pub pool_keys : List (List ℕ)
-pool_keys =
-    codes "name" ∷ codes "reuse_age_secs" ∷ codes "death_timeout_secs" ∷ codes "blob_life_secs" ∷ codes "store_units"
-    ∷ codes "most_tasks" ∷ codes "most_bots" ∷ codes "most_entries" ∷ codes "most_weight" ∷ codes "grants" ∷ []
+pool_keys = codes "name" ∷ (map (λ limit. (row_of limit).key) limits ++ codes "grants" ∷ [])
 
 -- the pool has the name
 abbrev pub has_name : List ℕ → PoolSettings → Bool
@@ -47,14 +46,14 @@ unfoldable pub pool_of : List PoolSettings → Data → Result PoolSettings Sett
 pool_of before d = do
   table ← unless_unknown d (unknown_key pool_keys d)
   name ← name_at before d
-  reuse_age_secs ← reuse_age_of d
-  death_timeout_secs ← death_timeout_of d
-  blob_life_secs ← blob_life_of d
-  store_units ← store_units_of d
-  most_tasks ← most_tasks_of d
-  most_bots ← most_bots_of d
-  most_entries ← most_entries_of d
-  most_weight ← most_weight_of d
+  reuse_age_secs ← number_at limit.ReuseAgeSecs d
+  death_timeout_secs ← number_at limit.DeathTimeoutSecs d
+  blob_life_secs ← number_at limit.BlobLifeSecs d
+  store_units ← number_at limit.StoreUnits d
+  most_tasks ← number_at limit.MostTasks d
+  most_bots ← number_at limit.MostBots d
+  most_entries ← number_at limit.MostEntries d
+  most_weight ← number_at limit.MostWeight d
   grants ← grants_at d
   Ok (record {
     place = length before;

@@ -1,18 +1,14 @@
 //! The keys of a table, and what their values must be.
-ghost use Rattle.std.specs.Prelude.{◌≡◌, IfOk, IsTrue, map, option_map};
+ghost use Rattle.std.specs.Prelude.{◌≡◌, map, option_map};
 ghost use Rattle.std.specs.List.{list_any};
 ghost use Rattle.toml.specs.Data.{get_member};
 ghost use Rattle.toml.specs.View.{view, table_view, members_view};
 ghost use Rattle.dimensions.specs.Alike.{same};
 ghost use Rattle.dimensions.specs.Rules.{has_length_to as spec_has_length_to};
-ghost use Rattle.swarm_model.specs.Words.{is_between};
 ghost use Rattle.json_fields.specs.Readings.{Gives};
-ghost use Rattle.swarm_policy.specs.Readings.{Reads};
-ghost use Rattle.swarm_policy.specs.Fields.{text_of as spec_text_of, values_of as spec_values_of, ranged as spec_ranged, number_of as spec_number_of, number_at, or_default, is_unknown as spec_is_unknown, first_unknown as spec_first_unknown, unknown_key as spec_unknown_key};
+ghost use Rattle.swarm_policy.specs.Fields.{text_of as spec_text_of, values_of as spec_values_of, is_unknown as spec_is_unknown, first_unknown as spec_first_unknown, unknown_key as spec_unknown_key};
 
-use crate::places::broken;
-use crate::{SettingsFault, SettingsRule};
-use std::alloc::Global;
+use crate::SettingsRule;
 use toml::{Table, Value};
 
 /// The value of a key of the document's table.
@@ -43,66 +39,6 @@ pub(crate) fn has_length_to(most: usize, text: &str) -> bool
     ensures { result ≡ spec_has_length_to most text.now }
 {
     1 <= text.len() && text.len() <= most
-}
-
-fn ranged(number: i64, least: u32, most: u32) -> Result<u32, SettingsRule>
-    ensures value { Gives (λ n. n) result (spec_ranged least most number) }
-    ensures within { IfOk result (λ n. IsTrue (is_between least most n)) }
-{
-    if number < 0 {
-        return Err(SettingsRule::Range);
-    }
-    if i64::from(least) <= number && number <= i64::from(most) {
-        Ok(number as u32)
-    } else {
-        Err(SettingsRule::Range)
-    }
-}
-
-fn number_of(value: &Value, least: u32, most: u32) -> Result<u32, SettingsRule>
-    ensures value { Gives (λ n. n) result (spec_number_of least most (view value.now)) }
-    ensures within { IfOk result (λ n. IsTrue (is_between least most n)) }
-{
-    match value.as_integer() {
-        Some(number) => ranged(number, least, most),
-        None => Err(SettingsRule::WrongType),
-    }
-}
-
-fn number_in(
-    found: Option<&Value>,
-    default: u32,
-    least: u32,
-    most: u32,
-) -> Result<u32, SettingsRule>
-    requires { IsTrue (is_between least most default) }
-    ensures value { Gives (λ n. n) result (or_default default (spec_number_of least most) (option_map (λ v. view v.now) found.entry)) }
-    ensures within { IfOk result (λ n. IsTrue (is_between least most n)) }
-{
-    match found {
-        None => Ok(default),
-        Some(value) => number_of(value, least, most),
-    }
-}
-
-/// The number at a key of a pool, from the least to the most.
-#[tactic(auto, unfolding(crate::specs::Fields::number_at))]
-pub(crate) fn read_number(
-    alloc: Global,
-    pool: &Value,
-    key: &str,
-    default: u32,
-    least: u32,
-    most: u32,
-) -> Result<u32, SettingsFault>
-    requires { IsTrue (is_between least most default) }
-    ensures reads { Reads result (number_at key.now default least most (view pool.now)) }
-    ensures within { IfOk result (λ n. IsTrue (is_between least most n)) }
-{
-    match number_in(pool.get(key), default, least, most) {
-        Ok(number) => Ok(number),
-        Err(rule) => Err(broken(alloc, key, rule)),
-    }
 }
 
 fn is_known(known: &[&str], key: &str) -> bool

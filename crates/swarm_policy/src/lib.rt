@@ -10,14 +10,13 @@
 //!
 //! [`open_settings`] are the settings of a server that was given none: one pool, named `default`,
 //! whose limits are the defaults and in which every caller may do everything. `specs/Open.antt`
-//! writes them out, over the same defaults (`specs/Defaults.antt`). `allowed` of `swarm_model` tells
+//! writes them out, over the rows of the limits (`specs/Limits.antt`). `allowed` of `swarm_model` tells
 //! whether a pool gives a caller a permission.
 //!
 //! The crate stands on `swarm_model`, `dimensions` and `toml`, and has the frame of
 //! its definitions, `Gives` and `◌>>=◌`, from `json_fields`.
 #![tactic(auto)]
 
-mod defaults;
 mod documents;
 mod fields;
 mod grants;

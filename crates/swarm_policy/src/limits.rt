@@ -1,117 +1,146 @@
-//! The limits that a pool's table says: key, default, least and most.
-ghost use Rattle.std.specs.Prelude.{IfOk, IsTrue};
+//! The limits of a pool, in the order of the keys of its table.
+ghost use Rattle.std.specs.Prelude.{◌≡◌, IfOk, IsTrue, option_map};
 ghost use Rattle.toml.specs.View.{view};
 ghost use Rattle.swarm_model.specs.Words.{is_between};
+ghost use Rattle.json_fields.specs.Readings.{Gives};
+ghost use Rattle.swarm_policy.specs.Fields.{or_default};
+ghost use Rattle.swarm_policy.specs.Limits.{is_in_row, is_within, number_at, number_in as spec_number_in, number_of as spec_number_of, ranged as spec_ranged, row_of};
 ghost use Rattle.swarm_policy.specs.Readings.{Reads};
-ghost use Rattle.swarm_policy.specs.Limits.{reuse_age_of, death_timeout_of, blob_life_of, store_units_of, most_tasks_of, most_bots_of, most_entries_of, most_weight_of};
 
-use crate::fields::read_number;
-use crate::{SettingsFault, defaults};
+use crate::places::broken;
+use crate::{SettingsFault, SettingsRule};
 use std::alloc::Global;
+use std::marker::Model;
 use toml::Value;
 
-#[tactic(auto, unfolding(crate::specs::Limits::reuse_age_of))]
-pub(crate) fn reuse_age(alloc: Global, pool: &Value) -> Result<u32, SettingsFault>
-    ensures reads { Reads result (reuse_age_of (view pool.now)) }
-    ensures within { IfOk result (λ n. IsTrue (is_between 0 31536000 n)) }
-{
-    read_number(
-        alloc,
-        pool,
-        "reuse_age_secs",
-        defaults::REUSE_AGE_SECS,
-        0,
-        31_536_000,
-    )
+/// A number that a pool's table may have.
+#[derive(Clone, Copy)]
+pub(crate) enum Limit {
+    ReuseAgeSecs,
+    DeathTimeoutSecs,
+    BlobLifeSecs,
+    StoreUnits,
+    MostTasks,
+    MostBots,
+    MostEntries,
+    MostWeight,
 }
 
-#[tactic(auto, unfolding(crate::specs::Limits::death_timeout_of))]
-pub(crate) fn death_timeout(alloc: Global, pool: &Value) -> Result<u32, SettingsFault>
-    ensures reads { Reads result (death_timeout_of (view pool.now)) }
-    ensures within { IfOk result (λ n. IsTrue (is_between 60 2592000 n)) }
-{
-    read_number(
-        alloc,
-        pool,
-        "death_timeout_secs",
-        defaults::DEATH_TIMEOUT_SECS,
-        60,
-        2_592_000,
-    )
+/// What counts for a limit: its key, the number where a table leaves it out, and the range.
+#[derive(Drop)]
+struct Row {
+    key: &'static str,
+    default: u32,
+    least: u32,
+    most: u32,
 }
 
-#[tactic(auto, unfolding(crate::specs::Limits::blob_life_of))]
-pub(crate) fn blob_life(alloc: Global, pool: &Value) -> Result<u32, SettingsFault>
-    ensures reads { Reads result (blob_life_of (view pool.now)) }
-    ensures within { IfOk result (λ n. IsTrue (is_between 60 31536000 n)) }
-{
-    read_number(
-        alloc,
-        pool,
-        "blob_life_secs",
-        defaults::BLOB_LIFE_SECS,
-        60,
-        31_536_000,
-    )
+impl Model for Row {
+    ghost use Rattle.std.specs.Prelude.{IsTrue};
+    ghost use Rattle.swarm_model.specs.Words.{is_between};
+    ghost use Rattle.swarm_policy.specs.Limits.{Row as SpecRow};
+
+    ghost Value = { SpecRow };
+
+    ghost view = { λ r. record { key = r.key.now; default = r.default; least = r.least; most = r.most } };
+
+    ghost invariant = { λ r. IsTrue (is_between r.least r.most r.default) };
 }
 
-#[tactic(auto, unfolding(crate::specs::Limits::store_units_of))]
-pub(crate) fn store_units(alloc: Global, pool: &Value) -> Result<u32, SettingsFault>
-    ensures reads { Reads result (store_units_of (view pool.now)) }
-    ensures within { IfOk result (λ n. IsTrue (is_between 1 4194304 n)) }
-{
-    read_number(
-        alloc,
-        pool,
-        "store_units",
-        defaults::STORE_UNITS,
-        1,
-        4_194_304,
-    )
+impl Row {
+    /// A row, as the table below writes it.
+    fn new(key: &'static str, default: u32, least: u32, most: u32) -> Self
+        requires { IsTrue (is_between least most default) }
+        ensures { result ≡ record { key = key.entry.now; default = default; least = least; most = most } }
+    {
+        Row {
+            key,
+            default,
+            least,
+            most,
+        }
+    }
+
+    /// A whole number within the range.
+    fn ranged(&self, number: i64) -> Result<u32, SettingsRule>
+        ensures value { Gives (λ n. n) result (spec_ranged self.now number) }
+        ensures within { IfOk result (λ n. IsTrue (is_in_row self.now n)) }
+    {
+        if number < 0 {
+            return Err(SettingsRule::Range);
+        }
+        if i64::from(self.least) <= number && number <= i64::from(self.most) {
+            Ok(number as u32)
+        } else {
+            Err(SettingsRule::Range)
+        }
+    }
+
+    /// A value that must be such a number.
+    fn number_of(&self, value: &Value) -> Result<u32, SettingsRule>
+        ensures value { Gives (λ n. n) result (spec_number_of self.now (view value.now)) }
+        ensures within { IfOk result (λ n. IsTrue (is_in_row self.now n)) }
+    {
+        match value.as_integer() {
+            Some(number) => self.ranged(number),
+            None => Err(SettingsRule::WrongType),
+        }
+    }
+
+    /// Such a number, or the default where there is none.
+    fn number_in(&self, found: Option<&Value>) -> Result<u32, SettingsRule>
+        ensures value { Gives (λ n. n) result (or_default self.now.default (spec_number_of self.now) (option_map (λ v. view v.now) found.entry)) }
+        ensures within { IfOk result (λ n. IsTrue (is_in_row self.now n)) }
+    {
+        match found {
+            None => Ok(self.default),
+            Some(value) => self.number_of(value),
+        }
+    }
+
+    /// The number at the key of the row.
+    #[tactic(auto, unfolding(crate::specs::Limits::number_in))]
+    fn read(&self, alloc: Global, pool: &Value) -> Result<u32, SettingsFault>
+        ensures reads { Reads result (spec_number_in self.now (view pool.now)) }
+        ensures within { IfOk result (λ n. IsTrue (is_in_row self.now n)) }
+    {
+        match self.number_in(pool.get(self.key)) {
+            Ok(number) => Ok(number),
+            Err(rule) => Err(broken(alloc, self.key, rule)),
+        }
+    }
 }
 
-#[tactic(auto, unfolding(crate::specs::Limits::most_tasks_of))]
-pub(crate) fn most_tasks(alloc: Global, pool: &Value) -> Result<u32, SettingsFault>
-    ensures reads { Reads result (most_tasks_of (view pool.now)) }
-    ensures within { IfOk result (λ n. IsTrue (is_between 1 262144 n)) }
-{
-    read_number(alloc, pool, "most_tasks", defaults::MOST_TASKS, 1, 262_144)
-}
+impl Limit {
+    /// The table of the limits.
+    fn row(self) -> Row
+        ensures { result ≡ row_of self }
+    {
+        match self {
+            Limit::ReuseAgeSecs => Row::new("reuse_age_secs", 604_800, 0, 31_536_000),
+            Limit::DeathTimeoutSecs => Row::new("death_timeout_secs", 600, 60, 2_592_000),
+            Limit::BlobLifeSecs => Row::new("blob_life_secs", 604_800, 60, 31_536_000),
+            Limit::StoreUnits => Row::new("store_units", 1_048_576, 1, 4_194_304),
+            Limit::MostTasks => Row::new("most_tasks", 262_144, 1, 262_144),
+            Limit::MostBots => Row::new("most_bots", 4096, 1, 4096),
+            Limit::MostEntries => Row::new("most_entries", 4_194_304, 1, 4_194_304),
+            Limit::MostWeight => Row::new("most_weight", 134_217_728, 1, 134_217_728),
+        }
+    }
 
-#[tactic(auto, unfolding(crate::specs::Limits::most_bots_of))]
-pub(crate) fn most_bots(alloc: Global, pool: &Value) -> Result<u32, SettingsFault>
-    ensures reads { Reads result (most_bots_of (view pool.now)) }
-    ensures within { IfOk result (λ n. IsTrue (is_between 1 4096 n)) }
-{
-    read_number(alloc, pool, "most_bots", defaults::MOST_BOTS, 1, 4096)
-}
+    /// What counts where a table leaves it out.
+    pub(crate) fn default(self) -> u32
+        ensures { result ≡ (row_of self).default }
+    {
+        self.row().default
+    }
 
-#[tactic(auto, unfolding(crate::specs::Limits::most_entries_of))]
-pub(crate) fn most_entries(alloc: Global, pool: &Value) -> Result<u32, SettingsFault>
-    ensures reads { Reads result (most_entries_of (view pool.now)) }
-    ensures within { IfOk result (λ n. IsTrue (is_between 1 4194304 n)) }
-{
-    read_number(
-        alloc,
-        pool,
-        "most_entries",
-        defaults::MOST_ENTRIES,
-        1,
-        4_194_304,
-    )
-}
-
-#[tactic(auto, unfolding(crate::specs::Limits::most_weight_of))]
-pub(crate) fn most_weight(alloc: Global, pool: &Value) -> Result<u32, SettingsFault>
-    ensures reads { Reads result (most_weight_of (view pool.now)) }
-    ensures within { IfOk result (λ n. IsTrue (is_between 1 134217728 n)) }
-{
-    read_number(
-        alloc,
-        pool,
-        "most_weight",
-        defaults::MOST_WEIGHT,
-        1,
-        134_217_728,
-    )
+    /// The number that a pool's table has for it.
+    #[tactic(auto, unfolding(crate::specs::Limits::number_at))]
+    pub(crate) fn read(self, alloc: Global, pool: &Value) -> Result<u32, SettingsFault>
+        ensures reads { Reads result (number_at self (view pool.now)) }
+        ensures within { IfOk result (λ n. IsTrue (is_within self n)) }
+    {
+        self.row().read(alloc, pool)
+    }
 }

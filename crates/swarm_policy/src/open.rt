@@ -3,7 +3,7 @@ ghost use Rattle.swarm_model.specs.Permissions.{permissions};
 ghost use Rattle.swarm_model.specs.Settings.{are_settings};
 ghost use Rattle.swarm_policy.specs.Open.{everyone, open_pool, open_settings as spec_open_settings};
 
-use crate::defaults;
+use crate::limits::Limit;
 use dimensions::{Seq, Text};
 use std::alloc::{AllocError, Global};
 use swarm_model::{Grant, Permission, PoolSettings, Settings};
@@ -38,14 +38,14 @@ fn open_pool(alloc: Global) -> Result<PoolSettings, AllocError>
     Ok(PoolSettings {
         place: 0,
         name: Text::from_str(alloc, "default")?,
-        reuse_age_secs: defaults::REUSE_AGE_SECS,
-        death_timeout_secs: defaults::DEATH_TIMEOUT_SECS,
-        blob_life_secs: defaults::BLOB_LIFE_SECS,
-        store_units: defaults::STORE_UNITS,
-        most_tasks: defaults::MOST_TASKS,
-        most_bots: defaults::MOST_BOTS,
-        most_entries: defaults::MOST_ENTRIES,
-        most_weight: defaults::MOST_WEIGHT,
+        reuse_age_secs: Limit::ReuseAgeSecs.default(),
+        death_timeout_secs: Limit::DeathTimeoutSecs.default(),
+        blob_life_secs: Limit::BlobLifeSecs.default(),
+        store_units: Limit::StoreUnits.default(),
+        most_tasks: Limit::MostTasks.default(),
+        most_bots: Limit::MostBots.default(),
+        most_entries: Limit::MostEntries.default(),
+        most_weight: Limit::MostWeight.default(),
         grants: Seq::from_vec(vec![in alloc; everyone(alloc)?]?),
     })
 }

@@ -12,29 +12,13 @@ ghost use Rattle.swarm_policy.specs.Pools.{has_name as spec_has_name, is_new as 
 
 use crate::fields::{has_length_to, text_of, unknown_key, values_of};
 use crate::grants::read_grants;
-use crate::limits::{
-    blob_life, death_timeout, most_bots, most_entries, most_tasks, most_weight, reuse_age,
-    store_units,
-};
+use crate::limits::Limit;
 use crate::places::{below, below_place, broken};
 use crate::{SettingsFault, SettingsRule};
 use dimensions::{Seq, Text};
 use std::alloc::Global;
 use swarm_model::PoolSettings;
 use toml::Value;
-
-const POOL_KEYS: [&str; 10] = [
-    "name",
-    "reuse_age_secs",
-    "death_timeout_secs",
-    "blob_life_secs",
-    "store_units",
-    "most_tasks",
-    "most_bots",
-    "most_entries",
-    "most_weight",
-    "grants",
-];
 
 fn is_key_byte(byte: u8) -> bool
     ensures { result ≡ spec_is_key_byte byte }
@@ -98,7 +82,21 @@ fn read_name(alloc: Global, before: &[PoolSettings], pool: &Value) -> Result<Tex
 fn unknown_in(pool: &Value) -> Option<&str>
     ensures { option_map (λ s. s.now) result ≡ spec_unknown_key pool_keys (view pool.now) }
 {
-    unknown_key(pool, &POOL_KEYS)
+    unknown_key(
+        pool,
+        &[
+            "name",
+            "reuse_age_secs",
+            "death_timeout_secs",
+            "blob_life_secs",
+            "store_units",
+            "most_tasks",
+            "most_bots",
+            "most_entries",
+            "most_weight",
+            "grants",
+        ],
+    )
 }
 
 /// One pool, after those before it.
@@ -115,28 +113,18 @@ fn read_pool(
     if let Some(key) = unknown_in(pool) {
         return Err(broken(alloc, key, SettingsRule::Unknown));
     }
-    let name = read_name(alloc, before, pool)?;
-    let reuse_age_secs = reuse_age(alloc, pool)?;
-    let death_timeout_secs = death_timeout(alloc, pool)?;
-    let blob_life_secs = blob_life(alloc, pool)?;
-    let store_units = store_units(alloc, pool)?;
-    let most_tasks = most_tasks(alloc, pool)?;
-    let most_bots = most_bots(alloc, pool)?;
-    let most_entries = most_entries(alloc, pool)?;
-    let most_weight = most_weight(alloc, pool)?;
-    let grants = read_grants(alloc, pool)?;
     Ok(PoolSettings {
         place: before.len() as u32,
-        name,
-        reuse_age_secs,
-        death_timeout_secs,
-        blob_life_secs,
-        store_units,
-        most_tasks,
-        most_bots,
-        most_entries,
-        most_weight,
-        grants,
+        name: read_name(alloc, before, pool)?,
+        reuse_age_secs: Limit::ReuseAgeSecs.read(alloc, pool)?,
+        death_timeout_secs: Limit::DeathTimeoutSecs.read(alloc, pool)?,
+        blob_life_secs: Limit::BlobLifeSecs.read(alloc, pool)?,
+        store_units: Limit::StoreUnits.read(alloc, pool)?,
+        most_tasks: Limit::MostTasks.read(alloc, pool)?,
+        most_bots: Limit::MostBots.read(alloc, pool)?,
+        most_entries: Limit::MostEntries.read(alloc, pool)?,
+        most_weight: Limit::MostWeight.read(alloc, pool)?,
+        grants: read_grants(alloc, pool)?,
     })
 }
 
