@@ -5,6 +5,8 @@ use Rattle.request_head.specs.HeadFields.{method_of, caller_of, after_of}
 use Rattle.swarm_model.specs.declared.pool_settings.Settings.{Settings}
 use Rattle.swarm_model.specs.declared.rule.Rule.{Rule}
 use Rattle.swarm_model.specs.declared.rule.Rule.TheVariants as rule
+use Rattle.swarm_model.specs.declared.reply.Reply.TheVariants as reply
+use Rattle.reply_bodies.specs.Bodies.{status_of}
 use Rattle.routes.specs.declared.route.Route.{Route}
 use Rattle.routes.specs.Routes.{resource_of}
 use Rattle.swarm_wire.specs.declared.asked.Asked.{Asked}
@@ -20,7 +22,7 @@ use Rattle.swarm_http.specs.Permissions.{permitted}
 use Rattle.swarm_http.specs.Requests.{CallerRequest, and_then, routed, with_front, caller_request_of, permitted_request, request_of, parts_of, front_of}
 use Rattle.swarm_http.specs.Outcomes.{DoorCall, called_place, call_of, rejected, no_body_memory, IsCalled}
 use Rattle.swarm_http.specs.Replies.{refusal}
-use Rattle.swarm_http.specs.Sends.{text_of}
+use Rattle.swarm_http.specs.Sends.{status_in, text_of}
 use Rattle.swarm_http.specs.Steps.{Answers, IsRejection, by_rule, by_memory}
 use Rattle.swarm_http.proofs.Serving.{HandsIn-nil}
 
@@ -51,21 +53,22 @@ asks_permitted settings who asked e = ap (λ (r : Result Asked Rule). and_then r
 
 -- a request that was refused before any call
 pub refused_early : (settings : Settings) (head : RequestHead) (body : List ℕ) (a : ℕ → Option (List ℕ)) (door : DoorState) (shown : ReplyBytes) (why : Rule)
-    → door.settings ≡ settings → request_of settings head body ≡ Err why → text_of shown ≡ refusal None why → Answers head body a a door door shown
-refused_early settings head body a door shown why same means text =
-    record { outcome = rejected why; acts = (rw same means, refl); moments = HandsIn-nil a; keeper = omega arith; shown = text }
+    → door.settings ≡ settings → request_of settings head body ≡ Err why → status_in shown ≡ status_of (reply.No why) → text_of shown ≡ refusal None why
+    → Answers head body a a door door shown
+refused_early settings head body a door shown why same means status text =
+    record { outcome = rejected why; acts = (rw same means, refl); moments = HandsIn-nil a; keeper = omega arith; status = status; shown = text }
 
 -- a request for which there was no memory
 pub not_held : (head : RequestHead) (body : List ℕ) (a : ℕ → Option (List ℕ)) (door : DoorState) (shown : ReplyBytes)
-    → text_of shown ≡ refusal None rule.WantOfMemory → Answers head body a a door door shown
-not_held head body a door shown text = record { outcome = no_body_memory; acts = refl; moments = HandsIn-nil a; keeper = omega arith; shown = text }
+    → status_in shown ≡ status_of (reply.No rule.WantOfMemory) → text_of shown ≡ refusal None rule.WantOfMemory → Answers head body a a door door shown
+not_held head body a door shown status text = record { outcome = no_body_memory; acts = refl; moments = HandsIn-nil a; keeper = omega arith; status = status; shown = text }
 
 -- a request that was refused for what was left to look at
 pub left_refused : (settings : Settings) (head : RequestHead) (body : List ℕ) (a : ℕ → Option (List ℕ)) (door : DoorState) (shown : ReplyBytes) (left : Result Asked Rule)
     (next : Asked → Result CallerRequest Rule) → door.settings ≡ settings → request_of settings head body ≡ and_then left next → IsRejection shown left → Answers head body a a door door shown
-left_refused settings head body a door shown left next same means (by_rule why e text) =
-    refused_early settings head body a door shown why same (means ∙ ap (λ (r : Result Asked Rule). and_then r next) e) text
-left_refused settings head body a door shown left next same means (by_memory text) = not_held head body a door shown text
+left_refused settings head body a door shown left next same means (by_rule why e status text) =
+    refused_early settings head body a door shown why same (means ∙ ap (λ (r : Result Asked Rule). and_then r next) e) status text
+left_refused settings head body a door shown left next same means (by_memory status text) = not_held head body a door shown status text
 
 -- the pool of a request was called for it
 pub is_called : (settings : Settings) (writer : Writer) (head : RequestHead) (body : List ℕ) (call : DoorCall) (after : After) (front : Option ℕ) (result : Result Answered CallFault) (old new : Logs)

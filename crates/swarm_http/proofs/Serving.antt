@@ -1,6 +1,6 @@
 -- Exchanges, one after another.
 use Rattle.std.proofs.Common.{Bool, true, false, ◌≡◌, ℕ, ◌+◌, ◌<◌, ◌≤◌, List, [], ◌∷◌, ◌++◌, length, arith, refl, sym, ap, ◌∙◌, append_assoc, append-nil, length-append, Option, None, Result, subst}
-use Rattle.std.specs.Prelude.{◌≢◌}
+use Rattle.std.specs.Prelude.{◌==◌, ◌≢◌}
 use Rattle.std.specs.List.{flat_map, count_by}
 use Rattle.std.specs.Io.KnownBytes.{Consumes}
 use Rattle.std.proofs.KnownBytes.{Consumes-nil, Consumes-trans}
@@ -22,10 +22,10 @@ use Rattle.swarm_http.specs.declared.request.Received.{Received}
 use Rattle.swarm_http.specs.declared.request.Incoming.TheVariants as taken
 use Rattle.swarm_http.specs.Replies.{refusal}
 use Rattle.swarm_http.specs.Outcomes.{Outcome, Acts, bytes_of, moments_used}
-use Rattle.swarm_http.specs.Exchange.{Exchange, HeadSays, request_bytes, reply_of, moments_of, is_accepted, has_status_ok, Chain}
+use Rattle.swarm_http.specs.Exchange.{Exchange, HeadSays, request_bytes, reply_of, moments_of, is_accepted, Chain}
 use Rattle.swarm_http.specs.Answered.{ConnectionState, replies, Serves, NoneCloses, KeepersFailed, IsOpenStill, IsCutReply, last_reply, refused_head, EndsAs, EndsAtFault, IsAnswered, KeepsDoor}
 use Rattle.link_writer.specs.Sends.{Sends}
-use Rattle.swarm_http.specs.Sends.{rule_of, text_of}
+use Rattle.swarm_http.specs.Sends.{rule_of, status_in, text_of}
 use Rattle.swarm_http.specs.Takes.{IsHeld, StopsAs, Takes, ReadsWell}
 use Rattle.swarm_http.specs.Counting.{IsCounted}
 use Rattle.swarm_http.specs.Steps.{Answers, GoesOn, Stops, AreCounted, count_of}
@@ -303,27 +303,27 @@ pub goes_on_counted : {pending rest : List ℕ} {received : Received} {shown : R
     → Takes v.link t pending rest (taken.Asks received)
     → ((body : List ℕ) (head : RequestHead) → IsHeld received body head → Answers head body v.clock w.clock v.door w.door shown)
     → (y : Sends t w.link (text_of shown) r) → y.back ≡ [] → w.link.write_faults ≡ t.write_faults → IsClean w.link → received.line.closes ≡ false
-    → accepted ≡ has_status_ok (text_of shown) → (goes : GoesOn pending rest v w) × (accepted ≡ is_accepted goes.x)
+    → accepted ≡ (status_in shown == 200) → (goes : GoesOn pending rest v w) × (accepted ≡ is_accepted goes.x)
 goes_on_counted x answers y all well flushed still is =
-    let q = x.outcome.0 in let z = answers q.body q.head q.held in (goes_on x answers y all well flushed still, is ∙ ap has_status_ok z.shown)
+    let q = x.outcome.0 in let z = answers q.body q.head q.held in (goes_on x answers y all well flushed still, is ∙ ap (λ n. n == 200) z.status)
 
 pub reply_cut_counted : {pending rest : List ℕ} {received : Received} {shown : ReplyBytes} {T E : Type 0} {r : Result T E} {t : LinkState} {v w : ConnectionState} {accepted : Bool}
     → Takes v.link t pending rest (taken.Asks received)
     → ((body : List ℕ) (head : RequestHead) → IsHeld received body head → Answers head body v.clock w.clock v.door w.door shown)
     → Sends t w.link (text_of shown) r → Rose t.write_faults w.link.write_faults
-    → accepted ≡ has_status_ok (text_of shown) → (stops : Stops pending v w WriteFault) × AreCounted stops.xs true accepted
+    → accepted ≡ (status_in shown == 200) → (stops : Stops pending v w WriteFault) × AreCounted stops.xs true accepted
 reply_cut_counted {accepted = accepted} x answers y rose is =
     let q = x.outcome.0 in let z = answers q.body q.head q.held in
-    (reply_cut x answers y rose, are_one (record { text = q.text; body = q.body; head = q.head; outcome = z.outcome }) accepted (is ∙ ap has_status_ok z.shown))
+    (reply_cut x answers y rose, are_one (record { text = q.text; body = q.body; head = q.head; outcome = z.outcome }) accepted (is ∙ ap (λ n. n == 200) z.status))
 
 pub asked_last_counted : {pending rest : List ℕ} {received : Received} {shown : ReplyBytes} {T E : Type 0} {r : Result T E} {t : LinkState} {v w : ConnectionState} {accepted : Bool}
     → Takes v.link t pending rest (taken.Asks received)
     → ((body : List ℕ) (head : RequestHead) → IsHeld received body head → Answers head body v.clock w.clock v.door w.door shown)
     → (y : Sends t w.link (text_of shown) r) → y.back ≡ [] → w.link.write_faults ≡ t.write_faults → IsClean w.link → received.line.closes ≡ true
-    → accepted ≡ has_status_ok (text_of shown) → (stops : Stops pending v w LastAsked) × AreCounted stops.xs true accepted
+    → accepted ≡ (status_in shown == 200) → (stops : Stops pending v w LastAsked) × AreCounted stops.xs true accepted
 asked_last_counted {accepted = accepted} x answers y all well flushed closing is =
     let q = x.outcome.0 in let z = answers q.body q.head q.held in
-    (asked_last x answers y all well flushed closing, are_one (record { text = q.text; body = q.body; head = q.head; outcome = z.outcome }) accepted (is ∙ ap has_status_ok z.shown))
+    (asked_last x answers y all well flushed closing, are_one (record { text = q.text; body = q.body; head = q.head; outcome = z.outcome }) accepted (is ∙ ap (λ n. n == 200) z.status))
 
 pub head_refused_counted : {pending rest : List ℕ} {why : Refusal} {T E : Type 0} {r : Result T E} {s t u : LinkState} {a : ℕ → Option (List ℕ)} {d : DoorState}
     → Takes s t pending rest (taken.Refuses why) → (w : Sends t u (refusal None (rule_of why)) r) → w.back ≡ [] → u.write_faults ≡ t.write_faults → IsClean u

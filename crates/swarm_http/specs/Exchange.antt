@@ -1,5 +1,5 @@
 -- One request and its outcome.
-use Rattle.std.specs.Prelude.{◌≡◌, ◌==◌, ◌&&◌, get_or, ℕ, Bool, ◌≤◌, List, [], ◌∷◌, ◌++◌, length, filter, None, IsTrue}
+use Rattle.std.specs.Prelude.{◌≡◌, ◌==◌, ℕ, Bool, ◌≤◌, List, [], ◌∷◌, ◌++◌, length, filter, None, IsTrue}
 use Rattle.std.specs.List.{flat_map}
 use Rattle.httparse.specs.Grammar.{RequestHead}
 use Rattle.link_reader.specs.Heads.{IsHeadEnd}
@@ -7,8 +7,9 @@ use Rattle.request_head.specs.Heads.{IsHead}
 use Rattle.request_head.specs.HeadFields.{head_refusal, size_of, closes_of}
 use Rattle.swarm_model.specs.declared.pool_settings.Settings.{Settings}
 use Rattle.swarm_model.specs.declared.entry.Entry.{Entry}
+use Rattle.reply_bodies.specs.Bodies.{status_of}
 use Rattle.pool_doors.specs.Doors.{Logs, Writer}
-use Rattle.swarm_http.specs.Outcomes.{Outcome, Acts, bytes_of, calls, moments_used, entries_at, is_keeper_stop}
+use Rattle.swarm_http.specs.Outcomes.{Outcome, Acts, answer_of, bytes_of, calls, moments_used, entries_at, is_keeper_stop}
 
 -- a request as it stood on the link, what its head is, and its outcome
 pub record Exchange : Type 0 where
@@ -37,13 +38,9 @@ entries_of place x = flat_map (entries_at place) (calls x.outcome)
 abbrev pub fails_keeper : Exchange → Bool
 fails_keeper x = is_keeper_stop x.outcome
 
--- the digits behind the version of a reply are 200
-abbrev pub has_status_ok : List ℕ → Bool
-has_status_ok bytes = get_or bytes 9 0 == 50 && (get_or bytes 10 0 == 48 && get_or bytes 11 0 == 48)
-
 -- its reply has status 200
 abbrev pub is_accepted : Exchange → Bool
-is_accepted x = has_status_ok (reply_of x)
+is_accepted x = status_of (answer_of x.outcome) == 200
 
 -- it asks to close the connection
 abbrev pub closes : Exchange → Bool

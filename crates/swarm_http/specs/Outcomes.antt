@@ -6,6 +6,8 @@ use Rattle.request_head.specs.HeadFields.{after_of}
 use Rattle.sw_base.specs.Faults.{Rose}
 use Rattle.swarm_model.specs.declared.pool_settings.Settings.{Settings}
 use Rattle.swarm_model.specs.declared.entry.Entry.{Entry}
+use Rattle.swarm_model.specs.declared.reply.Reply.{Reply}
+use Rattle.swarm_model.specs.declared.reply.Reply.TheVariants as reply
 use Rattle.swarm_model.specs.declared.rule.Rule.{Rule}
 use Rattle.swarm_model.specs.declared.rule.Rule.TheVariants as rule
 use Rattle.swarm_model.specs.Points.{Call, Growth, added}
@@ -58,6 +60,14 @@ is_keeper_stop (no_reply_memory call result) = false
 -- the door's count of faults never falls, and rises where a keeper stopped the call
 abbrev pub CountsStop : Outcome → ℕ → ℕ → Type 0
 CountsStop outcome before now = MatchBool (is_keeper_stop outcome) (Rose before now) (before ≤ now)
+
+-- the reply
+abbrev pub answer_of : Outcome → Reply
+answer_of (rejected why) = reply.No why
+answer_of (answered call result) = result.reply
+answer_of (aborted call why) = reply.No (stop_rule why)
+answer_of no_body_memory = reply.No rule.WantOfMemory
+answer_of (no_reply_memory call result) = reply.No rule.WantOfMemory
 
 -- the bytes of the reply; X-Swarming-Front stands there exactly where a call answered
 abbrev pub bytes_of : Outcome → List ℕ

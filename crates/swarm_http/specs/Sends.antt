@@ -1,4 +1,4 @@
--- The text that is sent of a reply.
+-- What is sent of a reply.
 use Rattle.std.specs.Prelude.{ℕ, List, ◌++◌, Some, None}
 use Rattle.swarm_model.specs.declared.rule.Rule.{Rule}
 use Rattle.swarm_model.specs.declared.rule.Rule.TheVariants as rule
@@ -6,6 +6,8 @@ use Rattle.swarm_http.specs.declared.reply.Refusal.{Refusal}
 use Rattle.swarm_http.specs.declared.reply.Refusal.TheVariants.{BadHead, LengthRequired, BodyTooLarge, BlobTooLarge, NoRoute, BadMethod, BadJson, FrontBroken, NoCaller, NoPool, NoTask, LogFull, KeeperFault, WantOfMemory}
 use Rattle.swarm_http.specs.declared.reply.ReplyBytes.{ReplyBytes}
 use Rattle.swarm_http.specs.declared.reply.ReplyBytes.TheVariants as shown
+use Rattle.swarm_model.specs.declared.reply.Reply.TheVariants as reply
+use Rattle.reply_bodies.specs.Bodies.{status_of}
 use Rattle.swarm_http.specs.Requests.{broken_front}
 use Rattle.swarm_http.specs.Replies.{refusal}
 
@@ -26,9 +28,16 @@ rule_of LogFull = rule.LogFull
 rule_of KeeperFault = rule.KeeperFault
 rule_of WantOfMemory = rule.WantOfMemory
 
+-- the status of a reply that is ready to be written
+abbrev pub status_in : ReplyBytes → ℕ
+status_in (shown.Refused why) = status_of (reply.No (rule_of why))
+status_in (shown.Whole status text) = status
+status_in (shown.Blob status head content) = status
+status_in (shown.WantOfMemoryAt front) = status_of (reply.No rule.WantOfMemory)
+
 -- the bytes of a reply that is ready to be written
 abbrev pub text_of : ReplyBytes → List ℕ
 text_of (shown.Refused why) = refusal None (rule_of why)
-text_of (shown.Whole text) = text.items
-text_of (shown.Blob head content) = head.items ++ content
+text_of (shown.Whole status text) = text.items
+text_of (shown.Blob status head content) = head.items ++ content
 text_of (shown.WantOfMemoryAt front) = refusal (Some front) rule.WantOfMemory

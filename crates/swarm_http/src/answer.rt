@@ -16,7 +16,7 @@ ghost use Rattle.swarm_http.specs.Answered.{KeepsDoor};
 ghost use Rattle.swarm_http.specs.Steps.{Answers, IsRejection};
 
 use crate::permitting::check_permission;
-use crate::reply::{Refusal, ReplyBytes, field_refusal, whole_reply};
+use crate::reply::{Refusal, ReplyBytes, refusal_reply, whole_reply};
 use crate::request::{Caller, Received, RequestLine};
 use dimensions::Text;
 use pool_doors::{CallFault, Door};
@@ -24,7 +24,7 @@ use request_head::{After, Method};
 use routes::{Resource, Route};
 use std::alloc::Global;
 use sw_base::Clock;
-use swarm_model::Settings;
+use swarm_model::{Rule, Settings};
 use swarm_wire::{Asked, Parts, WireFault, read_request};
 
 fn stop_refusal(why: CallFault) -> Refusal
@@ -114,10 +114,9 @@ fn fault_reply(alloc: Global, after: After, fault: WireFault) -> ReplyBytes
     match fault {
         WireFault::Memory => ReplyBytes::Refused(Refusal::WantOfMemory),
         WireFault::BadJson => ReplyBytes::Refused(Refusal::BadJson),
-        WireFault::BadField { field, rule } => match field_refusal(alloc, field, rule) {
-            Ok(shown) => shown,
-            Err(_) => ReplyBytes::Refused(Refusal::WantOfMemory),
-        },
+        WireFault::BadField { field, rule } => {
+            refusal_reply(alloc, Rule::BadField { field, rule })
+        }
         WireFault::NoPool => ReplyBytes::Refused(unless_front_broken(after, Refusal::NoPool)),
         WireFault::NoTask => ReplyBytes::Refused(unless_front_broken(after, Refusal::NoTask)),
     }

@@ -9,7 +9,7 @@ ghost use Rattle.swarm_http.specs.Steps.{IsStep, count_of};
 use crate::answer::answer_request;
 use crate::reply::ReplyBytes;
 use crate::request::{Incoming, take_request};
-use crate::send::{is_accepted, send_shown};
+use crate::send::send_shown;
 use crate::{ConnectionCounts, Ended};
 use link_reader::Pending;
 use pool_doors::Door;
@@ -66,7 +66,7 @@ fn serve_one<D: Door, L: Link, C: Clock>(
         Incoming::Asks(received) => {
             let closes = received.line.closes;
             let shown = answer_request(alloc, settings, received, door, clock);
-            let accepted = is_accepted(&shown);
+            let accepted = shown.is_accepted();
             match send_shown(link, shown) {
                 Ok(()) if closes => Step::End {
                     ended: Ended::LastAsked,

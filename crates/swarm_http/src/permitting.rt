@@ -1,13 +1,12 @@
 //! The permission that a request needs before its pool is asked.
 ghost use Rattle.std.specs.Prelude.{◌≡◌, ◌<◌, Err, IfErr, Ok, OnOk, length};
-ghost use Rattle.swarm_model.specs.declared.rule.Rule.TheVariants as Rule;
 ghost use Rattle.swarm_http.specs.Permissions.{permission_of as spec_permission_of, permitted};
 ghost use Rattle.swarm_http.specs.Steps.{IsRejection};
 
-use crate::reply::{Refusal, ReplyBytes, denied_refusal};
-use dimensions::Text;
+use crate::reply::{Refusal, ReplyBytes, refusal_reply};
+use dimensions::{Text, TryCopy};
 use std::alloc::Global;
-use swarm_model::{Permission, Request, Settings, allowed};
+use swarm_model::{Permission, Request, Rule, Settings, allowed};
 use swarm_wire::Asked;
 
 /// The permission without which the pool of a request is not asked. Whether a caller may cancel a
@@ -33,11 +32,12 @@ pub fn permission_of(request: &Request) -> Option<Permission>
     }
 }
 
+/// The refusal of a caller to whom the pool of this name doesn't give the permission.
 fn denied(alloc: Global, permission: Permission, pool: &Text) -> ReplyBytes
     ensures { IsRejection result (Err (Rule.Denied permission pool.now)) }
 {
-    match denied_refusal(alloc, permission, pool) {
-        Ok(shown) => shown,
+    match pool.try_copy(alloc) {
+        Ok(pool) => refusal_reply(alloc, Rule::Denied { permission, pool }),
         Err(_) => ReplyBytes::Refused(Refusal::WantOfMemory),
     }
 }

@@ -1,15 +1,16 @@
 //! The bytes of a reply.
-ghost use Rattle.std.specs.Prelude.{◌≡◌, ◌<◌, ◌++◌, [], None, Some, IfOk, OnOk, get_or, string_bytes};
+ghost use Rattle.std.specs.Prelude.{◌≡◌, ◌==◌, ◌<◌, ◌++◌, [], Err, None, Some, IfOk, OnOk, get_or, string_bytes};
 ghost use Rattle.http.specs.StatusCode.{IsStatusCode};
-ghost use Rattle.swarm_http.specs.Replies.{phrase_of as spec_phrase_of, head_with, reply_text, shown, refusal};
-ghost use Rattle.swarm_http.specs.Sends.{text_of};
+ghost use Rattle.reply_bodies.specs.Bodies.{status_of as spec_status_of};
+ghost use Rattle.swarm_http.specs.Replies.{phrase_of as spec_phrase_of, head_with, reply_text, shown};
+ghost use Rattle.swarm_http.specs.Sends.{status_in, text_of};
+ghost use Rattle.swarm_http.specs.Steps.{IsRejection};
 
-use dimensions::{Seq, Text, TryCopy};
+use dimensions::Seq;
 use http::StatusCode;
 use reply_bodies::{content_type, show_reply, status_of};
 use std::alloc::{AllocError, Global};
-use swarm_model::{Permission, Reply, Rule};
-use task_props::PropRule;
+use swarm_model::{Reply, Rule};
 
 /// A refusal whose reply takes no memory.
 #[derive(Clone, Copy, Debug, PartialEq, Eq)]
@@ -38,14 +39,28 @@ pub enum Refusal {
 #[derive(Drop)]
 pub enum ReplyBytes {
     Refused(Refusal),
-    /// Its head, and its body behind it.
-    Whole(Vec<u8>),
-    /// Its head, and the content of the blob that is its body.
-    Blob { head: Vec<u8>, content: Seq<u8> },
+    /// Its status, and its head with its body behind it.
+    Whole(u16, Vec<u8>),
+    /// Its status, its head, and the content of the blob that is its body.
+    Blob(u16, Vec<u8>, Seq<u8>),
     /// Its call answered with this front, and there was no memory for the reply.
     WantOfMemoryAt(u64),
 }
 
+impl ReplyBytes {
+    /// Whether its status is 200.
+    #[tactic(auto, using(crate::proofs::Texts::no_refusal_is_accepted))]
+    pub fn is_accepted(&self) -> bool
+        ensures { result ≡ (status_in self.now == 200) }
+    {
+        match self {
+            ReplyBytes::Whole(status, _) | ReplyBytes::Blob(status, _, _) => *status == 200,
+            ReplyBytes::Refused(_) | ReplyBytes::WantOfMemoryAt(_) => false,
+        }
+    }
+}
+
+/// The phrase that stands beside a status.
 fn phrase_of(status: u16) -> &'static str
     requires { IsStatusCode status }
     ensures { result.now ≡ spec_phrase_of status }
@@ -161,11 +176,12 @@ fn blob_reply(
     content: Seq<u8>,
 ) -> Result<ReplyBytes, AllocError>
     requires { IsStatusCode status }
-    ensures { IfOk result (λ s. text_of s ≡ reply_text status media_type.now front content) }
+    ensures status { IfOk result (λ s. status_in s ≡ status) }
+    ensures text { IfOk result (λ s. text_of s ≡ reply_text status media_type.now front content) }
 {
     let size = content.as_slice().len();
     let head = head_bytes(alloc, status, media_type, front, size, HEAD_ROOM)?;
-    Ok(ReplyBytes::Blob { head, content })
+    Ok(ReplyBytes::Blob(status, head, content))
 }
 
 fn first_piece(alloc: Global, pieces: Seq<Seq<u8>>) -> Seq<u8>
@@ -189,7 +205,8 @@ pub fn whole_reply(
     pieces: Seq<Seq<u8>>,
 ) -> Result<ReplyBytes, AllocError>
     requires { place < 4 }
-    ensures { IfOk result (λ s. text_of s ≡ shown place front reply.now pieces) }
+    ensures status { IfOk result (λ s. status_in s ≡ spec_status_of reply.now) }
+    ensures text { IfOk result (λ s. text_of s ≡ shown place front reply.now pieces) }
 {
     let (status, media_type) = (status_of(reply), content_type(reply));
     if let Reply::Blob { .. } = reply {
@@ -198,30 +215,17 @@ pub fn whole_reply(
     }
     let body = show_reply(alloc, place, reply, &pieces)?;
     let text = reply_bytes(alloc, status, media_type, front, body.as_slice())?;
-    Ok(ReplyBytes::Whole(text))
+    Ok(ReplyBytes::Whole(status, text))
 }
 
-/// The refusal of a field.
-#[tactic(auto, unfolding(crate::specs::Replies::refusal))]
-pub fn field_refusal(alloc: Global, field: Text, rule: PropRule) -> Result<ReplyBytes, AllocError>
-    ensures { IfOk result (λ s. text_of s ≡ refusal None (Rule.BadField field rule)) }
+/// The reply of a refusal, or that for want of memory.
+pub fn refusal_reply(alloc: Global, why: Rule) -> ReplyBytes
+    ensures { IsRejection result (Err why) }
 {
-    let reply = Reply::No(Rule::BadField { field, rule });
+    let reply = Reply::No(why);
     let pieces = Seq::new(alloc);
-    whole_reply(alloc, 0, None, &reply, pieces)
-}
-
-/// The refusal of a caller to whom the pool of this name doesn't give the permission.
-#[tactic(auto, unfolding(crate::specs::Replies::refusal))]
-pub fn denied_refusal(
-    alloc: Global,
-    permission: Permission,
-    pool: &Text,
-) -> Result<ReplyBytes, AllocError>
-    ensures { IfOk result (λ s. text_of s ≡ refusal None (Rule.Denied permission pool.now)) }
-{
-    let pool = pool.try_copy(alloc)?;
-    let reply = Reply::No(Rule::Denied { permission, pool });
-    let pieces = Seq::new(alloc);
-    whole_reply(alloc, 0, None, &reply, pieces)
+    match whole_reply(alloc, 0, None, &reply, pieces) {
+        Ok(shown) => shown,
+        Err(_) => ReplyBytes::Refused(Refusal::WantOfMemory),
+    }
 }

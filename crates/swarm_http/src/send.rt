@@ -1,9 +1,8 @@
 //! Writing a reply.
-ghost use Rattle.std.specs.Prelude.{◌≡◌, None, Some, OnOk, get_or, ◌++◌};
+ghost use Rattle.std.specs.Prelude.{◌≡◌, None, Some, OnOk};
 ghost use Rattle.sw_base.specs.Link.{IsClean};
 ghost use Rattle.link_writer.specs.Sends.{Sends};
 ghost use Rattle.swarm_model.specs.declared.rule.Rule.TheVariants as rule;
-ghost use Rattle.swarm_http.specs.Exchange.{has_status_ok};
 ghost use Rattle.swarm_http.specs.Replies.{refusal};
 ghost use Rattle.swarm_http.specs.Sends.{rule_of, text_of};
 
@@ -18,6 +17,7 @@ const FRONT_BEFORE: &str =
 
 const FRONT_AFTER: &str = "\r\n\r\n{\"code\":\"want_of_memory\"}";
 
+/// The reply of a refusal. It takes no memory.
 fn refusal_bytes(why: Refusal) -> &'static [u8]
     ensures { result.now ≡ refusal None (rule_of why) }
 {
@@ -72,50 +72,11 @@ pub fn send_shown<L: Link>(link: &mut L, shown: ReplyBytes) -> Result<(), Failed
 {
     match shown {
         ReplyBytes::Refused(why) => send_flushed(link, refusal_bytes(why)),
-        ReplyBytes::Whole(text) => send_flushed(link, &text),
-        ReplyBytes::Blob { head, content } => send_both(link, head, content.as_slice()),
+        ReplyBytes::Whole(_, text) => send_flushed(link, &text),
+        ReplyBytes::Blob(_, head, content) => send_both(link, head, content.as_slice()),
         ReplyBytes::WantOfMemoryAt(front) => {
             let text = want_of_memory_bytes(front);
             send_flushed(link, text.as_str().as_bytes())
         }
     }
-}
-
-/// The byte at a place, or 0 past the end.
-fn byte_of(bytes: &[u8], place: usize) -> u8
-    ensures { result ≡ get_or bytes.now place 0 }
-{
-    if place < bytes.len() { bytes[place] } else { 0 }
-}
-
-/// The byte at a place of two texts, one behind the other.
-fn byte_of_both(front: &[u8], back: &[u8], place: usize) -> u8
-    ensures { result ≡ get_or (front.now ++ back.now) place 0 }
-{
-    if place < front.len() {
-        front[place]
-    } else {
-        byte_of(back, place - front.len())
-    }
-}
-
-fn byte_at(shown: &ReplyBytes, place: usize) -> u8
-    ensures { result ≡ get_or (text_of shown.now) place 0 }
-{
-    match shown {
-        ReplyBytes::Refused(why) => byte_of(refusal_bytes(*why), place),
-        ReplyBytes::Whole(text) => byte_of(text, place),
-        ReplyBytes::Blob { head, content } => byte_of_both(head, content.as_slice(), place),
-        ReplyBytes::WantOfMemoryAt(front) => {
-            let text = want_of_memory_bytes(*front);
-            byte_of(text.as_str().as_bytes(), place)
-        }
-    }
-}
-
-/// Whether a reply has status 200.
-pub fn is_accepted(shown: &ReplyBytes) -> bool
-    ensures { result ≡ has_status_ok (text_of shown.now) }
-{
-    byte_at(shown, 9) == b'2' && byte_at(shown, 10) == b'0' && byte_at(shown, 11) == b'0'
 }

@@ -12,12 +12,12 @@ use Rattle.swarm_http.proofs.answer.answer_request.Goals as goal
 pub returns-in-Err-clause-answers : goal.returns-in-Err-clause-answers
 returns-in-Err-clause-answers g c = λ body head held.
     refused_early c.args.settings.now head body (g.C.Clock.ahead c.args.clock.now) (g.D.Door.state c.args.door.now) (Refused c.in-Err.why) (rule_of c.in-Err.why) c.requires.settings
-    (route_refused c.args.settings.now head body (rule_of c.in-Err.why) (rw (held.line.resource, held.line.method) at c.in-Err.ensures.refused)) refl
+    (route_refused c.args.settings.now head body (rule_of c.in-Err.why) (rw (held.line.resource, held.line.method) at c.in-Err.ensures.refused)) refl refl
 
 pub returns-in-Unnamed-clause-answers : goal.returns-in-Unnamed-clause-answers
 returns-in-Unnamed-clause-answers g c = λ body head held.
     refused_early c.args.settings.now head body (g.C.Clock.ahead c.args.clock.now) (g.D.Door.state c.args.door.now) (Refused NoCaller) rule.NoCaller c.requires.settings
-    (no_caller c.args.settings.now head body c.in-Ok.route (rw (held.line.resource, held.line.method) at c.in-Ok.ensures.route) (rw c.in-Unnamed.is at held.line.who)) refl
+    (no_caller c.args.settings.now head body c.in-Ok.route (rw (held.line.resource, held.line.method) at c.in-Ok.ensures.route) (rw c.in-Unnamed.is at held.line.who)) refl refl
 
 pub returns-in-Ok-read_asked-clause-answers : goal.returns-in-Ok-read_asked-clause-answers
 returns-in-Ok-read_asked-clause-answers g c = λ body head held.

@@ -1,5 +1,7 @@
 use Rattle.std.proofs.Common.{refl, ap, None}
 use Rattle.std.specs.Prelude.{Ok, Err}
+use Rattle.swarm_model.specs.declared.reply.Reply.TheVariants as reply
+use Rattle.reply_bodies.specs.Bodies.{status_of}
 use Rattle.swarm_http.specs.Replies.{refusal}
 use Rattle.swarm_http.specs.Outcomes.{DoorCall, answered, aborted, no_reply_memory}
 use Rattle.swarm_http.proofs.Asking.{is_called}
@@ -17,7 +19,8 @@ returns-in-Ok-whole_reply-clause-answers g c = λ head body same means.
           same c.front_of.ensures means d.done d.elsewhere;
       moments = c.now-moment.ensures.moments;
       keeper = d.faults;
-      shown = c.in-Ok-whole_reply.ensures;
+      status = c.in-Ok-whole_reply.ensures.status;
+      shown = c.in-Ok-whole_reply.ensures.text;
     }
 
 pub returns-in-Ok-clause-answers : goal.returns-in-Ok-clause-answers
@@ -31,6 +34,7 @@ returns-in-Ok-clause-answers g c = λ head body same means.
           same c.front_of.ensures means d.done d.elsewhere;
       moments = c.now-moment.ensures.moments;
       keeper = d.faults;
+      status = refl;
       shown = refl;
     }
 
@@ -45,5 +49,6 @@ returns-clause-answers g c = λ head body same means.
           same c.front_of.ensures means d.done d.elsewhere;
       moments = c.now-moment.ensures.moments;
       keeper = stop_counted the_call c.in-Err.why s.faults (g.D.Door.state c.call.new.self).faults d.keeper d.faults;
+      status = ap (λ rule. status_of (reply.No rule)) c.stop_refusal.ensures;
       shown = ap (refusal None) c.stop_refusal.ensures;
     }

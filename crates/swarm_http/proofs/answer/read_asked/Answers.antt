@@ -6,7 +6,7 @@ use Rattle.swarm_http.proofs.answer.read_asked.Goals as goal
 
 pub returns-in-Broken-clause-refused : goal.returns-in-Broken-clause-refused
 returns-in-Broken-clause-refused c =
-    by_rule broken_front (ap (with_front c.args.after) c.in-Ok.ensures.asks ∙ ap (λ a. with_front a (Ok c.in-Ok.asked)) c.in-Broken.is) refl
+    by_rule broken_front (ap (with_front c.args.after) c.in-Ok.ensures.asks ∙ ap (λ a. with_front a (Ok c.in-Ok.asked)) c.in-Broken.is) refl refl
 
 pub returns-in-Err : goal.returns-in-Err
 returns-in-Err c = record {

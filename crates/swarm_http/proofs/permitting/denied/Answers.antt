@@ -1,7 +1,4 @@
-use Rattle.std.proofs.Common.{refl}
-use Rattle.swarm_model.specs.declared.rule.Rule.TheVariants as rule
-use Rattle.swarm_http.specs.Steps.{by_rule}
 use Rattle.swarm_http.proofs.permitting.denied.Goals as goal
 
 pub returns-in-Ok : goal.returns-in-Ok
-returns-in-Ok c = by_rule (rule.Denied c.args.permission c.args.pool.now) refl c.in-Ok.ensures
+returns-in-Ok c = rw c.in-Ok.ensures at c.refusal_reply.ensures
