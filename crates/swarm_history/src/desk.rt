@@ -9,7 +9,7 @@ ghost use Rattle.swarm_model.specs.Fits.{fits};
 ghost use Rattle.swarm_model.specs.History.{MayFollow, has_room};
 ghost use Rattle.swarm_model.specs.MachineState.{MachineState, IsHistory};
 ghost use Rattle.pool_doors.specs.Doors.{ArePieces};
-ghost use Rattle.swarm_history.specs.Pieces.{HasNamed};
+ghost use Rattle.pool_laws.specs.NamedBlobs.{HasNamed};
 ghost use Rattle.swarm_history.specs.Records.{HoldsNoOthers};
 ghost use Rattle.swarm_history.specs.Settling.{IsUnchanged, Adds};
 

@@ -3,9 +3,9 @@ use Rattle.std.proofs.Common.{sym, ap, subst, ◌∙◌}
 use Rattle.swarm_model.specs.declared.answer.Answer.{Answer}
 use Rattle.pool_laws.proofs.Carrying.{new_is_brought}
 use Rattle.pool_laws.proofs.Legality.{answer_follows}
-use Rattle.swarm_history.specs.Pieces.{HasNamed}
+use Rattle.pool_laws.proofs.NamedBlobs.{named_blobs_are_there}
+use Rattle.pool_laws.specs.NamedBlobs.{HasNamed}
 use Rattle.swarm_history.proofs.Bringing.{answer_bears, entry_carried}
-use Rattle.swarm_history.proofs.Named.{reply_named}
 use Rattle.swarm_history.proofs.OwnPoints.{sound_history}
 use Rattle.swarm_history.proofs.serving.respond.Goals as goal
 
@@ -13,7 +13,8 @@ pub pieces-requires-clause-present : goal.pieces-requires-clause-present
 pieces-requires-clause-present g c =
     let pool = (g.D.Desk.kept c.args.desk.now).pool in
     rw c.answer.ensures.same
-    (subst (HasNamed pool) (sym (ap (λ (a : Answer). a.reply) c.in-Ok.ensures.exact)) (reply_named pool c.args.call.now.who.now c.args.moment c.args.call.now.request.now))
+    (subst (HasNamed pool) (sym (ap (λ (a : Answer). a.reply) c.in-Ok.ensures.exact))
+    (named_blobs_are_there pool c.args.call.now.who.now c.args.moment (g.D.Desk.number c.args.desk.now) c.args.call.now.request.now))
 
 pub brought_by-brought-requires : goal.brought_by-brought-requires
 brought_by-brought-requires g c = record {
