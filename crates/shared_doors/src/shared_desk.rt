@@ -96,10 +96,15 @@ pub(crate) fn take_turn<M: Machine + Drop, K: Keeper + Drop, R: Wait>(
     requires sure { IsTrue K.SURE }
     requires fits { IsTrue (fits (fixed_of (λ k. lasting_of (M.kept k.machine)) turnstile.now).settings call.now.request.now) }
     requires carries { Carries call.now.request.now call.now.bytes.now }
+
     ensures own { IsPassOf (λ k. lasting_of (M.kept k.machine)) turnstile.now result.1 }
     ensures done { IsTurnCall (fixed_of (λ k. lasting_of (M.kept k.machine)) turnstile.now).settings (call_of (number pass) call.now)
         (seen pass) (seen result.1) (told pass) result.0 }
+
+    // Sure keepers never fail.
     ensures no_fault { ¬ IsErrOf result.0 CallFault.Keeper }
+
+    // But for the log, the pass knows what it knew.
     ensures rest { look result.1 ≡ record (look pass) { turns = turns pass + 1; seen = seen result.1 } }
 {
     let turn = turnstile.enter(rt, pass);

@@ -50,12 +50,15 @@ fn call_machine<M: Machine, K: Keeper>(
     requires carries { Carries call.now.request.now call.now.bytes.now }
     requires held { AreHeld (M.kept machine.old) }
     requires records { AreMachineRecords (K.tables keeper.old) (M.kept machine.old) }
+
     ensures held { AreHeld (M.kept machine.new) }
     ensures records { AreMachineRecords (K.tables keeper.new) (M.kept machine.new) }
     ensures no_other_blobs { HoldsNoOthers (K.tables keeper.old) (M.kept machine.old) → HoldsNoOthers (K.tables keeper.new) (M.kept machine.new) }
+
     ensures settings { (M.kept machine.new).pool.settings ≡ (M.kept machine.old).pool.settings }
     ensures done { (growth : Growth) × IsPoolCall (M.kept machine.old).pool.settings true (call_of 0 call.now)
         (M.kept machine.old).log (M.kept machine.new).log growth result }
+
     ensures grows { K.faults keeper.old ≤ K.faults keeper.new }
     ensures failed { CountsKeeper result (K.faults keeper.old) (K.faults keeper.new) }
 {
@@ -83,14 +86,19 @@ impl<M: Machine + Drop, K: Keeper + Drop> PlainDoor<M, K> {
     ) -> Result<PlainDoor<M, K>, (LoadFault, Vec<K>)>
         requires rules { IsTrue (are_settings settings.now) }
         requires keepers { length keepers.items ≡ length settings.now.pools }
+
         ensures fresh { IfOk result (λ door. IsFreshDoor settings.now (⟦<PlainDoor<M, K> as Door>⟧.state door).seen (⟦<PlainDoor<M, K> as Door>⟧.state door)) }
         ensures lines { IfOk result (λ door. AreKept (map K.tables keepers.items) (⟦<PlainDoor<M, K> as Door>⟧.state door).seen) }
         ensures records { IfOk result (λ door. (⟦<PlainDoor<M, K> as Door>⟧.state door).records ≡ map K.tables keepers.items) }
+
+        // Sure keepers tell nothing, so there is nothing to load.
         ensures nothing { IsTrue K.SURE → IfOk result (λ door. (p : ℕ) → (⟦<PlainDoor<M, K> as Door>⟧.state door).seen p ≡ []) }
+
         ensures bad { IfErr result (λ back. IsFirstBadRecord settings.now (map K.tables keepers.items) back.0) }
         ensures sure { IsTrue K.SURE → IfErr result (λ back. back.0 ≡ LoadFault.Memory) }
         ensures failed { IfErr result (λ back. back.0 ≡ LoadFault.Failed → Rose (sum_by K.faults keepers.items) (sum_by K.faults back.1.items)) }
         ensures back { IfErr result (λ back. map K.tables back.1.items ≡ map K.tables keepers.items) }
+
         ensures grows { IfOk result (λ door. sum_by K.faults keepers.items ≤ (⟦<PlainDoor<M, K> as Door>⟧.state door).faults) }
         ensures grows_back { IfErr result (λ back. sum_by K.faults keepers.items ≤ sum_by K.faults back.1.items) }
     {
@@ -115,8 +123,10 @@ impl<M: Machine + Drop, K: Keeper + Drop> PlainDoor<M, K> {
         ensures logs { (p : ℕ) → logs_of (map M.kept result.0.items) p ≡ (⟦<PlainDoor<M, K> as Door>⟧.state self).seen p }
         ensures records { AreRecordsOf (map K.tables result.1.items) (map M.kept result.0.items) }
         ensures lines { AreKept (map K.tables result.1.items) (⟦<PlainDoor<M, K> as Door>⟧.state self).seen }
+
         ensures told { map K.tables result.1.items ≡ (⟦<PlainDoor<M, K> as Door>⟧.state self).records }
         ensures faults { sum_by K.faults result.1.items ≡ (⟦<PlainDoor<M, K> as Door>⟧.state self).faults }
+
         ensures machines { length result.0.items ≡ length (⟦<PlainDoor<M, K> as Door>⟧.state self).settings.pools }
         ensures keepers { length result.1.items ≡ length (⟦<PlainDoor<M, K> as Door>⟧.state self).settings.pools }
     {

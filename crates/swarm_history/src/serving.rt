@@ -59,14 +59,19 @@ fn respond<D: Desk>(
     requires not_before { (D.kept desk.old).pool.last ≤ moment }
     requires not_late { moment ≤ 2 ^ 40 }
     requires nothing_due { due_entry (D.kept desk.old).pool moment (D.number desk.old) ≡ None }
+
     ensures ready { D.ready desk.new }
     ensures no_other_blobs { HoldsNoOthers (D.records desk.old) (D.kept desk.old) → HoldsNoOthers (D.records desk.new) (D.kept desk.new) }
+
     ensures answers { IfOk result (λ a. Responds (D.number desk.old) call.now.who.now moment call.now.request.now (D.kept desk.old) (D.kept desk.new) a.reply) }
     ensures shows { IfOk result (HasFrontAndPieces (D.kept desk.new)) }
     ensures stays { OnErr result (IsUnchanged (D.kept desk.old) (D.kept desk.new)) }
     ensures full { IfErr result (λ f. OnTrue (is_log_full f) (LacksRoom (D.kept desk.old).pool (D.kept desk.old).log (answer (D.kept desk.old).pool call.now.who.now moment (D.number desk.old) call.now.request.now).entry)) }
+
     ensures grows { D.faults desk.old ≤ D.faults desk.new }
     ensures failed { CountsKeeper result (D.faults desk.old) (D.faults desk.new) }
+
+    // What the desk was made of can be taken out of it again.
     ensures number { D.number desk.new ≡ D.number desk.old }
     ensures rest { D.rest desk.new ≡ D.rest desk.old }
 {
@@ -94,14 +99,21 @@ pub fn serve<D: Desk>(alloc: Global, desk: &mut D, call: &PoolCall) -> Result<An
     requires ready { D.ready desk.old }
     requires fits { IsTrue (fits (D.kept desk.old).pool.settings call.now.request.now) }
     requires carries { Carries call.now.request.now call.now.bytes.now }
+
     ensures ready { D.ready desk.new }
     ensures no_other_blobs { HoldsNoOthers (D.records desk.old) (D.kept desk.old) → HoldsNoOthers (D.records desk.new) (D.kept desk.new) }
+
     ensures settings { (D.kept desk.new).pool.settings ≡ (D.kept desk.old).pool.settings }
     ensures point { IfOk result (λ a. IsPointAlone (opening (D.kept desk.old).pool.settings) (call_of (D.number desk.old) call.now) (D.kept desk.old).log (D.kept desk.new).log a.reply) }
     ensures shows { IfOk result (HasFrontAndPieces (D.kept desk.new)) }
+
+    // What was settled before it stopped stays in the log.
     ensures stopped { IfErr result (λ f. IsOwnStop (opening (D.kept desk.old).pool.settings) (call_of (D.number desk.old) call.now) (D.kept desk.old).log (D.kept desk.new).log (is_log_full f)) }
+
     ensures grows { D.faults desk.old ≤ D.faults desk.new }
     ensures failed { CountsKeeper result (D.faults desk.old) (D.faults desk.new) }
+
+    // What the desk was made of can be taken out of it again.
     ensures number { D.number desk.new ≡ D.number desk.old }
     ensures rest { D.rest desk.new ≡ D.rest desk.old }
 {
