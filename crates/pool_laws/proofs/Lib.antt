@@ -3,6 +3,7 @@ pub mod Earliest
 pub mod Answering
 pub mod Preconditions
 mod Reusing
+mod Decisions
 pub mod EntryPreconditions
 pub mod Outputs
 pub mod Rows
@@ -34,6 +35,7 @@ pub mod ClaimLaw
 pub mod Shown
 pub mod Refusals
 pub mod Carrying
+pub mod NamedBlobs
 pub mod Repeating
 mod DueLaw
 mod SourceLaw

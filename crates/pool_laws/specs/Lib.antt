@@ -1,2 +1,3 @@
+pub mod NamedBlobs
 pub mod OutputLaw
 pub mod Worked

@@ -1,5 +1,6 @@
 ghost use Rattle.std.specs.Prelude.{◌≡◌, [], Some};
 ghost use Rattle.std.specs.Option.{option_map_or};
+ghost use Rattle.pool_laws.specs.NamedBlobs.{NamedBlobsAreThere};
 ghost use Rattle.pool_laws.specs.OutputLaw.{OutputIsTold};
 ghost use Rattle.pool_laws.specs.Worked.{BlobIsKept, ItHappens, OutcomeIsTaken, OutputIsReported, RunsEnd, begun_output, ended_log, kept_log, reported_log, sent_again, taken_log};
 ghost use Rattle.swarm_model.specs.declared.task_state.TaskState.TheVariants.{Canceled, Completed, Killed};
@@ -90,6 +91,12 @@ pub fn outcomes_are_taken_over()
 /// that are kept, in their order.
 pub fn output_is_told()
     ensures { OutputIsTold }
+{}
+
+/// A reply names only blobs that the pool has, each with the size that it names or as many bytes as a
+/// part of an output needs.
+pub fn named_blobs_are_there()
+    ensures { NamedBlobsAreThere }
 {}
 
 /// A log in which a bot comes, claims a task, is heard again, and is lost with its run: it is one

@@ -6,7 +6,9 @@
 //! follow keeps it so. `BlobChanges`: what an entry does to the blobs, case by case. `Legality`: where nothing is due, what an answer adds may follow the log, and
 //! so may what is due. `EntryPreconditions`: what an entry that may follow finds in the pool.
 //! `Rows`: what an entry does to the rows. `UuidLaw`: the task that a caller sent under a uuid is
-//! found by both. `Refusals`: a request that is refused adds no entry. `Carrying`: the bytes that an
+//! found by both. `Decisions`: what holds of each decision, case by case, so that a law names only its
+//! own cases. `Refusals`: a request that is refused adds no entry. `NamedBlobs`: the pool has each blob
+//! that a reply names. `Carrying`: the bytes that an
 //! entry brings are those that came with its request. `BlobLaws`: there is room for a blob that is
 //! placed, and each blob keeps its bytes. `MachineLaws`: for a pool that keeps its log, that results
 //! and the tally show what the log tells, that a claim is right, that the parts of an output are the
@@ -20,7 +22,7 @@ mod laws;
 
 pub use laws::{
     a_blob_is_kept, a_claim_happens, a_run_ends, an_outcome_is_taken, an_output_is_reported,
-    claims_are_right, due_is_the_earliest, finals_stay, outcomes_are_taken_over, output_is_told,
-    refusals_add_nothing, repeats_act_once, sources_are_the_newest, stays_sound,
-    tally_counts_verdicts, verdicts_are_states,
+    claims_are_right, due_is_the_earliest, finals_stay, named_blobs_are_there,
+    outcomes_are_taken_over, output_is_told, refusals_add_nothing, repeats_act_once,
+    sources_are_the_newest, stays_sound, tally_counts_verdicts, verdicts_are_states,
 };

@@ -51,7 +51,9 @@ impl<M: Machine + Drop, K: Keeper + Drop> Kept<M, K> {
         requires history { IsHistory (M.kept self.old.machine) }
         requires brings { IfSome bytes (λ b. brings entry.kind ≡ Some (sha256 b.now, length b.now)) }
         requires whole { IsTrue (is_some (new_digest (M.kept self.old.machine).pool entry.kind)) → IsTrue (is_some bytes) }
+
         ensures lasting { lasting_of (M.kept self.new.machine) ≡ lasting_of (M.kept self.old.machine) }
+
         ensures added { OnOk result (Adds (M.kept self.old.machine) (M.kept self.new.machine) entry) }
         ensures short { OnOk result (length (M.kept self.old.machine).log < 2 ^ 32) }
         ensures stays { OnErr result (IsUnchanged (M.kept self.old.machine) (M.kept self.new.machine)) }

@@ -54,12 +54,16 @@ impl<M: Machine + Drop, K: Keeper + Drop> Server<M, K> {
         requires rules { IsTrue (are_settings settings.now) }
         requires sure { IsTrue K.SURE }
         requires keepers { length keepers.items ≡ length settings.now.pools }
+
         ensures own { IfOk result (λ r. AreOf (λ k. lasting_of (M.kept k.machine)) r.0.turnstiles.items r.1.passes.items) }
+
+        // The pools are those of the settings, each with its blobs and an empty log.
         ensures count { IfOk result (λ r. length r.0.turnstiles.items ≡ length settings.now.pools) }
         ensures store { IfOk result (λ r. r.0.store ≡ settings.now.store) }
         ensures settings { IfOk result (λ r. map (λ t. (fixed_of (λ k. lasting_of (M.kept k.machine)) t).settings) r.0.turnstiles.items ≡ settings.now.pools) }
         ensures whole { IfOk result (λ r. All (λ t. IsTrue (fixed_of (λ k. lasting_of (M.kept k.machine)) t).is_whole) r.0.turnstiles.items) }
         ensures opening { IfOk result (λ r. All (λ t. opening (λ k. (M.kept k.machine).log) t ≡ []) r.0.turnstiles.items) }
+
         ensures fresh { IfOk result (λ r. (p : ℕ) → p < length r.0.turnstiles.items → view_at (views r.1.passes.items) p ≡ first_view) }
     {
         let store = settings.store.try_copy(alloc)?;
@@ -83,9 +87,11 @@ impl<M: Machine + Drop, K: Keeper + Drop> Server<M, K> {
     ) -> Result<(Passes<M, K>, Passes<M, K>), (AllocError, Passes<M, K>)>
         requires own { AreOf (λ k. lasting_of (M.kept k.machine)) self.now.turnstiles.items passes.passes.items }
         requires first { (p : ℕ) → p < length self.now.turnstiles.items → MaySplit (view_at (views passes.passes.items) p) }
+
         ensures kept { IfOk result (λ r. AreOf (λ k. lasting_of (M.kept k.machine)) self.now.turnstiles.items r.0.passes.items) }
         ensures given { IfOk result (λ r. AreOf (λ k. lasting_of (M.kept k.machine)) self.now.turnstiles.items r.1.passes.items) }
         ensures split { IfOk result (λ r. (p : ℕ) → p < length self.now.turnstiles.items → Splits (view_at (views passes.passes.items) p) (view_at (views r.0.passes.items) p) (view_at (views r.1.passes.items) p)) }
+
         ensures back { IfErr result (λ r. r.1 ≡ passes) }
     {
         let count = self.turnstiles.len();
@@ -122,6 +128,7 @@ impl<M: Machine + Drop, K: Keeper + Drop> Server<M, K> {
     pub fn front(&self, passes: &mut Passes<M, K>, place: u32) -> u64
         requires own { AreOf (λ k. lasting_of (M.kept k.machine)) self.now.turnstiles.items passes.old.passes.items }
         requires place { place < length self.now.turnstiles.items }
+
         ensures own { AreOf (λ k. lasting_of (M.kept k.machine)) self.now.turnstiles.items passes.new.passes.items }
         ensures front { IsFrontOf (view_at (views passes.old.passes.items) place) result }
         ensures told { views passes.new.passes.items ≡ slice_set (views passes.old.passes.items) place (record (view_at (views passes.old.passes.items) place) { told = result }) }
@@ -158,8 +165,11 @@ impl<M: Machine + Drop, K: Keeper + Drop> Server<M, K> {
         requires own { AreOf (λ k. lasting_of (M.kept k.machine)) self.turnstiles.items passes.passes.items }
         requires empty { vec_len room ≡ 0 }
         requires room { length self.turnstiles.items ≤ vec_capacity room }
+
+        // It is closed exactly where no other pass is out.
         ensures alone { OnOk result ((p : ℕ) → p < length self.turnstiles.items → IsAloneView (view_at (views passes.passes.items) p)) }
         ensures refused { IfErr result (λ r. (r.0 ≡ self) × (r.1 ≡ passes) × ((p : ℕ) × (p < length self.turnstiles.items) × ¬ IsAloneView (view_at (views passes.passes.items) p))) }
+
         ensures closed { IfOk result (λ machines. AreClosed (λ k. lasting_of (M.kept k.machine)) (λ k. (M.kept k.machine).log) self.turnstiles.items (views passes.passes.items) (map M.kept machines.items)) }
     {
         if !self.alone(&passes) {

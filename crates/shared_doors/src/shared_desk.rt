@@ -1,6 +1,7 @@
 ghost use Rattle.std.specs.Prelude.{◌≡◌, ◌<◌, ◌+◌, ◌^◌, None, [], IsTrue, IsErrOf};
 ghost use Rattle.swarm_model.specs.Bytes.{Carries};
 ghost use Rattle.swarm_model.specs.Fits.{fits};
+ghost use Rattle.swarm_history.specs.Calls.{call_of};
 ghost use Rattle.turnstile.specs.Passes.{IsPassOf, IsTurn, fixed_of, lock_of, of_value, pass_of, seen, number, told, turns};
 ghost use Rattle.shared_doors.specs.Desks.{IsDesk, no_state};
 ghost use Rattle.shared_doors.specs.Lasting.{lasting_of, IsStanding};
@@ -13,7 +14,7 @@ use dimensions::{Seq, Text};
 use pool_doors::{Answered, CallFault};
 use std::alloc::{AllocError, Global};
 use std::sync::Wait;
-use swarm_history::{Desk, pieces_of, serve};
+use swarm_history::{Desk, PoolCall, pieces_of, serve};
 use swarm_keeper::Keeper;
 use swarm_model::{Answer, Entry, Machine, Reply, Request, answer_uncounted, due_uncounted};
 use turnstile::{Counted, Pass, Turn, Turnstile};
@@ -87,28 +88,28 @@ pub(crate) fn take_turn<M: Machine + Drop, K: Keeper + Drop, R: Wait>(
     alloc: Global,
     turnstile: &Turnstile<Kept<M, K>>,
     pass: Pass<Kept<M, K>>,
-    moment: u64,
-    after: Option<u64>,
-    who: &Text,
-    request: &Request,
-    bytes: &[u8],
+    call: &PoolCall,
 ) -> (Result<Answered, CallFault>, Pass<Kept<M, K>>)
     requires own { IsPassOf (λ k. lasting_of (M.kept k.machine)) turnstile.now pass }
     requires turns { turns pass < 2 ^ 40 }
     requires standing { IsStanding (fixed_of (λ k. lasting_of (M.kept k.machine)) turnstile.now) }
     requires sure { IsTrue K.SURE }
-    requires fits { IsTrue (fits (fixed_of (λ k. lasting_of (M.kept k.machine)) turnstile.now).settings request.now) }
-    requires carries { Carries request.now bytes.now }
+    requires fits { IsTrue (fits (fixed_of (λ k. lasting_of (M.kept k.machine)) turnstile.now).settings call.now.request.now) }
+    requires carries { Carries call.now.request.now call.now.bytes.now }
+
     ensures own { IsPassOf (λ k. lasting_of (M.kept k.machine)) turnstile.now result.1 }
-    ensures done { IsTurnCall (fixed_of (λ k. lasting_of (M.kept k.machine)) turnstile.now).settings
-        (record { pass = number pass; caller = who.now; moment = moment; after = after; request = request.now })
+    ensures done { IsTurnCall (fixed_of (λ k. lasting_of (M.kept k.machine)) turnstile.now).settings (call_of (number pass) call.now)
         (seen pass) (seen result.1) (told pass) result.0 }
+
+    // Sure keepers never fail.
     ensures no_fault { ¬ IsErrOf result.0 CallFault.Keeper }
+
+    // But for the log, the pass knows what it knew.
     ensures rest { look result.1 ≡ record (look pass) { turns = turns pass + 1; seen = seen result.1 } }
 {
     let turn = turnstile.enter(rt, pass);
     let mut desk = SharedDesk { turn };
-    let result = serve(alloc, &mut desk, moment, after, who, request, bytes);
+    let result = serve(alloc, &mut desk, call);
     let SharedDesk { turn } = desk;
     (result, turn.leave())
 }

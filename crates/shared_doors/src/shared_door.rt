@@ -12,6 +12,7 @@ use crate::view::Lasting;
 use dimensions::Text;
 use pool_doors::{Answered, CallFault, Door};
 use std::sync::Wait;
+use swarm_history::PoolCall;
 use swarm_keeper::Keeper;
 use swarm_model::{Entry, Machine, Request};
 use turnstile::{Counted, Pass};
@@ -73,17 +74,14 @@ impl<'a, M: Machine + Drop, K: Keeper + Drop, R: Wait> Door for SharedDoor<'a, M
         let at = place as usize;
         let pass = take_at(&mut self.passes, at);
         let turnstile = &self.server.turnstiles[at];
-        let (result, pass) = take_turn(
-            self.rt,
-            self.server.alloc,
-            turnstile,
-            pass,
+        let call = PoolCall {
             moment,
             after,
             who,
             request,
             bytes,
-        );
+        };
+        let (result, pass) = take_turn(self.rt, self.server.alloc, turnstile, pass, &call);
         self.passes[at] = Some(pass);
         result
     }

@@ -14,7 +14,7 @@ use Rattle.swarm_model.specs.MachineState.{MachineState, AreHeld}
 use Rattle.pool_laws.proofs.Alike.{same_is}
 use Rattle.pool_laws.proofs.Lists.{each, find_is}
 use Rattle.pool_doors.specs.Doors.{IsPieceOf}
-use Rattle.swarm_history.specs.Pieces.{HasPart}
+use Rattle.pool_laws.specs.NamedBlobs.{HasPart}
 
 held_row : (kept : MachineState) → AreHeld kept → (digest : List ℕ) (size : ℕ) (o : Option BlobRow) → blob_of kept.pool digest ≡ o
     → option_map_or (λ blob. blob.size == size) o false ≡ true → IsTrue (is_some (kept.held digest))

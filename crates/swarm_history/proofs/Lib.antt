@@ -4,7 +4,6 @@ mod Held
 mod Keepers
 mod KeptMachines
 mod LoadedMachines
-mod Named
 mod Others
 pub mod OwnPoints
 pub mod Machines

@@ -89,9 +89,11 @@ fn keep<M: Machine, K: Keeper>(
     bytes: Option<&[u8]>,
 ) -> Result<(), CallFault>
     requires held { AreHeld (M.kept machine.now) }
+
     ensures keeps { OnOk result (KeepsEntry (M.kept machine.now) entry.now (option_map (λ b. b.now) bytes.entry) (K.tables keeper.old) (K.tables keeper.new)) }
     ensures stays { OnErr result (K.tables keeper.new ≡ K.tables keeper.old) }
     ensures not_full { IfErr result (λ f. is_log_full f ≡ false) }
+
     ensures grows { K.faults keeper.old ≤ K.faults keeper.new }
     ensures failed { IsErrOf result CallFault.Keeper → Rose (K.faults keeper.old) (K.faults keeper.new) }
     ensures sure { IsTrue K.SURE → ¬ IsErrOf result CallFault.Keeper }
@@ -127,12 +129,15 @@ pub fn add_entry<M: Machine, K: Keeper>(
     requires records { AreMachineRecords (K.tables keeper.old) (M.kept machine.old) }
     requires brings { IfSome bytes (λ b. brings entry.kind ≡ Some (sha256 b.now, length b.now)) }
     requires whole { IsTrue (is_some (new_digest (M.kept machine.old).pool entry.kind)) → IsTrue (is_some bytes) }
+
     ensures held { AreHeld (M.kept machine.new) }
     ensures records { AreMachineRecords (K.tables keeper.new) (M.kept machine.new) }
     ensures no_other_blobs { HoldsNoOthers (K.tables keeper.old) (M.kept machine.old) → HoldsNoOthers (K.tables keeper.new) (M.kept machine.new) }
+
     ensures added { OnOk result (Adds (M.kept machine.old) (M.kept machine.new) entry) }
     ensures stays { OnErr result (IsUnchanged (M.kept machine.old) (M.kept machine.new)) }
     ensures full { IsErrOf result CallFault.LogFull ↔ (has_room (M.kept machine.old).pool.settings (M.kept machine.old).log entry ≡ false) }
+
     ensures grows { K.faults keeper.old ≤ K.faults keeper.new }
     ensures failed { IsErrOf result CallFault.Keeper → Rose (K.faults keeper.old) (K.faults keeper.new) }
     ensures sure { IsTrue K.SURE → ¬ IsErrOf result CallFault.Keeper }

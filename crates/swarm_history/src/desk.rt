@@ -9,7 +9,7 @@ ghost use Rattle.swarm_model.specs.Fits.{fits};
 ghost use Rattle.swarm_model.specs.History.{MayFollow, has_room};
 ghost use Rattle.swarm_model.specs.MachineState.{MachineState, IsHistory};
 ghost use Rattle.pool_doors.specs.Doors.{ArePieces};
-ghost use Rattle.swarm_history.specs.Pieces.{HasNamed};
+ghost use Rattle.pool_laws.specs.NamedBlobs.{HasNamed};
 ghost use Rattle.swarm_history.specs.Records.{HoldsNoOthers};
 ghost use Rattle.swarm_history.specs.Settling.{IsUnchanged, Adds};
 
@@ -84,13 +84,17 @@ pub trait Desk {
         requires history { IsHistory (kept self.old) }
         requires brings { IfSome bytes (λ b. brings entry.kind ≡ Some (sha256 b.now, length b.now)) }
         requires whole { IsTrue (is_some (new_digest (kept self.old).pool entry.kind)) → IsTrue (is_some bytes) }
+
         ensures ready { ready self.new }
         ensures no_other_blobs { HoldsNoOthers (records self.old) (kept self.old) → HoldsNoOthers (records self.new) (kept self.new) }
+
         ensures added { OnOk result (Adds (kept self.old) (kept self.new) entry) }
         ensures stays { OnErr result (IsUnchanged (kept self.old) (kept self.new)) }
         ensures full { IsErrOf result CallFault.LogFull ↔ (has_room (kept self.old).pool.settings (kept self.old).log entry ≡ false) }
+
         ensures grows { faults self.old ≤ faults self.new }
         ensures failed { IsErrOf result CallFault.Keeper → Rose (faults self.old) (faults self.new) }
+
         ensures number { number self.new ≡ number self.old }
         ensures rest { rest self.new ≡ rest self.old };
 }

@@ -4,7 +4,7 @@ ghost use Rattle.sha2.specs.Sha256.{sha256};
 ghost use Rattle.swarm_model.specs.Finding.{has_blob};
 ghost use Rattle.swarm_model.specs.MachineState.{AreHeld};
 ghost use Rattle.pool_doors.specs.Doors.{ArePieces, IsPieceOf};
-ghost use Rattle.swarm_history.specs.Pieces.{HasPart, HasNamed};
+ghost use Rattle.pool_laws.specs.NamedBlobs.{HasPart, HasNamed};
 
 use dimensions::Seq;
 use std::alloc::{AllocError, Global};

@@ -7,6 +7,7 @@ ghost use Rattle.swarm_model.specs.MachineState.{AreHeld};
 ghost use Rattle.swarm_model.specs.Points.{Growth};
 ghost use Rattle.swarm_model.specs.Settings.{are_settings};
 ghost use Rattle.pool_doors.specs.Doors.{IsPoolCall, IsFreshDoor, CountsKeeper};
+ghost use Rattle.swarm_history.specs.Calls.{call_of};
 ghost use Rattle.swarm_history.specs.Machines.{logs_of, own_door};
 ghost use Rattle.swarm_history.specs.Records.{AreKept, AreRecordsOf, AreMachineRecords, HoldsNoOthers, IsFirstBadRecord};
 ghost use Rattle.swarm_history.specs.OneProof.{are_records_one};
@@ -14,6 +15,7 @@ ghost use Rattle.swarm_history.specs.OneProof.{are_records_one};
 use crate::LoadFault;
 use crate::loading::load_machines;
 use crate::plain_desk::PlainDesk;
+use crate::pool_call::PoolCall;
 use crate::serving::serve;
 use dimensions::{Text, TryCopy};
 use pool_doors::{Answered, CallFault, Door};
@@ -42,28 +44,26 @@ fn call_machine<M: Machine, K: Keeper>(
     alloc: Global,
     machine: &mut M,
     keeper: &mut K,
-    moment: u64,
-    after: Option<u64>,
-    who: &Text,
-    request: &Request,
-    bytes: &[u8],
+    call: &PoolCall,
 ) -> Result<Answered, CallFault>
-    requires fits { IsTrue (fits (M.kept machine.old).pool.settings request.now) }
-    requires carries { Carries request.now bytes.now }
+    requires fits { IsTrue (fits (M.kept machine.old).pool.settings call.now.request.now) }
+    requires carries { Carries call.now.request.now call.now.bytes.now }
     requires held { AreHeld (M.kept machine.old) }
     requires records { AreMachineRecords (K.tables keeper.old) (M.kept machine.old) }
+
     ensures held { AreHeld (M.kept machine.new) }
     ensures records { AreMachineRecords (K.tables keeper.new) (M.kept machine.new) }
     ensures no_other_blobs { HoldsNoOthers (K.tables keeper.old) (M.kept machine.old) → HoldsNoOthers (K.tables keeper.new) (M.kept machine.new) }
+
     ensures settings { (M.kept machine.new).pool.settings ≡ (M.kept machine.old).pool.settings }
-    ensures done { (growth : Growth) × IsPoolCall (M.kept machine.old).pool.settings true
-        (record { pass = 0; caller = who.now; moment = moment; after = after; request = request.now })
+    ensures done { (growth : Growth) × IsPoolCall (M.kept machine.old).pool.settings true (call_of 0 call.now)
         (M.kept machine.old).log (M.kept machine.new).log growth result }
+
     ensures grows { K.faults keeper.old ≤ K.faults keeper.new }
     ensures failed { CountsKeeper result (K.faults keeper.old) (K.faults keeper.new) }
 {
     let mut desk = PlainDesk { machine, keeper };
-    let result = serve(alloc, &mut desk, moment, after, who, request, bytes);
+    let result = serve(alloc, &mut desk, call);
     let PlainDesk {
         machine: _,
         keeper: _,
@@ -86,14 +86,19 @@ impl<M: Machine + Drop, K: Keeper + Drop> PlainDoor<M, K> {
     ) -> Result<PlainDoor<M, K>, (LoadFault, Vec<K>)>
         requires rules { IsTrue (are_settings settings.now) }
         requires keepers { length keepers.items ≡ length settings.now.pools }
+
         ensures fresh { IfOk result (λ door. IsFreshDoor settings.now (⟦<PlainDoor<M, K> as Door>⟧.state door).seen (⟦<PlainDoor<M, K> as Door>⟧.state door)) }
         ensures lines { IfOk result (λ door. AreKept (map K.tables keepers.items) (⟦<PlainDoor<M, K> as Door>⟧.state door).seen) }
         ensures records { IfOk result (λ door. (⟦<PlainDoor<M, K> as Door>⟧.state door).records ≡ map K.tables keepers.items) }
+
+        // Sure keepers tell nothing, so there is nothing to load.
         ensures nothing { IsTrue K.SURE → IfOk result (λ door. (p : ℕ) → (⟦<PlainDoor<M, K> as Door>⟧.state door).seen p ≡ []) }
+
         ensures bad { IfErr result (λ back. IsFirstBadRecord settings.now (map K.tables keepers.items) back.0) }
         ensures sure { IsTrue K.SURE → IfErr result (λ back. back.0 ≡ LoadFault.Memory) }
         ensures failed { IfErr result (λ back. back.0 ≡ LoadFault.Failed → Rose (sum_by K.faults keepers.items) (sum_by K.faults back.1.items)) }
         ensures back { IfErr result (λ back. map K.tables back.1.items ≡ map K.tables keepers.items) }
+
         ensures grows { IfOk result (λ door. sum_by K.faults keepers.items ≤ (⟦<PlainDoor<M, K> as Door>⟧.state door).faults) }
         ensures grows_back { IfErr result (λ back. sum_by K.faults keepers.items ≤ sum_by K.faults back.1.items) }
     {
@@ -118,8 +123,10 @@ impl<M: Machine + Drop, K: Keeper + Drop> PlainDoor<M, K> {
         ensures logs { (p : ℕ) → logs_of (map M.kept result.0.items) p ≡ (⟦<PlainDoor<M, K> as Door>⟧.state self).seen p }
         ensures records { AreRecordsOf (map K.tables result.1.items) (map M.kept result.0.items) }
         ensures lines { AreKept (map K.tables result.1.items) (⟦<PlainDoor<M, K> as Door>⟧.state self).seen }
+
         ensures told { map K.tables result.1.items ≡ (⟦<PlainDoor<M, K> as Door>⟧.state self).records }
         ensures faults { sum_by K.faults result.1.items ≡ (⟦<PlainDoor<M, K> as Door>⟧.state self).faults }
+
         ensures machines { length result.0.items ≡ length (⟦<PlainDoor<M, K> as Door>⟧.state self).settings.pools }
         ensures keepers { length result.1.items ≡ length (⟦<PlainDoor<M, K> as Door>⟧.state self).settings.pools }
     {
@@ -142,8 +149,13 @@ impl<M: Machine + Drop, K: Keeper + Drop> Door for PlainDoor<M, K> {
         self.calls += 1;
         let machine = &mut self.machines[place as usize];
         let keeper = &mut self.keepers[place as usize];
-        call_machine(
-            self.alloc, machine, keeper, moment, after, who, request, bytes,
-        )
+        let call = PoolCall {
+            moment,
+            after,
+            who,
+            request,
+            bytes,
+        };
+        call_machine(self.alloc, machine, keeper, &call)
     }
 }

@@ -19,13 +19,18 @@ pub(crate) fn settle<D: Desk>(alloc: Global, desk: &mut D, moment: u64) -> Resul
     requires history { IsHistory (D.kept desk.old) }
     requires not_before { (D.kept desk.old).pool.last ≤ moment }
     requires not_late { moment ≤ 2 ^ 40 }
+
     ensures ready { D.ready desk.new }
     ensures no_other_blobs { HoldsNoOthers (D.records desk.old) (D.kept desk.old) → HoldsNoOthers (D.records desk.new) (D.kept desk.new) }
+
     ensures settles { Settles (D.number desk.old) moment (D.kept desk.old) (D.kept desk.new) }
     ensures nothing_due { OnOk result (due_entry (D.kept desk.new).pool moment (D.number desk.old) ≡ None) }
     ensures full { IfErr result (λ f. OnTrue (is_log_full f) (LacksRoom (D.kept desk.new).pool (D.kept desk.new).log (due_entry (D.kept desk.new).pool moment (D.number desk.old)))) }
+
     ensures grows { D.faults desk.old ≤ D.faults desk.new }
     ensures failed { IsErrOf result CallFault.Keeper → Rose (D.faults desk.old) (D.faults desk.new) }
+
+    // What the desk was made of can be taken out of it again.
     ensures number { D.number desk.new ≡ D.number desk.old }
     ensures rest { D.rest desk.new ≡ D.rest desk.old }
 {

@@ -36,8 +36,10 @@ fn end_worker<'a, M: Machine + Drop, K: Keeper + Drop, T: Wait, C: Clock + Drop,
 ) -> (WorkStop, Passes<M, K>)
     requires door { IsDoorTo (record { store = server.now.store; pools = pools_of (λ k. lasting_of (M.kept k.machine)) server.now.turnstiles.items }) (identities_of server.now.turnstiles.items) (⟦<SharedDoor<'a, M, K, T> as Door>⟧.state worker.door) }
     requires out { IsOut (N.state listener.old).out }
+
     ensures own { AreOf (λ k. lasting_of (M.kept k.machine)) server.now.turnstiles.items result.1.passes.items }
     ensures door { ⟦<SharedDoor<'a, M, K, T> as Door>⟧.state worker.entry.door ≡ shared_door server.now.store (pools_of (λ k. lasting_of (M.kept k.machine)) server.now.turnstiles.items) (identities_of server.now.turnstiles.items) (views result.1.passes.items) }
+
     ensures shuts { Shuts (N.Acceptor.state worker.entry.acceptor) (N.state listener.old) (N.state listener.new) }
     ensures stop { result.0 ≡ worker.entry.worked.stop }
 {
@@ -68,9 +70,11 @@ pub(crate) fn end_workers<
     requires some { 0 < length workers.items }
     requires doors { All (λ w. IsDoorTo (record { store = server.now.store; pools = pools_of (λ k. lasting_of (M.kept k.machine)) server.now.turnstiles.items }) (identities_of server.now.turnstiles.items) (⟦<SharedDoor<'a, M, K, T> as Door>⟧.state w.door)) workers.items }
     requires out { IfSome (N.state listener.old).out (λ n. length workers.items ≤ n) }
+
     ensures own { AreOf (λ k. lasting_of (M.kept k.machine)) server.now.turnstiles.items result.1.passes.items }
     ensures joined { (p : ℕ) → p < length server.now.turnstiles.items → IsJoined p (map (λ w. ⟦<SharedDoor<'a, M, K, T> as Door>⟧.state w.door) workers.entry.items) (view_at (views result.1.passes.items) p) }
     ensures first { (p : ℕ) → p < length server.now.turnstiles.items → IsFirst p (map (λ w. ⟦<SharedDoor<'a, M, K, T> as Door>⟧.state w.door) workers.entry.items) (view_at (views result.1.passes.items) p) }
+
     ensures shuts { ShutsAll (map (λ w. N.Acceptor.state w.acceptor) workers.entry.items) (N.state listener.old) (N.state listener.new) }
     ensures stop { result.0 ≡ stop_of (map (λ w. w.worked.stop) workers.entry.items) }
 {

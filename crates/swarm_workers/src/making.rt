@@ -27,6 +27,7 @@ pub(crate) fn split_all<M: Machine + Drop, K: Keeper + Drop>(
     requires own { AreOf (λ k. lasting_of (M.kept k.machine)) server.now.turnstiles.items passes.passes.items }
     requires first { (p : ℕ) → p < length server.now.turnstiles.items → view_at (views passes.passes.items) p ≡ first_view }
     requires number { (1 ≤ workers) × (workers ≤ 32) }
+
     ensures count { IfOk result (λ r. length r.1.items + 1 ≡ workers) }
     ensures shares { IfOk result (λ r. AreShares (λ k. lasting_of (M.kept k.machine)) server.now.turnstiles.items 0 (map (λ s. s.passes.items) (r.0 ∷ r.1.items))) }
     ensures made { IfOk result (λ r. (p : ℕ) → p < length server.now.turnstiles.items → (view_at (views r.0.passes.items) p).made ≡ workers) }
@@ -90,10 +91,12 @@ pub(crate) fn make_workers<
     requires count { length acceptors.items ≡ length others.items + 1 }
     requires empty { vec_len room ≡ 0 }
     requires room { length acceptors.items ≤ vec_capacity room }
+
     ensures doors { AreNewDoors (record { store = server.now.store; pools = pools_of (λ k. lasting_of (M.kept k.machine)) server.now.turnstiles.items }) (identities_of server.now.turnstiles.items) 0
         (map (λ w. ⟦<SharedDoor<'a, M, K, T> as Door>⟧.state w.door) result.items) }
     ensures made { (made : ℕ) → ((p : ℕ) → p < length server.now.turnstiles.items → (view_at (views first.passes.items) p).made ≡ made)
         → KnowsMade (record { store = server.now.store; pools = pools_of (λ k. lasting_of (M.kept k.machine)) server.now.turnstiles.items }) made (map (λ w. ⟦<SharedDoor<'a, M, K, T> as Door>⟧.state w.door) result.items) }
+
     ensures clocks { All (λ w. C.ahead w.clock ≡ C.ahead clock.now) result.items }
     ensures acceptors { map (λ w. A.state w.acceptor) result.items ≡ map A.state acceptors.items }
 {

@@ -3,6 +3,7 @@ use Rattle.std.proofs.Common.{ℕ, IsTrue, sym, ap, subst, ◌∙◌}
 use Rattle.swarm_model.specs.declared.pool_settings.PoolSettings.{PoolSettings}
 use Rattle.swarm_model.specs.Fits.{fits}
 use Rattle.swarm_model.specs.Points.{Call}
+use Rattle.swarm_history.specs.Calls.{call_of}
 use Rattle.turnstile.specs.Passes.{IsPassOf, fixed_of, number, of_value, pass_of, raised, seen, told}
 use Rattle.shared_doors.specs.Desks.{no_state}
 use Rattle.shared_doors.specs.Lasting.{lasting_of}
@@ -18,7 +19,7 @@ serve-result-requires g c =
     let ready = ready_first (λ k. g.M.Machine.kept k.machine) g.K.Keeper.SURE t lock e.lock c.requires.sure e.turn c.requires.standing e.value in
     record {
       ready = ready;
-      fits = subst (λ (p : PoolSettings). IsTrue (fits p c.args.request.now)) (sym (settings_at (λ k. g.M.Machine.kept k.machine) g.K.Keeper.SURE t ready lock e.lock)) c.requires.fits;
+      fits = subst (λ (p : PoolSettings). IsTrue (fits p c.args.call.now.request.now)) (sym (settings_at (λ k. g.M.Machine.kept k.machine) g.K.Keeper.SURE t ready lock e.lock)) c.requires.fits;
       carries = c.requires.carries;
     }
 
@@ -37,7 +38,7 @@ returns-clause-done g c =
     let next = c.serve-result.new.desk.turn in
     let lock = c.args.turnstile.now in
     let ready = ready_first (λ k. g.M.Machine.kept k.machine) g.K.Keeper.SURE t lock e.lock c.requires.sure e.turn c.requires.standing e.value in
-    let the_call : ℕ → Call = λ n. record { pass = n; caller = c.args.who.now; moment = c.args.moment; after = c.args.after; request = c.args.request.now } in
+    let the_call : ℕ → Call = λ n. call_of n c.args.call.now in
     let there = of_value (λ k. g.M.Machine.kept k.machine) no_state t in
     turn_call (fixed_of (λ k. lasting_of (g.M.Machine.kept k.machine)) lock).settings there.pool.settings
     (the_call (number c.args.pass)) (the_call (number (pass_of t))) (seen c.args.pass) (raised t) there.log (seen c.leave.result)

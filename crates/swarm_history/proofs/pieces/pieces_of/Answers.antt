@@ -1,7 +1,7 @@
 -- What a reply names is there.
 use Rattle.std.proofs.Common.{sym, subst}
 use Rattle.std.specs.List.{All}
-use Rattle.swarm_history.specs.Pieces.{HasPart, HasNamed}
+use Rattle.pool_laws.specs.NamedBlobs.{HasPart, HasNamed}
 use Rattle.swarm_history.proofs.Held.{held_of}
 use Rattle.swarm_history.proofs.pieces.pieces_of.Goals as goal
 

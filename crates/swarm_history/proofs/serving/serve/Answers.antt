@@ -9,8 +9,9 @@ use Rattle.swarm_model.specs.Answers.{answer}
 use Rattle.swarm_model.specs.Deadlines.{due_entry}
 use Rattle.swarm_model.specs.Effects.{opening}
 use Rattle.swarm_model.specs.History.{moment_of}
-use Rattle.swarm_model.specs.Points.{is_ahead, Call, LacksRoom}
+use Rattle.swarm_model.specs.Points.{is_ahead, LacksRoom}
 use Rattle.pool_doors.specs.declared.door.Answered.{Answered}
+use Rattle.swarm_history.specs.Calls.{call_of}
 use Rattle.swarm_history.specs.Settling.{IsPointAlone, Responds, Settles}
 use Rattle.pool_doors.specs.Doors.{is_log_full}
 use Rattle.swarm_history.proofs.OwnPoints.{sound_history, early_point, due_next, own_next, settled_point, settled_stop}
@@ -32,8 +33,8 @@ stops (Err f) S P Q all stays lacks = all stays f lacks
 pub returns-then-is_ahead-clause-point : goal.returns-then-is_ahead-clause-point
 returns-then-is_ahead-clause-point g c =
     let k = g.D.Desk.kept c.args.desk.now in
-    let the_call : Call = record { pass = g.D.Desk.number c.args.desk.now; caller = c.args.who.now; moment = c.args.moment; after = c.args.after; request = c.args.request.now } in
-    let ahead = ahead_is (length k.log) c.length-length.result c.args.after c.is_ahead.result true c.length-length.ensures.length c.is_ahead.ensures c.if-is_ahead.true in
+    let the_call = call_of (g.D.Desk.number c.args.desk.now) c.args.call.now in
+    let ahead = ahead_is (length k.log) c.length-length.result c.args.call.now.after c.is_ahead.result true c.length-length.ensures.length c.is_ahead.ensures c.if-is_ahead.true in
     rw c.length-length.ensures.same
     (subst (λ (n : ℕ). IsPointAlone (opening k.pool.settings) the_call k.log k.log (reply.No (rule.FrontAhead n)))
     (sym c.length-length.ensures.length)
@@ -70,12 +71,12 @@ respond-requires g c =
 pub returns-in_err-settle-clause-stopped : goal.returns-in_err-settle-clause-stopped
 returns-in_err-settle-clause-stopped g c =
     let k = g.D.Desk.kept c.args.desk.now in
-    let the_call : Call = record { pass = g.D.Desk.number c.args.desk.now; caller = c.args.who.now; moment = c.args.moment; after = c.args.after; request = c.args.request.now } in
+    let the_call = call_of (g.D.Desk.number c.args.desk.now) c.args.call.now in
     let m = g.D.Desk.kept c.settle.new.desk in
     let same = c.last.ensures.same ∙ c.length-length.ensures.same in
     let last = c.last.ensures.last ∙ ap (λ d. (g.D.Desk.kept d).pool.last) c.length-length.ensures.same in
-    let behind = ahead_is (length k.log) c.length-length.result c.args.after c.is_ahead.result false c.length-length.ensures.length c.is_ahead.ensures c.if-is_ahead.false in
-    let at = moment_is k.pool c.args.moment c.last.result c.min.result c.max-moment.result last c.min.ensures c.max-moment.ensures in
+    let behind = ahead_is (length k.log) c.length-length.result c.args.call.now.after c.is_ahead.result false c.length-length.ensures.length c.is_ahead.ensures c.if-is_ahead.false in
+    let at = moment_is k.pool c.args.call.now.moment c.last.result c.min.result c.max-moment.result last c.min.ensures c.max-moment.ensures in
     let f = c.in_err-settle.field-0.0 in
     let p = err_from_is_err_and c.from_residual.result c.from_residual.ensures.1 in
     rw (p.1, p.2)
@@ -87,35 +88,35 @@ returns-in_err-settle-clause-stopped g c =
 pub returns-clause-point : goal.returns-clause-point
 returns-clause-point g c =
     let k = g.D.Desk.kept c.args.desk.now in
-    let the_call : Call = record { pass = g.D.Desk.number c.args.desk.now; caller = c.args.who.now; moment = c.args.moment; after = c.args.after; request = c.args.request.now } in
+    let the_call = call_of (g.D.Desk.number c.args.desk.now) c.args.call.now in
     let m = g.D.Desk.kept c.settle.new.desk in
     let n = g.D.Desk.kept c.respond.new.desk in
     let same = c.last.ensures.same ∙ c.length-length.ensures.same in
     let last = c.last.ensures.last ∙ ap (λ d. (g.D.Desk.kept d).pool.last) c.length-length.ensures.same in
     let number = c.settle.ensures.number ∙ ap g.D.Desk.number same in
-    let behind = ahead_is (length k.log) c.length-length.result c.args.after c.is_ahead.result false c.length-length.ensures.length c.is_ahead.ensures c.if-is_ahead.false in
-    let at = moment_is k.pool c.args.moment c.last.result c.min.result c.max-moment.result last c.min.ensures c.max-moment.ensures in
+    let behind = ahead_is (length k.log) c.length-length.result c.args.call.now.after c.is_ahead.result false c.length-length.ensures.length c.is_ahead.ensures c.if-is_ahead.false in
+    let at = moment_is k.pool c.args.call.now.moment c.last.result c.min.result c.max-moment.result last c.min.ensures c.max-moment.ensures in
     IfOk-weaker c.respond.result _ _
     (λ (a : Answered). settled_point the_call c.max-moment.result k m c.length-length.ensures.history behind at
     (subst (λ d. Settles (g.D.Desk.number d) c.max-moment.result (g.D.Desk.kept d) m) same c.in_ok-settle.ensures.settles) n
     (subst (λ d. due_entry m.pool c.max-moment.result (g.D.Desk.number d) ≡ None) same c.in_ok-settle.ensures.nothing_due) a.reply)
-    (subst (λ (p : ℕ). IfOk c.respond.result (λ (a : Answered). Responds p c.args.who.now c.max-moment.result c.args.request.now m n a.reply)) number c.respond.ensures.answers)
+    (subst (λ (p : ℕ). IfOk c.respond.result (λ (a : Answered). Responds p c.args.call.now.who.now c.max-moment.result c.args.call.now.request.now m n a.reply)) number c.respond.ensures.answers)
 
 pub returns-clause-stopped : goal.returns-clause-stopped
 returns-clause-stopped g c =
     let k = g.D.Desk.kept c.args.desk.now in
-    let the_call : Call = record { pass = g.D.Desk.number c.args.desk.now; caller = c.args.who.now; moment = c.args.moment; after = c.args.after; request = c.args.request.now } in
+    let the_call = call_of (g.D.Desk.number c.args.desk.now) c.args.call.now in
     let m = g.D.Desk.kept c.settle.new.desk in
     let n = g.D.Desk.kept c.respond.new.desk in
     let same = c.last.ensures.same ∙ c.length-length.ensures.same in
     let last = c.last.ensures.last ∙ ap (λ d. (g.D.Desk.kept d).pool.last) c.length-length.ensures.same in
     let number = c.settle.ensures.number ∙ ap g.D.Desk.number same in
-    let behind = ahead_is (length k.log) c.length-length.result c.args.after c.is_ahead.result false c.length-length.ensures.length c.is_ahead.ensures c.if-is_ahead.false in
-    let at = moment_is k.pool c.args.moment c.last.result c.min.result c.max-moment.result last c.min.ensures c.max-moment.ensures in
+    let behind = ahead_is (length k.log) c.length-length.result c.args.call.now.after c.is_ahead.result false c.length-length.ensures.length c.is_ahead.ensures c.if-is_ahead.false in
+    let at = moment_is k.pool c.args.call.now.moment c.last.result c.min.result c.max-moment.result last c.min.ensures c.max-moment.ensures in
     stops c.respond.result _ _ _
     (λ stays f lacks. settled_stop the_call c.max-moment.result k m c.length-length.ensures.history behind at
     (subst (λ d. Settles (g.D.Desk.number d) c.max-moment.result (g.D.Desk.kept d) m) same c.in_ok-settle.ensures.settles) n.log (is_log_full f) stays.log
     (own_next (is_log_full f) _ (due_entry m.pool c.max-moment.result the_call.pass) _
     (subst (λ d. due_entry m.pool c.max-moment.result (g.D.Desk.number d) ≡ None) same c.in_ok-settle.ensures.nothing_due) lacks))
     c.respond.ensures.stays
-    (subst (λ (p : ℕ). IfErr c.respond.result (λ f. OnTrue (is_log_full f) (LacksRoom m.pool m.log (answer m.pool c.args.who.now c.max-moment.result p c.args.request.now).entry))) number c.respond.ensures.full)
+    (subst (λ (p : ℕ). IfErr c.respond.result (λ f. OnTrue (is_log_full f) (LacksRoom m.pool m.log (answer m.pool c.args.call.now.who.now c.max-moment.result p c.args.call.now.request.now).entry))) number c.respond.ensures.full)

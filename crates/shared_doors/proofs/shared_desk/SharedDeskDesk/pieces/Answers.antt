@@ -1,7 +1,7 @@
 -- Nothing was written.
 use Rattle.std.proofs.Common.{subst}
 use Rattle.swarm_model.specs.MachineState.{MachineState}
-use Rattle.swarm_history.specs.Pieces.{HasNamed}
+use Rattle.pool_laws.specs.NamedBlobs.{HasNamed}
 use Rattle.shared_doors.proofs.Desks.{kept_is, same_desk, standing_is}
 use Rattle.shared_doors.proofs.Standing.{held_when}
 use Rattle.shared_doors.proofs.shared_desk.SharedDeskDesk.pieces.Goals as goal

@@ -1,10 +1,12 @@
 -- The blobs whose bytes a reply needs.
-use Rattle.std.specs.Prelude.{ℕ, ⊤, ◌≤◌, IsTrue}
+use Rattle.std.specs.Prelude.{ℕ, ⊤, ◌≤◌, IsTrue, List}
 use Rattle.std.specs.List.{All}
 use Rattle.swarm_model.specs.declared.pool_state.PoolState.{PoolState}
+use Rattle.swarm_model.specs.declared.request.Request.{Request}
 use Rattle.swarm_model.specs.declared.reply.Part.{Part}
 use Rattle.swarm_model.specs.declared.reply.Reply.{Reply}
 use Rattle.swarm_model.specs.declared.reply.Reply.TheVariants as reply
+use Rattle.swarm_model.specs.Answers.{answer}
 use Rattle.swarm_model.specs.Finding.{has_blob}
 
 -- a blob has the part's digest, and as many bytes as the part needs
@@ -16,3 +18,7 @@ abbrev pub HasNamed : PoolState → Reply → Type 0
 HasNamed s (reply.Stdout state parts) = All (HasPart s) parts
 HasNamed s (reply.Blob digest size) = IsTrue (has_blob s digest size)
 HasNamed s answered = ⊤
+
+-- a reply names only blobs that the pool has
+abbrev pub NamedBlobsAreThere : Type 0
+NamedBlobsAreThere = (s : PoolState) (who : List ℕ) (moment pass : ℕ) (request : Request) → HasNamed s (answer s who moment pass request).reply
