@@ -2,6 +2,8 @@
 use Rattle.std.proofs.Common.{◌≡◌, ℕ, zero, suc, ◌+◌, ◌-◌, ◌/◌, ◌≤◌, Bool, true, false, not, ◌&&◌, ◌||◌, ◌==◌, if◌then◌else◌, nat_le, nat_lt, List, [], ◌∷◌, ◌++◌, length, take, drop, Option, Some, None, is_some, IfSome, refl, ap, sym, ◌∙◌, subst, arith, append_assoc, length-append}
 use Rattle.std.proofs.lemmas.Bool.Decides.{nat_tests}
 use Rattle.std.specs.Option.{option_map}
+use Rattle.refusal_codes.specs.declared.refusal_code.RefusalCode.{RefusalCode}
+use Rattle.refusal_codes.specs.Codes.{code_numbered}
 use Rattle.bot_core.specs.declared.run.Run.{Run}
 use Rattle.bot_core.specs.declared.action.StopWhy.TheVariants as why
 use Rattle.bot_core.specs.declared.action.Action.{Action}
@@ -17,7 +19,7 @@ use Rattle.bot_core.specs.declared.bot_state.Awaited.TheVariants.{Begin, Answer,
 use Rattle.bot_core.specs.RunChanges.{most_pending, most_output, drop_output, abandon_run, is_dropped, add_output, has_passed, is_reached, is_grace_over, end_of}
 use Rattle.bot_core.specs.declared.action.End.{End}
 use Rattle.bot_core.proofs.StateBounds.{stepped_keeps}
-use Rattle.bot_core.specs.Table.{enter, enter_stop, enter_sleep, next_session, with_run, is_stop, sends_request, is_transient, needs_new_session, abandons_run, apply_refusal, signal_term, signal_kill, send_or_sleep, continue_run, end_task, after_handshake, after_poll, after_claim, after_prepare, after_start, after_look, after_signal, after_send, after_upload, after_last_send, after_clean_up, after_answer, after_begin, after_sleep, after_event, next_state, phase_action, awaited_action, action_of, record_action, issue_action}
+use Rattle.bot_core.specs.Table.{enter, enter_stop, enter_sleep, next_session, with_run, is_stop, sends_request, is_transient, needs_new_session, is_claim_over, is_store_full, abandons_run, apply_refusal, signal_term, signal_kill, send_or_sleep, continue_run, end_task, after_handshake, after_poll, after_claim, after_prepare, after_start, after_look, after_signal, after_send, after_upload, after_last_send, after_clean_up, after_answer, after_begin, after_sleep, after_event, next_state, phase_action, awaited_action, action_of, record_action, issue_action}
 use Rattle.bot_core.specs.Bounds.{RunBounds, Bounds, InBounds}
 use Rattle.bot_core.specs.Output.{OutputState, OutputEvent, waiting_at, waiting_after, wrote_after, HasBytes, OutputStep, OutputSteps, output_start, CarriesOutput}
 
@@ -166,15 +168,15 @@ module _ (w o : List ℕ) where
   poll_stands s (event.PollSleep secs) b g = g
   poll_stands s event.PollClaim b g = g
   poll_stands s event.PollTerminate b g = g
-  poll_stands s (event.Refused number) b g = if_both (Stands w o) (needs_new_session number) (next_session s) (enter_stop why.Refused s) g g
+  poll_stands s (event.Refused number) b g = if_both (Stands w o) (needs_new_session (code_numbered number)) (next_session s) (enter_stop why.Refused s) g g
   poll_stands s e b g = tt
 
   claim_stands : (s : BotState) (e : BotEvent) (b : List ℕ) → Stands w o s → IfSome (after_claim s e) (Stands (waiting_after e b w) (wrote_after e b o))
   claim_stands s (event.ClaimRun x i r t) b g = fresh 0 false false w
   claim_stands s event.ClaimSkip b g = g
   claim_stands s (event.Refused number) b g =
-      if_both (Stands w o) (needs_new_session number) (next_session s) (if number == 16 then enter phase.Poll s else enter_stop why.Refused s) g
-      (if_both (Stands w o) (number == 16) (enter phase.Poll s) (enter_stop why.Refused s) g g)
+      if_both (Stands w o) (needs_new_session (code_numbered number)) (next_session s) (if is_claim_over (code_numbered number) then enter phase.Poll s else enter_stop why.Refused s) g
+      (if_both (Stands w o) (is_claim_over (code_numbered number)) (enter phase.Poll s) (enter_stop why.Refused s) g g)
   claim_stands s e b g = tt
 
   prepare_stands : (s : BotState) (e : BotEvent) (b : List ℕ) → Stands w o s → IfSome (after_prepare s e) (Stands (waiting_after e b w) (wrote_after e b o))
@@ -204,29 +206,29 @@ module _ (w o : List ℕ) where
   signal_stands s event.RunnerFailed b g = g
   signal_stands s e b g = tt
 
-  repelled_stands : (number : ℕ) (r : Run) → Fits r w o → Fits (apply_refusal number r) w o
-  repelled_stands number r g =
+  repelled_stands : (code : Option RefusalCode) (r : Run) → Fits r w o → Fits (apply_refusal code r) w o
+  repelled_stands code r g =
       let P : Run → Type 0 = λ x. Fits x w o in
       let all : (c a : Bool) → (c ≡ false → a ≡ false → ⊥) → Agrees 0 r.sent (r.dropped + r.pending) c a w o = λ c a f. dropped_all r.pending r.sent r.dropped r.dropping r.abandoned c a w o f g in
-      if_run P (number == 23) (drop_output r) (if abandons_run number then abandon_run r else record (abandon_run r) { refused = true }) (all true r.abandoned (λ x y. cc))
-      (if_run P (abandons_run number) (abandon_run r) (record (abandon_run r) { refused = true }) (all r.dropping true (λ x y. cc)) (all r.dropping true (λ x y. cc)))
+      if_run P (is_store_full code) (drop_output r) (if abandons_run code then abandon_run r else record (abandon_run r) { refused = true }) (all true r.abandoned (λ x y. cc))
+      (if_run P (abandons_run code) (abandon_run r) (record (abandon_run r) { refused = true }) (all r.dropping true (λ x y. cc)) (all r.dropping true (λ x y. cc)))
 
   send_stands : (s : BotState) (e : BotEvent) (b : List ℕ) → Stands w o s → IfSome (after_send s e) (Stands (waiting_after e b w) (wrote_after e b o))
   send_stands s (event.SendOk must_stop) b g = delivered s.run.pending s.run.sent s.run.dropped s.run.dropping s.run.abandoned w o g
-  send_stands s (event.Refused number) b g = repelled_stands number s.run g
+  send_stands s (event.Refused number) b g = repelled_stands (code_numbered number) s.run g
   send_stands s e b g = tt
 
   upload_stands : (s : BotState) (e : BotEvent) (b : List ℕ) → Stands w o s → IfSome (after_upload s e) (Stands (waiting_after e b w) (wrote_after e b o))
   upload_stands s event.Uploaded b g = g
-  upload_stands s (event.Refused number) b g = if_both (Stands w o) (number == 23) (enter phase.LastSend s) (enter_stop why.Refused s) g g
+  upload_stands s (event.Refused number) b g = if_both (Stands w o) (is_store_full (code_numbered number)) (enter phase.LastSend s) (enter_stop why.Refused s) g g
   upload_stands s e b g = tt
 
   last_stands : (s : BotState) (e : BotEvent) (b : List ℕ) → Stands w o s → IfSome (after_last_send s e) (Stands (waiting_after e b w) (wrote_after e b o))
   last_stands s (event.SendOk must_stop) b g = g
   last_stands s (event.Refused number) b g =
-      if_both (Stands w o) (number == 23) (enter phase.LastSend (with_run drop_output s)) _
+      if_both (Stands w o) (is_store_full (code_numbered number)) (enter phase.LastSend (with_run drop_output s)) _
       (dropped_all s.run.pending s.run.sent s.run.dropped s.run.dropping s.run.abandoned true s.run.abandoned w o (λ x y. cc) g)
-      (if_both (Stands w o) (abandons_run number) (enter phase.CleanUp (with_run abandon_run s)) (enter_stop why.Refused s)
+      (if_both (Stands w o) (abandons_run (code_numbered number)) (enter phase.CleanUp (with_run abandon_run s)) (enter_stop why.Refused s)
       (dropped_all s.run.pending s.run.sent s.run.dropped s.run.dropping s.run.abandoned s.run.dropping true w o (λ x y. cc) g) g)
   last_stands s e b g = tt
 

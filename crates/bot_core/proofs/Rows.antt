@@ -1,6 +1,7 @@
 -- What each row of the table does to ids, runs and signals.
 use Rattle.std.proofs.Common.{◌≡◌, ℕ, ◌+◌, ◌-◌, ◌/◌, ◌≤◌, ◌<◌, Bool, true, false, not, ◌&&◌, ◌||◌, ◌==◌, if◌then◌else◌, nat_le, nat_lt, Option, Some, None, is_some, IfSome, ℤ, negsuc, refl, ap, sym, ◌∙◌, subst, arith}
 use Rattle.std.specs.Option.{option_map}
+use Rattle.refusal_codes.specs.Codes.{code_numbered}
 use Rattle.bot_core.specs.declared.run.Run.{Run}
 use Rattle.bot_core.specs.declared.action.StopWhy.{StopWhy}
 use Rattle.bot_core.specs.declared.action.StopWhy.TheVariants as why
@@ -15,7 +16,7 @@ use Rattle.bot_core.specs.declared.bot_state.Phase.TheVariants as phase
 use Rattle.bot_core.specs.declared.bot_state.Awaited.{Awaited}
 use Rattle.bot_core.specs.declared.bot_state.Awaited.TheVariants.{Begin, Answer, Slept}
 use Rattle.bot_core.specs.RunChanges.{most_pending, drop_output, abandon_run, add_output, is_dropped, end_run, has_passed, is_reached, is_grace_over}
-use Rattle.bot_core.specs.Table.{enter, enter_stop, enter_sleep, next_session, with_run, is_stop, sends_request, is_transient, needs_new_session, abandons_run, fail_start, apply_refusal, signal_kill, send_or_sleep, continue_run, end_task, after_handshake, after_poll, after_claim, after_prepare, after_start, after_look, after_signal, after_send, after_upload, after_last_send, after_clean_up, after_answer, after_begin, after_sleep, after_event, next_state, action_of, record_action, issue_action, stepped}
+use Rattle.bot_core.specs.Table.{enter, enter_stop, enter_sleep, next_session, with_run, is_stop, sends_request, is_transient, needs_new_session, is_claim_over, is_store_full, abandons_run, fail_start, apply_refusal, signal_kill, send_or_sleep, continue_run, end_task, after_handshake, after_poll, after_claim, after_prepare, after_start, after_look, after_signal, after_send, after_upload, after_last_send, after_clean_up, after_answer, after_begin, after_sleep, after_event, next_state, action_of, record_action, issue_action, stepped}
 use Rattle.bot_core.specs.Signals.{Signals, signals_at_event, AreInOrder}
 use Rattle.bot_core.specs.OpenRuns.{is_claim_run}
 use Rattle.bot_core.specs.Ids.{is_again}
@@ -118,7 +119,7 @@ poll_row s event.PollClaim m = record {
 }
 poll_row s event.PollTerminate m = plain s (enter_stop why.Terminated s) phase.Poll event.PollTerminate m refl refl refl refl (same_agrees s.run) (λ o. absurd (cc))
 poll_row s (event.Refused n) m =
-    if_row s phase.Poll Answer (event.Refused n) m (needs_new_session n) (next_session s) (enter_stop why.Refused s)
+    if_row s phase.Poll Answer (event.Refused n) m (needs_new_session (code_numbered n)) (next_session s) (enter_stop why.Refused s)
     (λ _. session_row s (next_session s) phase.Poll Answer (event.Refused n) m refl refl refl refl refl (λ o. absurd (cc)))
     (λ _. plain s (enter_stop why.Refused s) phase.Poll (event.Refused n) m refl refl refl refl (same_agrees s.run) (λ o. absurd (cc)))
 poll_row s e m = tt
@@ -139,9 +140,9 @@ claim_row s (event.ClaimRun x i r t) m = record {
 }
 claim_row s event.ClaimSkip m = plain s (enter phase.Poll s) phase.Claim event.ClaimSkip m refl refl refl refl (same_agrees s.run) (λ o. absurd (cc))
 claim_row s (event.Refused n) m =
-    if_row s phase.Claim Answer (event.Refused n) m (needs_new_session n) (next_session s) _
+    if_row s phase.Claim Answer (event.Refused n) m (needs_new_session (code_numbered n)) (next_session s) _
     (λ _. session_row s (next_session s) phase.Claim Answer (event.Refused n) m refl refl refl refl refl (λ o. absurd (cc)))
-    (λ _. if_row s phase.Claim Answer (event.Refused n) m (n == 16) (enter phase.Poll s) (enter_stop why.Refused s)
+    (λ _. if_row s phase.Claim Answer (event.Refused n) m (is_claim_over (code_numbered n)) (enter phase.Poll s) (enter_stop why.Refused s)
     (λ _. plain s (enter phase.Poll s) phase.Claim (event.Refused n) m refl refl refl refl (same_agrees s.run) (λ o. absurd (cc)))
     (λ _. plain s (enter_stop why.Refused s) phase.Claim (event.Refused n) m refl refl refl refl (same_agrees s.run) (λ o. absurd (cc))))
 claim_row s e m = tt
@@ -248,13 +249,13 @@ refusal_agrees r false false g a = a
 
 send_row : (s : BotState) (e : BotEvent) (m : ℕ) → IfSome (after_send s e) (Row s phase.Send Answer e m)
 send_row s (event.SendOk must_stop) m = plain s _ phase.Send (event.SendOk must_stop) m refl refl refl refl (same_agrees s.run) (λ o i. refl)
-send_row s (event.Refused n) m = plain s (enter phase.Look (with_run (apply_refusal n) s)) phase.Send (event.Refused n) m refl refl refl refl (refusal_agrees s.run (n == 23) (abandons_run n)) (λ o i. refl)
+send_row s (event.Refused n) m = plain s (enter phase.Look (with_run (apply_refusal (code_numbered n)) s)) phase.Send (event.Refused n) m refl refl refl refl (refusal_agrees s.run (is_store_full (code_numbered n)) (abandons_run (code_numbered n))) (λ o i. refl)
 send_row s e m = tt
 
 upload_row : (s : BotState) (e : BotEvent) (m : ℕ) → IfSome (after_upload s e) (Row s phase.Upload Answer e m)
 upload_row s event.Uploaded m = plain s (enter phase.LastSend s) phase.Upload event.Uploaded m refl refl refl refl (same_agrees s.run) (λ o i. refl)
 upload_row s (event.Refused n) m =
-    if_row s phase.Upload Answer (event.Refused n) m (n == 23) (enter phase.LastSend s) (enter_stop why.Refused s)
+    if_row s phase.Upload Answer (event.Refused n) m (is_store_full (code_numbered n)) (enter phase.LastSend s) (enter_stop why.Refused s)
     (λ _. plain s (enter phase.LastSend s) phase.Upload (event.Refused n) m refl refl refl refl (same_agrees s.run) (λ o i. refl))
     (λ _. plain s (enter_stop why.Refused s) phase.Upload (event.Refused n) m refl refl refl refl (same_agrees s.run) (λ o i. refl))
 upload_row s e m = tt
@@ -262,9 +263,9 @@ upload_row s e m = tt
 last_send_row : (s : BotState) (e : BotEvent) (m : ℕ) → IfSome (after_last_send s e) (Row s phase.LastSend Answer e m)
 last_send_row s (event.SendOk must_stop) m = plain s (enter phase.CleanUp s) phase.LastSend (event.SendOk must_stop) m refl refl refl refl (same_agrees s.run) (λ o i. refl)
 last_send_row s (event.Refused n) m =
-    if_row s phase.LastSend Answer (event.Refused n) m (n == 23) (enter phase.LastSend (with_run drop_output s)) _
+    if_row s phase.LastSend Answer (event.Refused n) m (is_store_full (code_numbered n)) (enter phase.LastSend (with_run drop_output s)) _
     (λ _. plain s (enter phase.LastSend (with_run drop_output s)) phase.LastSend (event.Refused n) m refl refl refl refl (same_agrees s.run) (λ o i. refl))
-    (λ _. if_row s phase.LastSend Answer (event.Refused n) m (abandons_run n) (enter phase.CleanUp (with_run abandon_run s)) (enter_stop why.Refused s)
+    (λ _. if_row s phase.LastSend Answer (event.Refused n) m (abandons_run (code_numbered n)) (enter phase.CleanUp (with_run abandon_run s)) (enter_stop why.Refused s)
     (λ _. plain s (enter phase.CleanUp (with_run abandon_run s)) phase.LastSend (event.Refused n) m refl refl refl refl (same_agrees s.run) (λ o i. refl))
     (λ _. plain s (enter_stop why.Refused s) phase.LastSend (event.Refused n) m refl refl refl refl (same_agrees s.run) (λ o i. refl)))
 last_send_row s e m = tt

@@ -2,6 +2,8 @@
 use Rattle.std.proofs.Common.{◌≡◌, ℕ, ◌+◌, ◌-◌, ◌≤◌, Bool, true, false, Option, Some, None, is_some, IfSome, ℤ, negsuc, not, ◌/◌, refl, ◌∙◌, subst, arith, if◌then◌else◌, nat_le, nat_lt, ◌||◌, ◌&&◌, ◌==◌}
 use Rattle.std.proofs.lemmas.Bool.Decides.{nat_tests}
 use Rattle.std.specs.Option.{option_map}
+use Rattle.refusal_codes.specs.declared.refusal_code.RefusalCode.{RefusalCode}
+use Rattle.refusal_codes.specs.Codes.{code_numbered}
 use Rattle.bot_core.specs.declared.run.Run.{Run}
 use Rattle.bot_core.specs.declared.action.StopWhy.TheVariants as why
 use Rattle.bot_core.specs.declared.action.Action.{Action}
@@ -15,7 +17,7 @@ use Rattle.bot_core.specs.declared.bot_state.Awaited.{Awaited}
 use Rattle.bot_core.specs.declared.bot_state.Awaited.TheVariants.{Begin, Answer, Slept}
 use Rattle.bot_core.specs.declared.action.Signal.TheVariants.{Term, Kill}
 use Rattle.bot_core.specs.RunChanges.{has_passed, is_reached, is_grace_over, most_pending, most_output, new_run, start_run, drop_output, abandon_run, count_sent, is_dropped, add_output, end_run}
-use Rattle.bot_core.specs.Table.{enter, enter_stop, enter_sleep, next_session, next_claim, with_run, is_stop, sends_request, is_transient, needs_new_session, abandons_run, apply_refusal, fail_start, end_command, signal_kill, send_or_sleep, continue_run, end_task, after_handshake, after_poll, after_claim, after_prepare, after_start, after_look, after_signal, after_send, after_upload, after_last_send, after_clean_up, after_answer, after_begin, after_sleep, after_event, next_state, action_of, record_action, issue_action, stepped}
+use Rattle.bot_core.specs.Table.{enter, enter_stop, enter_sleep, next_session, next_claim, with_run, is_stop, sends_request, is_transient, needs_new_session, is_claim_over, is_store_full, abandons_run, apply_refusal, fail_start, end_command, signal_kill, send_or_sleep, continue_run, end_task, after_handshake, after_poll, after_claim, after_prepare, after_start, after_look, after_signal, after_send, after_upload, after_last_send, after_clean_up, after_answer, after_begin, after_sleep, after_event, next_state, action_of, record_action, issue_action, stepped}
 use Rattle.bot_core.specs.Bounds.{RunBounds, Bounds, InBounds}
 
 -- ---- which events come does not depend on the moment
@@ -78,10 +80,10 @@ if_run : (n : ℕ) (c : Bool) (x y : Run) → RunBounds n x → RunBounds n y �
 if_run n true x y p q = p
 if_run n false x y p q = q
 
-RunBounds-apply_refusal : (n number : ℕ) (r : Run) → RunBounds n r → RunBounds (n + 1) (apply_refusal number r)
-RunBounds-apply_refusal n number r b =
-    if_run (n + 1) (number == 23) (drop_output r) (if abandons_run number then abandon_run r else record (abandon_run r) { refused = true }) (RunBounds-drop_output n r b)
-    (if_run (n + 1) (abandons_run number) (abandon_run r) (record (abandon_run r) { refused = true }) (RunBounds-abandon_run n r b) (RunBounds-refused n r b))
+RunBounds-apply_refusal : (n : ℕ) (code : Option RefusalCode) (r : Run) → RunBounds n r → RunBounds (n + 1) (apply_refusal code r)
+RunBounds-apply_refusal n code r b =
+    if_run (n + 1) (is_store_full code) (drop_output r) (if abandons_run code then abandon_run r else record (abandon_run r) { refused = true }) (RunBounds-drop_output n r b)
+    (if_run (n + 1) (abandons_run code) (abandon_run r) (record (abandon_run r) { refused = true }) (RunBounds-abandon_run n r b) (RunBounds-refused n r b))
 
 RunBounds-if_dropped : (n size m : ℕ) (r : Run) (l a d o : Bool) → RunBounds n r → size ≤ most_pending - r.pending → (l ≡ false → r.sent + r.pending + size ≤ most_output) →
     RunBounds (n + 1) (if l then record r { last_output = m; dropped = r.dropped + size; dropping = true } else record r { last_output = m; pending = r.pending + size })
@@ -132,15 +134,15 @@ poll_keeps : (s : BotState) (e : BotEvent) → Bounds s → IfSome (after_poll s
 poll_keeps s (event.PollSleep secs) b = phase_keeps s phase.Poll (Slept secs) b
 poll_keeps s event.PollClaim b = next_claim_keeps s b
 poll_keeps s event.PollTerminate b = phase_keeps s (phase.Stop why.Terminated) Answer b
-poll_keeps s (event.Refused number) b = if_almost (needs_new_session number) (next_session s) (enter_stop why.Refused s) (next_session_keeps s b) (phase_keeps s (phase.Stop why.Refused) Answer b)
+poll_keeps s (event.Refused number) b = if_almost (needs_new_session (code_numbered number)) (next_session s) (enter_stop why.Refused s) (next_session_keeps s b) (phase_keeps s (phase.Stop why.Refused) Answer b)
 poll_keeps s e b = tt
 
 claim_keeps : (s : BotState) (e : BotEvent) → Bounds s → IfSome (after_claim s e) BoundsBeforeStep
 claim_keeps s (event.ClaimRun x i g t) b = run_keeps s (new_run x i g t) phase.Prepare Answer b (RunBounds-new (s.steps + 1) x i g t)
 claim_keeps s event.ClaimSkip b = phase_keeps s phase.Poll Answer b
 claim_keeps s (event.Refused number) b =
-    if_almost (needs_new_session number) (next_session s) (if number == 16 then enter phase.Poll s else enter_stop why.Refused s) (next_session_keeps s b)
-    (if_almost (number == 16) (enter phase.Poll s) (enter_stop why.Refused s) (phase_keeps s phase.Poll Answer b) (phase_keeps s (phase.Stop why.Refused) Answer b))
+    if_almost (needs_new_session (code_numbered number)) (next_session s) (if is_claim_over (code_numbered number) then enter phase.Poll s else enter_stop why.Refused s) (next_session_keeps s b)
+    (if_almost (is_claim_over (code_numbered number)) (enter phase.Poll s) (enter_stop why.Refused s) (phase_keeps s phase.Poll Answer b) (phase_keeps s (phase.Stop why.Refused) Answer b))
 claim_keeps s e b = tt
 
 fail_start_keeps : (s : BotState) → Bounds s → BoundsBeforeStep (fail_start s)
@@ -223,19 +225,19 @@ signal_keeps s e b = tt
 
 send_keeps : (s : BotState) (e : BotEvent) → Bounds s → IfSome (after_send s e) BoundsBeforeStep
 send_keeps s (event.SendOk must_stop) b = run_keeps s (count_sent must_stop s.run) phase.Look Answer b (RunBounds-count_sent s.steps must_stop s.run b.run)
-send_keeps s (event.Refused number) b = run_keeps s (apply_refusal number s.run) phase.Look Answer b (RunBounds-apply_refusal s.steps number s.run b.run)
+send_keeps s (event.Refused number) b = run_keeps s (apply_refusal (code_numbered number) s.run) phase.Look Answer b (RunBounds-apply_refusal s.steps (code_numbered number) s.run b.run)
 send_keeps s e b = tt
 
 upload_keeps : (s : BotState) (e : BotEvent) → Bounds s → IfSome (after_upload s e) BoundsBeforeStep
 upload_keeps s event.Uploaded b = phase_keeps s phase.LastSend Answer b
-upload_keeps s (event.Refused number) b = if_almost (number == 23) (enter phase.LastSend s) (enter_stop why.Refused s) (phase_keeps s phase.LastSend Answer b) (phase_keeps s (phase.Stop why.Refused) Answer b)
+upload_keeps s (event.Refused number) b = if_almost (is_store_full (code_numbered number)) (enter phase.LastSend s) (enter_stop why.Refused s) (phase_keeps s phase.LastSend Answer b) (phase_keeps s (phase.Stop why.Refused) Answer b)
 upload_keeps s e b = tt
 
 last_keeps : (s : BotState) (e : BotEvent) → Bounds s → IfSome (after_last_send s e) BoundsBeforeStep
 last_keeps s (event.SendOk must_stop) b = phase_keeps s phase.CleanUp Answer b
 last_keeps s (event.Refused number) b =
-    if_almost (number == 23) _ _ (run_keeps s (drop_output s.run) phase.LastSend Answer b (RunBounds-drop_output s.steps s.run b.run))
-    (if_almost (abandons_run number) _ _ (run_keeps s (abandon_run s.run) phase.CleanUp Answer b (RunBounds-abandon_run s.steps s.run b.run)) (phase_keeps s (phase.Stop why.Refused) Answer b))
+    if_almost (is_store_full (code_numbered number)) _ _ (run_keeps s (drop_output s.run) phase.LastSend Answer b (RunBounds-drop_output s.steps s.run b.run))
+    (if_almost (abandons_run (code_numbered number)) _ _ (run_keeps s (abandon_run s.run) phase.CleanUp Answer b (RunBounds-abandon_run s.steps s.run b.run)) (phase_keeps s (phase.Stop why.Refused) Answer b))
 last_keeps s e b = tt
 
 stop_tasks : (s : BotState) (n : ℕ) (p : Phase) → is_stop p ≡ true → Bounds s → BoundsBeforeStep (record s { tasks = n; phase = p; awaited = Answer })

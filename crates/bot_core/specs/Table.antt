@@ -1,6 +1,9 @@
 -- The table of a bot: its next state, by its phase and the event.
 use Rattle.std.specs.Prelude.{ℕ, ◌+◌, ◌-◌, ◌/◌, ◌==◌, ◌&&◌, ◌||◌, not, nat_le, nat_lt, Bool, true, false, Option, Some, None, is_some, ℤ, negsuc, if◌then◌else◌}
-use Rattle.std.specs.Option.{option_map}
+use Rattle.std.specs.Option.{option_map, option_map_or}
+use Rattle.refusal_codes.specs.declared.refusal_code.RefusalCode.{RefusalCode}
+use Rattle.refusal_codes.specs.declared.refusal_code.RefusalCode.TheVariants as code
+use Rattle.refusal_codes.specs.Codes.{code_numbered, is_transient_code}
 use Rattle.bot_core.specs.declared.run.Run.{Run}
 use Rattle.bot_core.specs.declared.action.Action.{Action}
 use Rattle.bot_core.specs.declared.action.Action.TheVariants as action
@@ -85,19 +88,33 @@ with_run change s = record s { run = change s.run }
 
 -- ---- kinds of refusals and of phases
 
--- the answer is lost, or the pool can't act now: its log is full (26), its keeper failed (28), memory was wanting (29)
+-- the answer is lost, or the pool can't act now
 abbrev pub is_transient : BotEvent → Bool
 is_transient event.Lost = true
-is_transient (event.Refused number) = number == 26 || number == 28 || number == 29
+is_transient (event.Refused number) = option_map_or is_transient_code (code_numbered number) false
 is_transient event = false
 
--- the pool doesn't know the bot (12), or holds it for unfit (14)
-abbrev pub needs_new_session : ℕ → Bool
-needs_new_session number = number == 12 || number == 14
+-- the pool doesn't know the bot, or holds it for unfit
+abbrev pub needs_new_session : Option RefusalCode → Bool
+needs_new_session (Some code.NoBot) = true
+needs_new_session (Some code.BotUnfit) = true
+needs_new_session other = false
 
--- the pool doesn't take updates of the run: it knows no such task (11) or bot (12), the run is another bot's (17) or over (18)
-abbrev pub abandons_run : ℕ → Bool
-abandons_run number = number == 11 || number == 12 || number == 17 || number == 18
+abbrev pub is_claim_over : Option RefusalCode → Bool
+is_claim_over (Some code.ClaimOver) = true
+is_claim_over other = false
+
+abbrev pub is_store_full : Option RefusalCode → Bool
+is_store_full (Some code.StoreFull) = true
+is_store_full other = false
+
+-- the pool doesn't take updates of the run: it knows no such task or bot, the run is another bot's or over
+abbrev pub abandons_run : Option RefusalCode → Bool
+abandons_run (Some code.NoTask) = true
+abandons_run (Some code.NoBot) = true
+abandons_run (Some code.NotClaimant) = true
+abandons_run (Some code.AttemptOver) = true
+abandons_run other = false
 
 -- phases whose action sends requests
 abbrev pub sends_request : Phase → Bool
@@ -121,7 +138,7 @@ abbrev pub after_poll : BotState → BotEvent → Option BotState
 after_poll s (event.PollSleep secs) = Some (enter_sleep secs phase.Poll s)
 after_poll s event.PollClaim = Some (next_claim s)
 after_poll s event.PollTerminate = Some (enter_stop why.Terminated s)
-after_poll s (event.Refused number) = Some (if needs_new_session number then next_session s else enter_stop why.Refused s)
+after_poll s (event.Refused number) = Some (if needs_new_session (code_numbered number) then next_session s else enter_stop why.Refused s)
 after_poll s event = None
 
 abbrev pub after_claim : BotState → BotEvent → Option BotState
@@ -129,7 +146,9 @@ after_claim s (event.ClaimRun execution io grace tolerance) =
     Some (enter phase.Prepare (with_run (λ _. new_run execution io grace tolerance) s))
 after_claim s event.ClaimSkip = Some (enter phase.Poll s)
 after_claim s (event.Refused number) =
-    Some (if needs_new_session number then next_session s else if number == 16 then enter phase.Poll s else enter_stop why.Refused s)
+    Some (if needs_new_session (code_numbered number) then next_session s
+    else if is_claim_over (code_numbered number) then enter phase.Poll s
+    else enter_stop why.Refused s)
 after_claim s event = None
 
 -- nothing was started: the end is reported at once
@@ -186,29 +205,33 @@ after_signal s event.Signalled = Some (enter phase.Look s)
 after_signal s event.RunnerFailed = Some (enter phase.Look s)
 after_signal s event = None
 
--- an update was refused while the command runs: there is no room for its output (23), or the run is abandoned
-abbrev pub apply_refusal : ℕ → Run → Run
-apply_refusal number r =
-    if number == 23 then drop_output r
-    else if abandons_run number then abandon_run r
+-- an update was refused while the command runs: there is no room for its output, or the run is abandoned
+abbrev pub apply_refusal : Option RefusalCode → Run → Run
+apply_refusal code r =
+    if is_store_full code then drop_output r
+    else if abandons_run code then abandon_run r
     else record (abandon_run r) { refused = true }
 
 abbrev pub after_send : BotState → BotEvent → Option BotState
 after_send s (event.SendOk must_stop) = Some (enter phase.Look (with_run (count_sent must_stop) s))
-after_send s (event.Refused number) = Some (enter phase.Look (with_run (apply_refusal number) s))
+after_send s (event.Refused number) = Some (enter phase.Look (with_run (apply_refusal (code_numbered number)) s))
 after_send s event = None
 
 abbrev pub after_upload : BotState → BotEvent → Option BotState
 after_upload s event.Uploaded = Some (enter phase.LastSend s)
-after_upload s (event.Refused number) = Some (if number == 23 then enter phase.LastSend s else enter_stop why.Refused s)
+after_upload s (event.Refused number) = Some (if is_store_full (code_numbered number) then enter phase.LastSend s else enter_stop why.Refused s)
 after_upload s event = None
+
+-- the last update was refused
+abbrev pub after_refused_end : BotState → Option RefusalCode → BotState
+after_refused_end s code =
+    if is_store_full code then enter phase.LastSend (with_run drop_output s)
+    else if abandons_run code then enter phase.CleanUp (with_run abandon_run s)
+    else enter_stop why.Refused s
 
 abbrev pub after_last_send : BotState → BotEvent → Option BotState
 after_last_send s (event.SendOk must_stop) = Some (enter phase.CleanUp s)
-after_last_send s (event.Refused number) =
-    Some (if number == 23 then enter phase.LastSend (with_run drop_output s)
-    else if abandons_run number then enter phase.CleanUp (with_run abandon_run s)
-    else enter_stop why.Refused s)
+after_last_send s (event.Refused number) = Some (after_refused_end s (code_numbered number))
 after_last_send s event = None
 
 -- the run is over: the first that holds

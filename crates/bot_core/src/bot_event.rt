@@ -20,7 +20,7 @@ pub enum BotEvent {
     SendOk {
         must_stop: bool,
     },
-    /// The request was refused, by the number of the refusal in docs/protocol.md.
+    /// The request was refused, by the number of a `RefusalCode` of `refusal_codes`.
     Refused {
         number: u32,
     },

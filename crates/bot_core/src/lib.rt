@@ -7,7 +7,8 @@
 //!
 //! The contract of `step` is `stepped` of `specs/Table.antt`, a table by the phase of the bot and the
 //! event; [`BotState`] is all that it keeps. Over every list of events hold the laws of `laws.rt`, each
-//! the contract of an empty function. No call takes memory, and moments may come in any order: a
+//! the contract of an empty function. A refusal comes by its number, and the table goes by the
+//! `RefusalCode` that has it. No call takes memory, and moments may come in any order: a
 //! clock that goes back reaches no limit.
 #![tactic(auto)]
 
@@ -19,7 +20,6 @@ mod bot_state;
 mod examples;
 mod laws;
 mod looks;
-mod refusals;
 mod run;
 mod run_changes;
 mod steps;

@@ -3,8 +3,8 @@ ghost use Rattle.bot_core.specs.Bounds.{RunBounds};
 ghost use Rattle.bot_core.specs.RunChanges.{new_run, start_run, drop_pending, drop_output, abandon_run, count_sent, is_dropped, add_output, end_run, end_of};
 ghost use Rattle.bot_core.specs.Table.{apply_refusal};
 
-use crate::refusals::{ATTEMPT_OVER, NO_BOT, NO_TASK, NOT_CLAIMANT, STORE_FULL};
 use crate::{End, Run};
+use refusal_codes::RefusalCode;
 
 /// How many bytes may wait to be sent, so that an update stays below 65536 bytes.
 pub(crate) const MOST_PENDING: u32 = 16384;
@@ -91,13 +91,18 @@ pub(crate) fn abandon_run(run: Run) -> Run
 }
 
 /// An update was refused while the command runs.
-pub(crate) fn apply_refusal(run: Run, number: u32) -> Run
+pub(crate) fn apply_refusal(run: Run, code: Option<RefusalCode>) -> Run
     requires { run.dropped + run.pending < 2 ^ 64 }
-    ensures { result ≡ apply_refusal number run }
+    ensures { result ≡ apply_refusal code run }
 {
-    match number {
-        STORE_FULL => drop_output(run),
-        NO_TASK | NO_BOT | NOT_CLAIMANT | ATTEMPT_OVER => abandon_run(run),
+    match code {
+        Some(RefusalCode::StoreFull) => drop_output(run),
+        Some(
+            RefusalCode::NoTask
+            | RefusalCode::NoBot
+            | RefusalCode::NotClaimant
+            | RefusalCode::AttemptOver,
+        ) => abandon_run(run),
         _ => Run {
             refused: true,
             ..abandon_run(run)

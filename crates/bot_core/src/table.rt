@@ -1,14 +1,11 @@
 ghost use Rattle.std.specs.Prelude.{◌≡◌, ◌+◌, ◌<◌, ◌≤◌, ◌^◌, ◌*◌, IsTrue};
 ghost use Rattle.bot_core.specs.Bounds.{Bounds, InBounds};
-ghost use Rattle.bot_core.specs.Table.{enter, enter_stop, enter_sleep, next_session, next_claim, is_transient, needs_new_session, abandons_run, sends_request, is_stop, after_handshake, after_poll, after_claim, fail_start, after_prepare, after_start, after_signal, after_send, after_upload, after_last_send, end_task, after_clean_up, after_answer, after_begin, after_sleep, next_state, opening};
+ghost use Rattle.bot_core.specs.Table.{enter, enter_stop, enter_sleep, next_session, next_claim, is_transient, needs_new_session, abandons_run, sends_request, is_stop, after_handshake, after_poll, after_claim, fail_start, after_prepare, after_start, after_signal, after_send, after_upload, after_refused_end, after_last_send, end_task, after_clean_up, after_answer, after_begin, after_sleep, next_state, opening};
 
 use crate::looks::after_look;
-use crate::refusals::{
-    ATTEMPT_OVER, BOT_UNFIT, CLAIM_OVER, KEEPER_FAULT, LOG_FULL, NO_BOT, NO_TASK, NOT_CLAIMANT,
-    STORE_FULL, WANT_OF_MEMORY,
-};
 use crate::run_changes::{abandon_run, apply_refusal, count_sent, drop_output, new_run, start_run};
 use crate::{Awaited, BotEvent, BotLimits, BotState, Phase, Run, StopWhy};
+use refusal_codes::RefusalCode;
 
 /// The bot at a phase, whose action is done next.
 pub(crate) fn enter(bot: BotState, phase: Phase) -> BotState
@@ -64,18 +61,18 @@ fn next_claim(bot: BotState) -> BotState
     enter(next, Phase::Claim)
 }
 
-/// The answer is lost, or the pool can't act on the request now: its log is full, its keeper failed,
-/// or memory was wanting.
+/// The answer is lost, or the pool can't act on the request now.
 fn is_transient(event: BotEvent) -> bool
     ensures { result ≡ is_transient event }
 {
-    matches!(
-        event,
-        BotEvent::Lost
-            | BotEvent::Refused {
-                number: LOG_FULL | KEEPER_FAULT | WANT_OF_MEMORY
-            }
-    )
+    match event {
+        BotEvent::Lost => true,
+        BotEvent::Refused { number } => match RefusalCode::from_number(number) {
+            Some(code) => code.is_transient(),
+            None => false,
+        },
+        _ => false,
+    }
 }
 
 /// Phases whose action sends requests.
@@ -118,10 +115,10 @@ fn after_poll(bot: BotState, event: BotEvent) -> Option<BotState>
         BotEvent::PollSleep { secs } => Some(enter_sleep(bot, secs, Phase::Poll)),
         BotEvent::PollClaim => Some(next_claim(bot)),
         BotEvent::PollTerminate => Some(enter_stop(bot, StopWhy::Terminated)),
-        BotEvent::Refused {
-            number: NO_BOT | BOT_UNFIT,
-        } => Some(next_session(bot)),
-        BotEvent::Refused { .. } => Some(enter_stop(bot, StopWhy::Refused)),
+        BotEvent::Refused { number } => match RefusalCode::from_number(number) {
+            Some(RefusalCode::NoBot | RefusalCode::BotUnfit) => Some(next_session(bot)),
+            _ => Some(enter_stop(bot, StopWhy::Refused)),
+        },
         _ => None,
     }
 }
@@ -141,11 +138,11 @@ fn after_claim(bot: BotState, event: BotEvent) -> Option<BotState>
             Some(enter(BotState { run, ..bot }, Phase::Prepare))
         }
         BotEvent::ClaimSkip => Some(enter(bot, Phase::Poll)),
-        BotEvent::Refused {
-            number: NO_BOT | BOT_UNFIT,
-        } => Some(next_session(bot)),
-        BotEvent::Refused { number: CLAIM_OVER } => Some(enter(bot, Phase::Poll)),
-        BotEvent::Refused { .. } => Some(enter_stop(bot, StopWhy::Refused)),
+        BotEvent::Refused { number } => match RefusalCode::from_number(number) {
+            Some(RefusalCode::NoBot | RefusalCode::BotUnfit) => Some(next_session(bot)),
+            Some(RefusalCode::ClaimOver) => Some(enter(bot, Phase::Poll)),
+            _ => Some(enter_stop(bot, StopWhy::Refused)),
+        },
         _ => None,
     }
 }
@@ -200,7 +197,7 @@ fn after_send(bot: BotState, event: BotEvent) -> Option<BotState>
 {
     let run = match event {
         BotEvent::SendOk { must_stop } => count_sent(bot.run, must_stop),
-        BotEvent::Refused { number } => apply_refusal(bot.run, number),
+        BotEvent::Refused { number } => apply_refusal(bot.run, RefusalCode::from_number(number)),
         _ => return None,
     };
     Some(enter(BotState { run, ..bot }, Phase::Look))
@@ -211,9 +208,34 @@ fn after_upload(bot: BotState, event: BotEvent) -> Option<BotState>
 {
     match event {
         BotEvent::Uploaded => Some(enter(bot, Phase::LastSend)),
-        BotEvent::Refused { number: STORE_FULL } => Some(enter(bot, Phase::LastSend)),
-        BotEvent::Refused { .. } => Some(enter_stop(bot, StopWhy::Refused)),
+        BotEvent::Refused { number } => match RefusalCode::from_number(number) {
+            Some(RefusalCode::StoreFull) => Some(enter(bot, Phase::LastSend)),
+            _ => Some(enter_stop(bot, StopWhy::Refused)),
+        },
         _ => None,
+    }
+}
+
+/// The last update was refused.
+fn after_refused_end(bot: BotState, code: Option<RefusalCode>) -> BotState
+    requires { Bounds bot }
+    ensures { result ≡ after_refused_end bot code }
+{
+    match code {
+        Some(RefusalCode::StoreFull) => {
+            let run = drop_output(bot.run);
+            enter(BotState { run, ..bot }, Phase::LastSend)
+        }
+        Some(
+            RefusalCode::NoTask
+            | RefusalCode::NoBot
+            | RefusalCode::NotClaimant
+            | RefusalCode::AttemptOver,
+        ) => {
+            let run = abandon_run(bot.run);
+            enter(BotState { run, ..bot }, Phase::CleanUp)
+        }
+        _ => enter_stop(bot, StopWhy::Refused),
     }
 }
 
@@ -223,17 +245,9 @@ fn after_last_send(bot: BotState, event: BotEvent) -> Option<BotState>
 {
     match event {
         BotEvent::SendOk { .. } => Some(enter(bot, Phase::CleanUp)),
-        BotEvent::Refused { number: STORE_FULL } => {
-            let run = drop_output(bot.run);
-            Some(enter(BotState { run, ..bot }, Phase::LastSend))
+        BotEvent::Refused { number } => {
+            Some(after_refused_end(bot, RefusalCode::from_number(number)))
         }
-        BotEvent::Refused {
-            number: NO_TASK | NO_BOT | NOT_CLAIMANT | ATTEMPT_OVER,
-        } => {
-            let run = abandon_run(bot.run);
-            Some(enter(BotState { run, ..bot }, Phase::CleanUp))
-        }
-        BotEvent::Refused { .. } => Some(enter_stop(bot, StopWhy::Refused)),
         _ => None,
     }
 }

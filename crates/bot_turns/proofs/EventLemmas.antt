@@ -1,6 +1,9 @@
 -- An event of the bot's action can come.
-use Rattle.std.proofs.Common.{◌≡◌, ℕ, ◌-◌, Bool, true, false, ◌&&◌, if◌then◌else◌, nat_le, Option, Some, None, is_some, refl, ◌∙◌}
-use Rattle.std.specs.Option.{option_map}
+use Rattle.std.proofs.Common.{◌≡◌, ℕ, ◌-◌, Bool, true, false, ◌&&◌, if◌then◌else◌, nat_le, Option, Some, None, is_some, refl, ap, ◌∙◌}
+use Rattle.std.specs.Option.{option_map, option_map_or}
+use Rattle.refusal_codes.specs.declared.refusal_code.RefusalCode.{RefusalCode}
+use Rattle.refusal_codes.specs.Codes.{is_transient_code}
+use Rattle.refusal_codes.proofs.CodeLemmas.{number_is_read}
 use Rattle.bot_core.specs.declared.action.Signal.{Signal}
 use Rattle.bot_core.specs.declared.action.Action.TheVariants as action
 use Rattle.bot_core.specs.declared.bot_event.BotEvent.{BotEvent}
@@ -12,8 +15,12 @@ use Rattle.bot_core.specs.declared.bot_state.Awaited.{Awaited}
 use Rattle.bot_core.specs.declared.bot_state.Awaited.TheVariants.{Begin, Answer, Slept}
 use Rattle.bot_core.specs.RunChanges.{most_pending}
 use Rattle.bot_core.specs.Table.{enter_sleep, is_transient, sends_request, after_answer, after_sleep, after_event, is_stop, next_state, phase_action, awaited_action, action_of, issue_action, stepped}
-use Rattle.bot_turns.specs.Events.{is_event_of, is_transient_number}
+use Rattle.bot_turns.specs.Events.{refusal_event, is_event_of}
 use Rattle.bot_turns.specs.Runs.{takes_events}
+
+-- what is transient of the codes is so of the events
+pub is_transient_refusal : (code : RefusalCode) → is_transient (refusal_event code) ≡ is_transient_code code
+is_transient_refusal code = ap (λ o. option_map_or is_transient_code o false) (number_is_read code)
 
 some_if : (c : Bool) (t : BotState) (o : Option BotState) → (c ≡ false → is_some o ≡ true) → is_some (if c then Some t else o) ≡ true
 some_if true t o h = refl
@@ -30,7 +37,7 @@ after_phase s p e m = if is_stop p then None else (if sends_request p && is_tran
 handshake_comes : (s : BotState) (e : BotEvent) (m : ℕ) → is_event_of (phase_action s phase.Handshake) e ≡ true → is_some (after_phase s phase.Handshake e m) ≡ true
 handshake_comes s event.HandshakeOk m h = refl
 handshake_comes s event.Lost m h = refl
-handshake_comes s (event.Refused n) m h = some_if (is_transient_number n) _ _ (λ _. refl)
+handshake_comes s (event.Refused n) m h = some_if (is_transient (event.Refused n)) _ _ (λ _. refl)
 handshake_comes s e m h = absurd (cc)
 
 poll_comes : (s : BotState) (e : BotEvent) (m : ℕ) → is_event_of (phase_action s phase.Poll) e ≡ true → is_some (after_phase s phase.Poll e m) ≡ true
@@ -38,21 +45,21 @@ poll_comes s (event.PollSleep secs) m h = refl
 poll_comes s event.PollClaim m h = refl
 poll_comes s event.PollTerminate m h = refl
 poll_comes s event.Lost m h = refl
-poll_comes s (event.Refused n) m h = some_if (is_transient_number n) _ _ (λ _. refl)
+poll_comes s (event.Refused n) m h = some_if (is_transient (event.Refused n)) _ _ (λ _. refl)
 poll_comes s e m h = absurd (cc)
 
 claim_comes : (s : BotState) (e : BotEvent) (m : ℕ) → is_event_of (phase_action s phase.Claim) e ≡ true → is_some (after_phase s phase.Claim e m) ≡ true
 claim_comes s (event.ClaimRun a i g t) m h = refl
 claim_comes s event.ClaimSkip m h = refl
 claim_comes s event.Lost m h = refl
-claim_comes s (event.Refused n) m h = some_if (is_transient_number n) _ _ (λ _. refl)
+claim_comes s (event.Refused n) m h = some_if (is_transient (event.Refused n)) _ _ (λ _. refl)
 claim_comes s e m h = absurd (cc)
 
 prepare_comes : (s : BotState) (e : BotEvent) (m : ℕ) → is_event_of (phase_action s phase.Prepare) e ≡ true → is_some (after_phase s phase.Prepare e m) ≡ true
 prepare_comes s event.Prepared m h = refl
 prepare_comes s event.RunnerFailed m h = refl
 prepare_comes s event.Lost m h = refl
-prepare_comes s (event.Refused n) m h = some_where (is_transient_number n) _ h
+prepare_comes s (event.Refused n) m h = some_where (is_transient (event.Refused n)) _ h
 prepare_comes s e m h = absurd (cc)
 
 start_comes : (s : BotState) (e : BotEvent) (m : ℕ) → is_event_of (phase_action s phase.Start) e ≡ true → is_some (after_phase s phase.Start e m) ≡ true
@@ -75,19 +82,19 @@ signal_comes s g e m h = absurd (cc)
 send_comes : (s : BotState) (e : BotEvent) (m : ℕ) → is_event_of (phase_action s phase.Send) e ≡ true → is_some (after_phase s phase.Send e m) ≡ true
 send_comes s (event.SendOk b) m h = refl
 send_comes s event.Lost m h = refl
-send_comes s (event.Refused n) m h = some_if (is_transient_number n) _ _ (λ _. refl)
+send_comes s (event.Refused n) m h = some_if (is_transient (event.Refused n)) _ _ (λ _. refl)
 send_comes s e m h = absurd (cc)
 
 last_send_comes : (s : BotState) (e : BotEvent) (m : ℕ) → is_event_of (phase_action s phase.LastSend) e ≡ true → is_some (after_phase s phase.LastSend e m) ≡ true
 last_send_comes s (event.SendOk b) m h = refl
 last_send_comes s event.Lost m h = refl
-last_send_comes s (event.Refused n) m h = some_if (is_transient_number n) _ _ (λ _. refl)
+last_send_comes s (event.Refused n) m h = some_if (is_transient (event.Refused n)) _ _ (λ _. refl)
 last_send_comes s e m h = absurd (cc)
 
 upload_comes : (s : BotState) (e : BotEvent) (m : ℕ) → is_event_of (phase_action s phase.Upload) e ≡ true → is_some (after_phase s phase.Upload e m) ≡ true
 upload_comes s event.Uploaded m h = refl
 upload_comes s event.Lost m h = refl
-upload_comes s (event.Refused n) m h = some_if (is_transient_number n) _ _ (λ _. refl)
+upload_comes s (event.Refused n) m h = some_if (is_transient (event.Refused n)) _ _ (λ _. refl)
 upload_comes s e m h = absurd (cc)
 
 clean_up_comes : (s : BotState) (e : BotEvent) (m : ℕ) → is_event_of (phase_action s phase.CleanUp) e ≡ true → is_some (after_phase s phase.CleanUp e m) ≡ true

@@ -2,6 +2,7 @@
 use Rattle.std.proofs.Common.{◌≡◌, ℕ, ◌+◌, ◌-◌, ◌/◌, ◌<◌, Bool, true, false, not, ◌&&◌, ◌||◌, ◌==◌, if◌then◌else◌, nat_le, nat_lt, Option, Some, None, is_some, IfSome, negsuc, ◌⊎◌, inl, inr, refl, ap, subst, arith}
 use Rattle.std.proofs.lemmas.Bool.Decides.{nat_tests}
 use Rattle.std.specs.Option.{option_map}
+use Rattle.refusal_codes.specs.Codes.{code_numbered}
 use Rattle.bot_core.specs.declared.run.Run.{Run}
 use Rattle.bot_core.specs.declared.action.Signal.{Signal}
 use Rattle.bot_core.specs.declared.action.StopWhy.TheVariants as why
@@ -15,7 +16,7 @@ use Rattle.bot_core.specs.declared.bot_state.Phase.TheVariants as phase
 use Rattle.bot_core.specs.declared.bot_state.Awaited.{Awaited}
 use Rattle.bot_core.specs.declared.bot_state.Awaited.TheVariants.{Begin, Answer, Slept}
 use Rattle.bot_core.specs.RunChanges.{most_pending, drop_output, abandon_run, is_dropped, add_output, has_passed, is_reached, is_grace_over, end_run}
-use Rattle.bot_core.specs.Table.{enter, enter_stop, enter_sleep, next_session, with_run, is_transient, needs_new_session, abandons_run, sends_request, after_handshake, after_poll, after_claim, after_prepare, after_start, signal_term, signal_kill, send_or_sleep, continue_run, after_look, after_signal, after_send, after_upload, after_last_send, end_task, after_clean_up, after_answer, after_begin, after_sleep, after_event, is_stop, next_state, action_of, record_action, issue_action, stepped}
+use Rattle.bot_core.specs.Table.{enter, enter_stop, enter_sleep, next_session, with_run, is_transient, needs_new_session, is_claim_over, is_store_full, abandons_run, sends_request, after_handshake, after_poll, after_claim, after_prepare, after_start, signal_term, signal_kill, send_or_sleep, continue_run, after_look, after_signal, after_send, after_upload, after_last_send, end_task, after_clean_up, after_answer, after_begin, after_sleep, after_event, is_stop, next_state, action_of, record_action, issue_action, stepped}
 use Rattle.bot_turns.specs.Runs.{takes_events, has_run}
 
 -- the size of an output
@@ -61,15 +62,15 @@ after_poll_follows s (event.PollSleep secs) = (refl, refl, refl, inl refl, refl)
 after_poll_follows s event.PollClaim = (refl, refl, refl, inl refl, refl)
 after_poll_follows s event.PollTerminate = (refl, refl, refl, inl refl, refl)
 after_poll_follows s (event.Refused number) =
-    if_follows phase.Poll (event.Refused number) s (needs_new_session number) (next_session s) (enter_stop why.Refused s) (refl, refl, refl, inl refl, refl) (refl, refl, refl, inl refl, refl)
+    if_follows phase.Poll (event.Refused number) s (needs_new_session (code_numbered number)) (next_session s) (enter_stop why.Refused s) (refl, refl, refl, inl refl, refl) (refl, refl, refl, inl refl, refl)
 after_poll_follows s e = tt
 
 after_claim_follows : (s : BotState) (e : BotEvent) → IfSome (after_claim s e) (StepsTo phase.Claim e s)
 after_claim_follows s (event.ClaimRun execution io grace tolerance) = (refl, refl, refl, inr (inl refl), refl)
 after_claim_follows s event.ClaimSkip = (refl, refl, refl, inl refl, refl)
 after_claim_follows s (event.Refused number) =
-    if_follows phase.Claim (event.Refused number) s (needs_new_session number) (next_session s) _ (refl, refl, refl, inl refl, refl)
-    (if_follows phase.Claim (event.Refused number) s (number == 16) (enter phase.Poll s) (enter_stop why.Refused s) (refl, refl, refl, inl refl, refl) (refl, refl, refl, inl refl, refl))
+    if_follows phase.Claim (event.Refused number) s (needs_new_session (code_numbered number)) (next_session s) _ (refl, refl, refl, inl refl, refl)
+    (if_follows phase.Claim (event.Refused number) s (is_claim_over (code_numbered number)) (enter phase.Poll s) (enter_stop why.Refused s) (refl, refl, refl, inl refl, refl) (refl, refl, refl, inl refl, refl))
 after_claim_follows s e = tt
 
 after_prepare_follows : (s : BotState) (e : BotEvent) → IfSome (after_prepare s e) (StepsTo phase.Prepare e s)
@@ -131,20 +132,20 @@ refused_pending false false a b e f g h = h
 after_send_follows : (s : BotState) (e : BotEvent) → IfSome (after_send s e) (StepsTo phase.Send e s)
 after_send_follows s (event.SendOk must_stop) = (refl, refl, refl, inr (inl refl), refl)
 after_send_follows s (event.Refused number) =
-    (refl, refl, refl, inr (inl (refused_pending (number == 23) (abandons_run number) (drop_output s.run) (abandon_run s.run) _ refl refl refl)), refl)
+    (refl, refl, refl, inr (inl (refused_pending (is_store_full (code_numbered number)) (abandons_run (code_numbered number)) (drop_output s.run) (abandon_run s.run) _ refl refl refl)), refl)
 after_send_follows s e = tt
 
 after_upload_follows : (s : BotState) (e : BotEvent) → IfSome (after_upload s e) (StepsTo phase.Upload e s)
 after_upload_follows s event.Uploaded = (refl, refl, refl, inl refl, refl)
 after_upload_follows s (event.Refused number) =
-    if_follows phase.Upload (event.Refused number) s (number == 23) (enter phase.LastSend s) (enter_stop why.Refused s) (refl, refl, refl, inl refl, refl) (refl, refl, refl, inl refl, refl)
+    if_follows phase.Upload (event.Refused number) s (is_store_full (code_numbered number)) (enter phase.LastSend s) (enter_stop why.Refused s) (refl, refl, refl, inl refl, refl) (refl, refl, refl, inl refl, refl)
 after_upload_follows s e = tt
 
 after_last_send_follows : (s : BotState) (e : BotEvent) → IfSome (after_last_send s e) (StepsTo phase.LastSend e s)
 after_last_send_follows s (event.SendOk must_stop) = (refl, refl, refl, inl refl, refl)
 after_last_send_follows s (event.Refused number) =
-    if_follows phase.LastSend (event.Refused number) s (number == 23) (enter phase.LastSend (with_run drop_output s)) _ (refl, refl, refl, inr (inl refl), refl)
-    (if_follows phase.LastSend (event.Refused number) s (abandons_run number) (enter phase.CleanUp (with_run abandon_run s)) (enter_stop why.Refused s) (refl, refl, refl, inr (inl refl), refl) (refl, refl, refl, inl refl, refl))
+    if_follows phase.LastSend (event.Refused number) s (is_store_full (code_numbered number)) (enter phase.LastSend (with_run drop_output s)) _ (refl, refl, refl, inr (inl refl), refl)
+    (if_follows phase.LastSend (event.Refused number) s (abandons_run (code_numbered number)) (enter phase.CleanUp (with_run abandon_run s)) (enter_stop why.Refused s) (refl, refl, refl, inr (inl refl), refl) (refl, refl, refl, inl refl, refl))
 after_last_send_follows s e = tt
 
 end_task_follows : (e : BotEvent) (s : BotState) → StepsTo phase.CleanUp e s (end_task s)

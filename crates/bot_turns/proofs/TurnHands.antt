@@ -108,7 +108,7 @@ claim_gives : (x : Exchanged) (e : BotEvent) (h : Hands) → exchange_event clai
 claim_gives (exchanged.Told (told.Good place (reply.Run task try_no slice tolerance p) bytes)) e h f k = refl
 claim_gives (exchanged.Told (told.Good place reply.Skip bytes)) e h f k = absurd (cc)
 claim_gives (exchanged.Told (told.Good place r bytes)) e h f k = absurd (cc)
-claim_gives (exchanged.Told (told.No number code body)) e h f k = absurd (cc)
+claim_gives (exchanged.Told (told.No code body)) e h f k = absurd (cc)
 claim_gives exchanged.NoReply e h f k = absurd (cc)
 claim_gives exchanged.Lost e h f k = absurd (cc)
 claim_gives exchanged.Memory e h f k = absurd (cc)

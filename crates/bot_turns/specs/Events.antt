@@ -1,5 +1,7 @@
 -- The events of a bot, by what the calls of an action came to.
-use Rattle.std.specs.Prelude.{ℕ, ◌==◌, ◌&&◌, ◌||◌, nat_le, Bool, true, false, Option, Some, None}
+use Rattle.std.specs.Prelude.{ℕ, ◌&&◌, nat_le, Bool, true, false, Option, Some, None}
+use Rattle.refusal_codes.specs.declared.refusal_code.RefusalCode.{RefusalCode}
+use Rattle.refusal_codes.specs.Codes.{code_number}
 use Rattle.swarm_model.specs.declared.reply.Reply.{Reply}
 use Rattle.swarm_model.specs.declared.reply.Reply.TheVariants as reply
 use Rattle.server_calls.specs.declared.told.Told.TheVariants as told
@@ -9,13 +11,18 @@ use Rattle.bot_core.specs.declared.action.Action.{Action}
 use Rattle.bot_core.specs.declared.action.Action.TheVariants as action
 use Rattle.bot_core.specs.declared.bot_event.BotEvent.{BotEvent}
 use Rattle.bot_core.specs.declared.bot_event.BotEvent.TheVariants as event
+use Rattle.bot_core.specs.Table.{is_transient}
 
 -- ---- by what an exchange came to
+
+-- the number of the code stands for a refusal
+abbrev pub refusal_event : RefusalCode → BotEvent
+refusal_event code = event.Refused (code_number code)
 
 -- None: there was no memory
 abbrev pub exchange_event : (Reply → BotEvent) → Exchanged → Option BotEvent
 exchange_event by_reply (exchanged.Told (told.Good place r bytes)) = Some (by_reply r)
-exchange_event by_reply (exchanged.Told (told.No number code body)) = Some (event.Refused number)
+exchange_event by_reply (exchanged.Told (told.No code body)) = Some (refusal_event code)
 exchange_event by_reply exchanged.NoReply = Some event.Lost
 exchange_event by_reply exchanged.Lost = Some event.Lost
 exchange_event by_reply exchanged.Memory = None
@@ -43,10 +50,6 @@ update_event r = event.Lost
 
 -- ---- the events that an action can have
 
--- the log is full, its keeper failed, or there was no memory: a request may be sent again
-abbrev pub is_transient_number : ℕ → Bool
-is_transient_number number = number == 26 || number == 28 || number == 29
-
 abbrev pub is_of_handshake : BotEvent → Bool
 is_of_handshake event.HandshakeOk = true
 is_of_handshake (event.Refused number) = true
@@ -71,9 +74,7 @@ is_of_claim e = false
 abbrev pub is_of_prepare : BotEvent → Bool
 is_of_prepare event.Prepared = true
 is_of_prepare event.RunnerFailed = true
-is_of_prepare (event.Refused number) = is_transient_number number
-is_of_prepare event.Lost = true
-is_of_prepare e = false
+is_of_prepare e = is_transient e
 
 abbrev pub is_of_start : BotEvent → Bool
 is_of_start event.Started = true

@@ -2,6 +2,7 @@
 use Rattle.std.specs.Prelude.{◌≡◌, ℕ, List, [], ◌∷◌, ◌++◌, Option, Some, None, is_some, Result, Ok, Err, if◌then◌else◌}
 use Rattle.std.specs.Map.{lookup, remove_entry}
 use Rattle.std.specs.Str.{bytes_eq}
+use Rattle.refusal_codes.specs.declared.refusal_code.RefusalCode.{RefusalCode}
 use Rattle.task_props.specs.declared.cache.Cache.{Cache}
 use Rattle.task_props.specs.declared.file.File.{File}
 use Rattle.task_props.specs.declared.properties.Properties.{Properties}
@@ -18,21 +19,22 @@ use Rattle.runners.specs.declared.call.RunnerCall.TheVariants as call
 use Rattle.runners.specs.Calls.{RunnerState, Performs}
 use Rattle.bot_core.specs.declared.bot_event.BotEvent.{BotEvent}
 use Rattle.bot_core.specs.declared.bot_event.BotEvent.TheVariants as event
+use Rattle.bot_core.specs.Table.{is_transient}
 use Rattle.bot_requests.specs.declared.hands.Hands.{Hands}
 use Rattle.bot_requests.specs.Requests.{get_blob_text}
-use Rattle.bot_turns.specs.Events.{is_transient_number}
+use Rattle.bot_turns.specs.Events.{refusal_event}
 use Rattle.bot_turns.specs.ServerTurns.{AsksServer, OfRun}
 
 -- ---- one input
 
 -- a refusal after which the request may be sent again is told; after any other the run can't be prepared
-abbrev pub fetch_refusal : ℕ → BotEvent
-fetch_refusal number = if is_transient_number number then event.Refused number else event.RunnerFailed
+abbrev pub fetch_refusal : RefusalCode → BotEvent
+fetch_refusal code = if is_transient (refusal_event code) then refusal_event code else event.RunnerFailed
 
 -- the event of an input that isn't fetched; None: there was no memory
 abbrev pub unfetched_event : Exchanged → Option BotEvent
 unfetched_event (exchanged.Told (told.Good place r bytes)) = Some event.RunnerFailed
-unfetched_event (exchanged.Told (told.No number code body)) = Some (fetch_refusal number)
+unfetched_event (exchanged.Told (told.No code body)) = Some (fetch_refusal code)
 unfetched_event exchanged.NoReply = Some event.Lost
 unfetched_event exchanged.Lost = Some event.Lost
 unfetched_event exchanged.Memory = None

@@ -17,6 +17,7 @@ use Rattle.bot_core.specs.declared.bot_event.BotEvent.{BotEvent}
 use Rattle.bot_core.specs.declared.bot_event.BotEvent.TheVariants as event
 use Rattle.bot_requests.specs.declared.hands.Hands.{Hands}
 use Rattle.bot_requests.specs.Requests.{put_blob_text}
+use Rattle.bot_turns.specs.Events.{refusal_event}
 use Rattle.bot_turns.specs.ServerTurns.{AsksServer, OfRun}
 
 -- ---- one output
@@ -28,7 +29,7 @@ put_reply r = Err event.Lost
 -- whether a blob is held now, or the event that ends the upload; None: there was no memory
 abbrev pub put_result : Exchanged → Option (Result (Unit {0}) BotEvent)
 put_result (exchanged.Told (told.Good place r bytes)) = Some (put_reply r)
-put_result (exchanged.Told (told.No number code body)) = Some (Err (event.Refused number))
+put_result (exchanged.Told (told.No code body)) = Some (Err (refusal_event code))
 put_result exchanged.NoReply = Some (Err event.Lost)
 put_result exchanged.Lost = Some (Err event.Lost)
 put_result exchanged.Memory = None

@@ -3,6 +3,7 @@ ghost use Rattle.std.specs.Prelude.{◌≡◌, IfOk};
 ghost use Rattle.json_fields.specs.Ids.{run_id as spec_run_id};
 ghost use Rattle.bot_turns.specs.ServerTurns.{IsClaimTurn, TakesClaim};
 
+use crate::events::refusal_event;
 use bot_core::BotEvent;
 use bot_requests::{Hands, claim_request};
 use dimensions::{Seq, Text};
@@ -50,7 +51,7 @@ fn take_claim(
             Reply::Skip => Ok(BotEvent::ClaimSkip),
             _ => Ok(BotEvent::Lost),
         },
-        Exchanged::Told(Told::No { number, .. }) => Ok(BotEvent::Refused { number }),
+        Exchanged::Told(Told::No { code, .. }) => Ok(refusal_event(code)),
         Exchanged::NoReply | Exchanged::Lost => Ok(BotEvent::Lost),
         Exchanged::Memory => Err(AllocError),
     }

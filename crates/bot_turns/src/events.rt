@@ -1,10 +1,20 @@
 //! The events that exchanges come to. None: there was no memory.
 ghost use Rattle.std.specs.Prelude.{◌≡◌};
-ghost use Rattle.bot_turns.specs.Events.{exchange_event, handshake_event as spec_handshake_event, poll_event as spec_poll_event, update_event as spec_update_event};
+ghost use Rattle.bot_turns.specs.Events.{refusal_event as spec_refusal_event, exchange_event, handshake_event as spec_handshake_event, poll_event as spec_poll_event, update_event as spec_update_event};
 
 use bot_core::BotEvent;
+use refusal_codes::RefusalCode;
 use server_calls::{Exchanged, Told};
 use swarm_model::Reply;
+
+/// The event of a refusal, which holds the number of its code.
+pub(crate) fn refusal_event(code: RefusalCode) -> BotEvent
+    ensures { result ≡ spec_refusal_event code }
+{
+    BotEvent::Refused {
+        number: code.number(),
+    }
+}
 
 fn handshake_event(reply: &Reply) -> BotEvent
     ensures { result ≡ spec_handshake_event reply.now }
@@ -42,7 +52,7 @@ pub(crate) fn event_of_handshake(exchanged: &Exchanged) -> Option<BotEvent>
 {
     match exchanged {
         Exchanged::Told(Told::Good { reply, .. }) => Some(handshake_event(reply)),
-        Exchanged::Told(Told::No { number, .. }) => Some(BotEvent::Refused { number: *number }),
+        Exchanged::Told(Told::No { code, .. }) => Some(refusal_event(*code)),
         Exchanged::NoReply | Exchanged::Lost => Some(BotEvent::Lost),
         Exchanged::Memory => None,
     }
@@ -53,7 +63,7 @@ pub(crate) fn event_of_poll(exchanged: &Exchanged) -> Option<BotEvent>
 {
     match exchanged {
         Exchanged::Told(Told::Good { reply, .. }) => Some(poll_event(reply)),
-        Exchanged::Told(Told::No { number, .. }) => Some(BotEvent::Refused { number: *number }),
+        Exchanged::Told(Told::No { code, .. }) => Some(refusal_event(*code)),
         Exchanged::NoReply | Exchanged::Lost => Some(BotEvent::Lost),
         Exchanged::Memory => None,
     }
@@ -64,7 +74,7 @@ pub(crate) fn event_of_update(exchanged: &Exchanged) -> Option<BotEvent>
 {
     match exchanged {
         Exchanged::Told(Told::Good { reply, .. }) => Some(update_event(reply)),
-        Exchanged::Told(Told::No { number, .. }) => Some(BotEvent::Refused { number: *number }),
+        Exchanged::Told(Told::No { code, .. }) => Some(refusal_event(*code)),
         Exchanged::NoReply | Exchanged::Lost => Some(BotEvent::Lost),
         Exchanged::Memory => None,
     }

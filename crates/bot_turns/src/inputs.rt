@@ -1,14 +1,15 @@
 //! Prepare: the inputs of a run are fetched, and the runner lays them out.
 ghost use Rattle.std.specs.Prelude.{◌≡◌, ◌↔◌, ◌++◌, ◌∷◌, [], IfOk, OnOk, IsSome, IsTrue, MatchResult};
 ghost use Rattle.swarm_model.specs.declared.reply.Reply.TheVariants as blob;
-ghost use Rattle.bot_turns.specs.Events.{is_transient_number as spec_is_transient_number};
 ghost use Rattle.bot_turns.specs.ServerTurns.{OfRun};
-ghost use Rattle.bot_turns.specs.Inputs.{fetch_refusal as spec_unfetched_number, BytesOrEvent, FetchesFile, FetchesAll, FetchEnds, FetchesInputs, prepared_caches, without_caches, LaysOut, IsPrepareTurn};
+ghost use Rattle.bot_turns.specs.Inputs.{fetch_refusal as spec_fetch_refusal, BytesOrEvent, FetchesFile, FetchesAll, FetchEnds, FetchesInputs, prepared_caches, without_caches, LaysOut, IsPrepareTurn};
 
+use crate::events::refusal_event;
 use bot_core::BotEvent;
 use bot_requests::{Hands, get_blob_request};
 use dimensions::{Seq, Text, TryCopy};
 use named_caches::CacheTable;
+use refusal_codes::RefusalCode;
 use routes::Route;
 use runners::{PreparedCache, Runner};
 use server_calls::{Exchanged, Told, exchange};
@@ -17,17 +18,12 @@ use sw_base::{Dialer, StartFault};
 use swarm_model::Reply;
 use task_props::{Cache, File};
 
-fn is_transient_number(number: u32) -> bool
-    ensures { result ≡ spec_is_transient_number number }
+#[tactic(auto, using(crate::proofs::EventLemmas::is_transient_refusal))]
+fn fetch_refusal(code: RefusalCode) -> BotEvent
+    ensures { result ≡ spec_fetch_refusal code }
 {
-    number == 26 || number == 28 || number == 29
-}
-
-fn fetch_refusal(number: u32) -> BotEvent
-    ensures { result ≡ spec_unfetched_number number }
-{
-    if is_transient_number(number) {
-        BotEvent::Refused { number }
+    if code.is_transient() {
+        refusal_event(code)
     } else {
         BotEvent::RunnerFailed
     }
@@ -54,7 +50,7 @@ fn bytes_of(file: &File, exchanged: Exchanged) -> Result<Result<Seq<u8>, BotEven
                 Ok(Err(BotEvent::RunnerFailed))
             }
         }
-        Exchanged::Told(Told::No { number, .. }) => Ok(Err(fetch_refusal(number))),
+        Exchanged::Told(Told::No { code, .. }) => Ok(Err(fetch_refusal(code))),
         Exchanged::NoReply | Exchanged::Lost => Ok(Err(BotEvent::Lost)),
         Exchanged::Memory => Err(AllocError),
     }

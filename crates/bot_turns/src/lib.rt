@@ -13,7 +13,8 @@
 //! (Prepare), `Outputs` (Upload), `CacheTurns` (CleanUp) and `ChildTurns` (Start, Look and Signal).
 //!
 //! The crate stands on `bot_core`, `bot_requests`, `server_calls`, `runners` and `named_caches`, on
-//! `sw_base`, `swarm_model`, `json_fields`, `routes`, `task_props` and `dimensions`, and on `sha2`.
+//! `refusal_codes`, `sw_base`, `swarm_model`, `json_fields`, `routes`, `task_props` and `dimensions`,
+//! and on `sha2`.
 #![tactic(auto)]
 
 mod caches;

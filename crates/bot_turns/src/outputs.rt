@@ -4,6 +4,7 @@ ghost use Rattle.sha2.specs.Sha256.{sha256};
 ghost use Rattle.bot_turns.specs.ServerTurns.{OfRun};
 ghost use Rattle.bot_turns.specs.Outputs.{put_reply as spec_put_reply, put_result as spec_put_result, PutsBytes, UploadsOutput, then_file, Uploads, IsUploadTurn};
 
+use crate::events::refusal_event;
 use bot_core::BotEvent;
 use bot_requests::{Hands, put_blob_request};
 use dimensions::{Seq, Text, TryCopy};
@@ -33,9 +34,7 @@ fn put_result(exchanged: &Exchanged) -> Option<Result<(), BotEvent>>
 {
     match exchanged {
         Exchanged::Told(Told::Good { reply, .. }) => Some(put_reply(reply)),
-        Exchanged::Told(Told::No { number, .. }) => {
-            Some(Err(BotEvent::Refused { number: *number }))
-        }
+        Exchanged::Told(Told::No { code, .. }) => Some(Err(refusal_event(*code))),
         Exchanged::NoReply | Exchanged::Lost => Some(Err(BotEvent::Lost)),
         Exchanged::Memory => None,
     }

@@ -1,5 +1,6 @@
 -- What a command does, by what its exchanges answer.
 use Rattle.std.specs.Prelude.{◌≡◌, ℕ, List, [], ◌++◌, codes, Option}
+use Rattle.refusal_codes.specs.Codes.{code_name}
 use Rattle.sw_base.specs.Faults.{Rose}
 use Rattle.sw_base.specs.Clock.{Waits}
 use Rattle.sw_base.specs.Link.{LinkState, IsClean}
@@ -58,7 +59,7 @@ pub data Follows (server : Server) : Plan → World → World → ℕ → Type 0
 -- what follows an answer: a refusal's code is printed with status 6, no reply has status 9, a fault of the dialer 4, and want of memory 5
 abbrev pub after : (ℕ → Reply → List ℕ → Plan) → Exchanged → Plan
 after good (Told (Good place reply bytes)) = good place reply bytes
-after good (Told (No number code text)) = say (code ++ codes "\n") (end 6)
+after good (Told (No code body)) = say (code_name code ++ codes "\n") (end 6)
 after good NoReply = end 9
 after good Lost = end 4
 after good Memory = end 5

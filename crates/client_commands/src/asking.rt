@@ -50,7 +50,7 @@ pub(crate) fn ask<W: Dialer, L: Link>(
             reply,
             bytes,
         }),
-        Exchanged::Told(Told::No { code, .. }) => Err(print_code(alloc, console, code.as_str())),
+        Exchanged::Told(Told::No { code, .. }) => Err(print_code(alloc, console, code.name())),
         Exchanged::NoReply => Err(9),
         Exchanged::Lost => Err(4),
         Exchanged::Memory => Err(5),

@@ -4,6 +4,7 @@ use Rattle.base64.specs.Engines.{standard}
 use Rattle.base64.specs.GeneralPurpose.{encode_of}
 use Rattle.serde_json.specs.Data.{Data, boolean, string, object, Members, no_members}
 use Rattle.serde_json.specs.Written.{compact_text}
+use Rattle.refusal_codes.specs.Codes.{code_status}
 use Rattle.json_values.specs.Values.{whole, or_null, list_data}
 use Rattle.swarm_model.specs.declared.task_state.TaskState.{TaskState}
 use Rattle.swarm_model.specs.declared.reply.Part.{Part}
@@ -14,11 +15,11 @@ use Rattle.json_fields.specs.Ids.{shown_number, task_id}
 use Rattle.reply_bodies.specs.Items.{blob_data}
 use Rattle.reply_bodies.specs.Views.{task_members, task_data, bot_members, bot_data}
 use Rattle.reply_bodies.specs.Commands.{run_members}
-use Rattle.reply_bodies.specs.Refusals.{status_and_code, one, two, refusal_members}
+use Rattle.reply_bodies.specs.Refusals.{code_of, one, two, refusal_members}
 
 -- that of a refusal, and 200
 abbrev pub status_of : Reply → ℕ
-status_of (reply.No why) = (status_and_code why).0
+status_of (reply.No why) = code_status (code_of why)
 status_of answered = 200
 
 -- a task's number, with the place of its pool

@@ -1,5 +1,8 @@
--- The table of refusals: the status and the code of each, and what else it tells.
+-- The table of refusals: the code of each, and what else it tells.
 use Rattle.std.specs.Prelude.{ℕ, List, codes}
+use Rattle.refusal_codes.specs.declared.refusal_code.RefusalCode.{RefusalCode}
+use Rattle.refusal_codes.specs.declared.refusal_code.RefusalCode.TheVariants as code
+use Rattle.refusal_codes.specs.Codes.{code_name}
 use Rattle.hex.specs.Hex.{encode_lower}
 use Rattle.serde_json.specs.Data.{Data, string, Members, member, no_members, put}
 use Rattle.json_values.specs.Values.{whole}
@@ -13,38 +16,38 @@ use Rattle.swarm_model.specs.States.{state_name}
 use Rattle.json_fields.specs.Ids.{task_id}
 use Rattle.reply_bodies.specs.Views.{run_data}
 
--- the status, and the code
-abbrev pub status_and_code : Rule → ℕ × List ℕ
-status_and_code rule.BadHead = (400, codes "bad_head")
-status_and_code rule.LengthRequired = (411, codes "length_required")
-status_and_code (rule.TooLarge limit) = (413, codes "too_large")
-status_and_code rule.NoRoute = (404, codes "no_route")
-status_and_code rule.BadMethod = (405, codes "bad_method")
-status_and_code rule.BadJson = (400, codes "bad_json")
-status_and_code (rule.BadField field broken) = (400, codes "bad_field")
-status_and_code rule.NoCaller = (401, codes "no_caller")
-status_and_code (rule.Denied permission pool) = (403, codes "denied")
-status_and_code rule.NoPool = (404, codes "no_pool")
-status_and_code rule.NoTask = (404, codes "no_task")
-status_and_code rule.NoBot = (404, codes "no_bot")
-status_and_code (rule.UuidReused task) = (409, codes "uuid_reused")
-status_and_code (rule.BotUnfit why) = (409, codes "bot_unfit")
-status_and_code (rule.BotBusy task try_no) = (409, codes "bot_busy")
-status_and_code (rule.ClaimOver task try_no state) = (409, codes "claim_over")
-status_and_code (rule.NotClaimant bot) = (403, codes "not_claimant")
-status_and_code (rule.AttemptOver state) = (409, codes "attempt_over")
-status_and_code (rule.OutputGap length) = (409, codes "output_gap")
-status_and_code (rule.OutputOverlap start) = (409, codes "output_overlap")
-status_and_code (rule.BlobMissing digest) = (409, codes "blob_missing")
-status_and_code (rule.DigestDiffers actual) = (400, codes "digest_differs")
-status_and_code (rule.StoreFull names size) = (507, codes "store_full")
-status_and_code (rule.PoolTasksFull limit) = (503, codes "pool_tasks_full")
-status_and_code (rule.PoolBotsFull limit) = (503, codes "pool_bots_full")
-status_and_code rule.LogFull = (503, codes "log_full")
-status_and_code rule.KeeperFault = (503, codes "keeper_fault")
-status_and_code (rule.FrontAhead length) = (409, codes "front_ahead")
-status_and_code rule.WantOfMemory = (503, codes "want_of_memory")
-status_and_code (rule.OutputGone digest) = (410, codes "output_gone")
+-- the code of a refusal
+abbrev pub code_of : Rule → RefusalCode
+code_of rule.BadHead = code.BadHead
+code_of rule.LengthRequired = code.LengthRequired
+code_of (rule.TooLarge limit) = code.TooLarge
+code_of rule.NoRoute = code.NoRoute
+code_of rule.BadMethod = code.BadMethod
+code_of rule.BadJson = code.BadJson
+code_of (rule.BadField field broken) = code.BadField
+code_of rule.NoCaller = code.NoCaller
+code_of (rule.Denied permission pool) = code.Denied
+code_of rule.NoPool = code.NoPool
+code_of rule.NoTask = code.NoTask
+code_of rule.NoBot = code.NoBot
+code_of (rule.UuidReused task) = code.UuidReused
+code_of (rule.BotUnfit why) = code.BotUnfit
+code_of (rule.BotBusy task try_no) = code.BotBusy
+code_of (rule.ClaimOver task try_no state) = code.ClaimOver
+code_of (rule.NotClaimant bot) = code.NotClaimant
+code_of (rule.AttemptOver state) = code.AttemptOver
+code_of (rule.OutputGap length) = code.OutputGap
+code_of (rule.OutputOverlap start) = code.OutputOverlap
+code_of (rule.BlobMissing digest) = code.BlobMissing
+code_of (rule.DigestDiffers actual) = code.DigestDiffers
+code_of (rule.StoreFull names size) = code.StoreFull
+code_of (rule.PoolTasksFull limit) = code.PoolTasksFull
+code_of (rule.PoolBotsFull limit) = code.PoolBotsFull
+code_of rule.LogFull = code.LogFull
+code_of rule.KeeperFault = code.KeeperFault
+code_of (rule.FrontAhead length) = code.FrontAhead
+code_of rule.WantOfMemory = code.WantOfMemory
+code_of (rule.OutputGone digest) = code.OutputGone
 
 abbrev pub unfit_name : Unfit → List ℕ
 unfit_name unfit.Dead = codes "dead"
@@ -82,4 +85,4 @@ told_members place why = no_members
 
 -- the members of a refusal: its code, and what else it tells
 abbrev pub refusal_members : ℕ → Rule → Members
-refusal_members place why = put (codes "code") (string (status_and_code why).1) (told_members place why)
+refusal_members place why = put (codes "code") (string (code_name (code_of why))) (told_members place why)

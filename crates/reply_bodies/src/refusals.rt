@@ -1,59 +1,57 @@
-//! Refusals: the status and the code of each, and what else it tells.
+//! Refusals: the code of each, and what else it tells.
 ghost use Rattle.std.specs.Prelude.{◌≡◌, ◌<◌, IfOk, codes};
-ghost use Rattle.http.specs.StatusCode.{IsStatusCode};
 ghost use Rattle.hex.specs.Hex.{encode_lower};
 ghost use Rattle.serde_json.specs.Data.{string};
 ghost use Rattle.serde_json.specs.View.{members_view};
 ghost use Rattle.json_values.specs.Values.{whole};
 ghost use Rattle.swarm_model.specs.declared.rule.Rule.TheVariants.{ClaimOver};
 ghost use Rattle.swarm_model.specs.Permissions.{permission_name};
-ghost use Rattle.reply_bodies.specs.Refusals.{status_and_code as spec_status_and_code, unfit_name as spec_unfit_name, one, two, told_members as spec_told_members, refusal_members as spec_refusal_members};
+ghost use Rattle.reply_bodies.specs.Refusals.{code_of as spec_code_of, unfit_name as spec_unfit_name, one, two, told_members as spec_told_members, refusal_members as spec_refusal_members};
 
 use crate::items::with_digest;
 use crate::views::{with_run_id, with_task_id};
 use json_values::{with_text, with_whole};
+use refusal_codes::RefusalCode;
 use serde_json::{Map, Value};
 use std::alloc::{AllocError, Global};
 use swarm_model::{Permission, Rule, TaskState, Unfit};
 use task_props::Digest;
 
-/// The status of a refusal, and its code.
-pub(crate) fn status_and_code(why: &Rule) -> (u16, &'static str)
-    ensures status { result.0 ≡ (spec_status_and_code why.now).0 }
-    ensures code { result.1.now ≡ (spec_status_and_code why.now).1 }
-    ensures is_status { IsStatusCode result.0 }
+/// The code of a refusal.
+pub fn code_of(why: &Rule) -> RefusalCode
+    ensures { result ≡ spec_code_of why.now }
 {
     match why {
-        Rule::BadHead => (400, "bad_head"),
-        Rule::LengthRequired => (411, "length_required"),
-        Rule::TooLarge { .. } => (413, "too_large"),
-        Rule::NoRoute => (404, "no_route"),
-        Rule::BadMethod => (405, "bad_method"),
-        Rule::BadJson => (400, "bad_json"),
-        Rule::BadField { .. } => (400, "bad_field"),
-        Rule::NoCaller => (401, "no_caller"),
-        Rule::Denied { .. } => (403, "denied"),
-        Rule::NoPool => (404, "no_pool"),
-        Rule::NoTask => (404, "no_task"),
-        Rule::NoBot => (404, "no_bot"),
-        Rule::UuidReused { .. } => (409, "uuid_reused"),
-        Rule::BotUnfit { .. } => (409, "bot_unfit"),
-        Rule::BotBusy { .. } => (409, "bot_busy"),
-        Rule::ClaimOver { .. } => (409, "claim_over"),
-        Rule::NotClaimant { .. } => (403, "not_claimant"),
-        Rule::AttemptOver { .. } => (409, "attempt_over"),
-        Rule::OutputGap { .. } => (409, "output_gap"),
-        Rule::OutputOverlap { .. } => (409, "output_overlap"),
-        Rule::BlobMissing { .. } => (409, "blob_missing"),
-        Rule::DigestDiffers { .. } => (400, "digest_differs"),
-        Rule::StoreFull { .. } => (507, "store_full"),
-        Rule::PoolTasksFull { .. } => (503, "pool_tasks_full"),
-        Rule::PoolBotsFull { .. } => (503, "pool_bots_full"),
-        Rule::LogFull => (503, "log_full"),
-        Rule::KeeperFault => (503, "keeper_fault"),
-        Rule::FrontAhead { .. } => (409, "front_ahead"),
-        Rule::WantOfMemory => (503, "want_of_memory"),
-        Rule::OutputGone { .. } => (410, "output_gone"),
+        Rule::BadHead => RefusalCode::BadHead,
+        Rule::LengthRequired => RefusalCode::LengthRequired,
+        Rule::TooLarge { .. } => RefusalCode::TooLarge,
+        Rule::NoRoute => RefusalCode::NoRoute,
+        Rule::BadMethod => RefusalCode::BadMethod,
+        Rule::BadJson => RefusalCode::BadJson,
+        Rule::BadField { .. } => RefusalCode::BadField,
+        Rule::NoCaller => RefusalCode::NoCaller,
+        Rule::Denied { .. } => RefusalCode::Denied,
+        Rule::NoPool => RefusalCode::NoPool,
+        Rule::NoTask => RefusalCode::NoTask,
+        Rule::NoBot => RefusalCode::NoBot,
+        Rule::UuidReused { .. } => RefusalCode::UuidReused,
+        Rule::BotUnfit { .. } => RefusalCode::BotUnfit,
+        Rule::BotBusy { .. } => RefusalCode::BotBusy,
+        Rule::ClaimOver { .. } => RefusalCode::ClaimOver,
+        Rule::NotClaimant { .. } => RefusalCode::NotClaimant,
+        Rule::AttemptOver { .. } => RefusalCode::AttemptOver,
+        Rule::OutputGap { .. } => RefusalCode::OutputGap,
+        Rule::OutputOverlap { .. } => RefusalCode::OutputOverlap,
+        Rule::BlobMissing { .. } => RefusalCode::BlobMissing,
+        Rule::DigestDiffers { .. } => RefusalCode::DigestDiffers,
+        Rule::StoreFull { .. } => RefusalCode::StoreFull,
+        Rule::PoolTasksFull { .. } => RefusalCode::PoolTasksFull,
+        Rule::PoolBotsFull { .. } => RefusalCode::PoolBotsFull,
+        Rule::LogFull => RefusalCode::LogFull,
+        Rule::KeeperFault => RefusalCode::KeeperFault,
+        Rule::FrontAhead { .. } => RefusalCode::FrontAhead,
+        Rule::WantOfMemory => RefusalCode::WantOfMemory,
+        Rule::OutputGone { .. } => RefusalCode::OutputGone,
     }
 }
 
@@ -188,7 +186,6 @@ pub(crate) fn refusal_members(
     requires { place < 4 }
     ensures { IfOk result (λ members. members_view members.entries ≡ spec_refusal_members place why.now) }
 {
-    let (_, code) = status_and_code(why);
     let members = told_members(alloc, place, why)?;
-    with_text(alloc, members, "code", code)
+    with_text(alloc, members, "code", code_of(why).name())
 }

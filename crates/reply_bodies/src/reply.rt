@@ -15,7 +15,7 @@ use crate::commands::run_members;
 use crate::items::Blobs;
 use crate::output::stdout_members;
 use crate::pages::{bots_members, tasks_members};
-use crate::refusals::{one_text, one_whole, refusal_members, status_and_code};
+use crate::refusals::{code_of, one_text, one_whole, refusal_members};
 use crate::views::{bot_members, task_members, with_task_id};
 use dimensions::Seq;
 use json_values::{with_flag, with_list, with_text};
@@ -30,10 +30,7 @@ pub fn status_of(reply: &Reply) -> u16
     ensures is_status { IsStatusCode result }
 {
     match reply {
-        Reply::No(why) => {
-            let (status, _) = status_and_code(why);
-            status
-        }
+        Reply::No(why) => code_of(why).status(),
         _ => 200,
     }
 }

@@ -9,13 +9,12 @@
 //! that route with status 200, or a refusal with another. What is neither is no reply of this
 //! profile, and tells nothing. `specs/` has a module a topic: `Members`, the members that the
 //! replies share, `Places`, the ids and the one place that they name, `Tasks`, `Bots`, `Pages`,
-//! `Commands` and `Blobs`, what each reply tells, `Refusals`, the numbers of the codes, and
-//! `Exchanges`.
+//! `Commands` and `Blobs`, what each reply tells, `Refusals`, what a refusal tells, and `Exchanges`.
 //!
 //! Fields, lists, ids, digests and numbers are read by `json_fields`, and the properties of a run are
 //! those that a request for a task may have, read by `task_bodies` and `task_checks`. The crate
-//! stands on these, on `link_writer`, `reply_reader` and `sw_base`, on `routes`, `swarm_model`,
-//! `task_props` and `dimensions`, and on `serde_json`, `base64` and `sha2`.
+//! stands on these, on `link_writer`, `reply_reader` and `sw_base`, on `routes`, `refusal_codes`,
+//! `swarm_model`, `task_props` and `dimensions`, and on `serde_json`, `base64` and `sha2`.
 #![tactic(auto)]
 
 mod blobs;
@@ -37,5 +36,4 @@ mod told;
 pub use exchanged::Exchanged;
 pub use exchanging::exchange;
 pub use reading::{a_reply_has_one_reading, read_reply};
-pub use refusals::number_of;
 pub use told::Told;

@@ -1,4 +1,5 @@
-use dimensions::{Seq, Text};
+use dimensions::Seq;
+use refusal_codes::RefusalCode;
 use swarm_model::Reply;
 
 /// What a reply tells.
@@ -12,11 +13,10 @@ pub enum Told {
         reply: Reply,
         bytes: Seq<u8>,
     },
-    /// The call was refused. `number` is that of the code, from 1 to 30, and `body` the bytes that
-    /// came, whose other members tell more of the refusal.
+    /// The call was refused. `body` has the bytes that came, whose other members tell more of the
+    /// refusal.
     No {
-        number: u32,
-        code: Text,
+        code: RefusalCode,
         body: Seq<u8>,
     },
 }

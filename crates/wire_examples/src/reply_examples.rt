@@ -6,7 +6,8 @@ ghost use Rattle.swarm_model.specs.declared.rule.Rule.TheVariants.{BotUnfit, Att
 ghost use Rattle.swarm_model.specs.declared.rule.Unfit.TheVariants.{Dead};
 ghost use Rattle.swarm_model.specs.declared.task_state.TaskState.TheVariants.{Completed};
 ghost use Rattle.reply_bodies.specs.Bodies.{status_of, body_of, content_type_of};
-ghost use Rattle.reply_bodies.specs.Refusals.{status_and_code, refusal_members};
+ghost use Rattle.refusal_codes.specs.Codes.{code_name};
+ghost use Rattle.reply_bodies.specs.Refusals.{code_of, refusal_members};
 
 /// A bot that gets no work since it was silent is told so.
 pub fn a_dead_bot_is_told_that_it_is_dead()
@@ -20,7 +21,8 @@ pub fn a_report_after_the_end_has_status_409()
 
 /// Output whose blob is held no more is gone.
 pub fn output_that_is_held_no_more_has_status_410()
-    ensures { (digest : List ℕ) → status_and_code (OutputGone digest) ≡ (410, codes "output_gone") }
+    ensures status { (digest : List ℕ) → status_of (No (OutputGone digest)) ≡ 410 }
+    ensures code { (digest : List ℕ) → code_name (code_of (OutputGone digest)) ≡ codes "output_gone" }
 {}
 
 /// A blob is bytes, and any other reply JSON.

@@ -16,7 +16,7 @@ pub returns-in-Told-No : goal.returns-in-Told-No
 returns-in-Told-No g c = λ call waited er ep body good.
     exchanged (answer.Told c.in-Told-No.field-0) (g.W.Dialer.state c.exchange.new.dialer) (after good)
     (exchanges_of call c.args.path.now c.args.body.now c.deref.result.now er ep body (search rules) c.in-Told-No.ensures) _ _
-    (rw c.in-Told-No.field-0-is (rw c.as_str.ensures at c.print_code.ensures c.args.server.now (g.W.Dialer.state c.exchange.new.dialer) waited))
+    (rw c.in-Told-No.field-0-is (rw c.name.ensures at c.print_code.ensures c.args.server.now (g.W.Dialer.state c.exchange.new.dialer) waited))
 
 pub returns-in-NoReply : goal.returns-in-NoReply
 returns-in-NoReply g c = λ call waited er ep body good.
