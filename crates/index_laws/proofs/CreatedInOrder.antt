@@ -1,22 +1,18 @@
 -- Rows are created one after another, since moments never fall.
-use Rattle.std.proofs.Common.{◌≡◌, ℕ, suc, ◌<◌, ◌≤◌, List, [], ◌∷◌, ◌++◌, map, length, refl, subst, arith}
+use Rattle.std.proofs.Common.{◌≡◌, ℕ, suc, ◌<◌, ◌≤◌, List, [], ◌∷◌, ◌++◌, map, length, refl, subst, arith, ap}
 use Rattle.std.proofs.lemmas.List.Kept.{AllPairs-cons}
 use Rattle.swarm_model.specs.declared.task_row.TaskRow.{TaskRow}
 use Rattle.swarm_model.specs.declared.pool_state.PoolState.{PoolState}
 use Rattle.swarm_model.specs.declared.entry.Entry.{Entry}
 use Rattle.swarm_model.specs.declared.entry.EntryKind.{EntryKind}
 use Rattle.swarm_model.specs.declared.entry.EntryKind.TheVariants as kind
-use Rattle.swarm_model.specs.declared.entry.Outcome.{Outcome}
-use Rattle.swarm_model.specs.declared.entry.Outcome.TheVariants as outcome
-use Rattle.swarm_model.specs.Deadlines.{next_of}
-use Rattle.swarm_model.specs.Effects.{task_after, added_tasks, expired_slice, new_row, opening, after}
+use Rattle.swarm_model.specs.Effects.{task_after, added_tasks, new_row, opening, after}
 use Rattle.swarm_model.specs.History.{replay, IsCaused, MayFollow}
 use Rattle.swarm_model.specs.Soundness.{IsSound}
 use Rattle.pool_laws.proofs.Lists.{Among, here, later, all, each_append, each_map, each_one}
-use Rattle.pool_laws.proofs.Preconditions.{Finds}
 use Rattle.pool_laws.proofs.EntryPreconditions.{finds}
-use Rattle.pool_laws.proofs.Rows.{task_by}
 use Rattle.pool_laws.proofs.Sound.{sound_after, opening_sound}
+use Rattle.pool_laws.proofs.Origins.{Origin, origin_same}
 use Rattle.index_laws.specs.TaskSources.{AreCreatedInOrder, CreatedInOrder}
 use Rattle.index_laws.proofs.Keys.{contains_of}
 
@@ -49,24 +45,6 @@ in_order_more f (x ∷ xs) added keeps before new old =
     (λ y a. let first = before x here y a in let own = keeps x here in omega (arith, first, own))))
     (in_order_more f xs added (λ y a. keeps y (later a)) (λ y a. before y (later a)) new (rest_in_order x xs old))
 
--- no entry changes the moment at which a row was created
-created_same : (s : PoolState) (m : ℕ) (k : EntryKind) → IsSound s → Finds s k → (x : TaskRow) → Among x s.tasks → (task_after s m k x).created ≡ x.created
-created_same s m k o f x a =
-    task_by (λ (y : TaskRow). y.created ≡ x.created) s m o x a k f (record {
-      same = refl;
-      moves = λ w. by_outcome (next_of s x);
-      loses = λ w. refl;
-      begins = λ b t id is found w. refl;
-      cancels = λ w. refl;
-      marks = λ w. refl;
-      grows = λ chunk g w. refl;
-      finishes = λ chunk last y w e. e;
-    })
-  where
-    by_outcome : (to : Outcome) → (expired_slice m to x).created ≡ x.created
-    by_outcome (outcome.Slice place) = refl
-    by_outcome (outcome.Ended state) = refl
-
 -- a row that is added is created at the moment of the entry
 added_at : (m : ℕ) (k : EntryKind) → (x : TaskRow) → Among x (added_tasks m k) → x.created ≡ m
 added_at m (kind.New t who request state slice from) x a = each_one (λ (y : TaskRow). y.created ≡ m) (new_row m t who request state slice from) refl x a
@@ -83,7 +61,7 @@ record IsInOrder (s : PoolState) : Type 0 where
 
 in_order_after : (s : PoolState) (e : Entry) → IsSound s → MayFollow s e → IsInOrder s → IsInOrder (after s e)
 in_order_after s e o follows h =
-    let same = created_same s e.moment e.kind o (finds s e follows) in
+    let same = λ (x : TaskRow) (a : Among x s.tasks). ap (λ (z : Origin). z.created) (origin_same s e.moment e.kind o (finds s e follows) x a) in
     let fall = follows.not_before in
     record {
       order = in_order_more (task_after s e.moment e.kind) s.tasks (added_tasks e.moment e.kind) same

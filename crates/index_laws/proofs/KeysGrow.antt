@@ -1,7 +1,8 @@
 -- Claims and uuids come with the entries that bring them, and stay.
-use Rattle.std.proofs.Common.{◌≡◌, ℕ, ◌==◌, ◌⊎◌, inl, inr, Bool, true, false, [], ◌∷◌, ◌++◌, map, refl, sym, ap, ◌∙◌, Option, Some, None, eqb-true}
+use Rattle.std.proofs.Common.{◌≡◌, ℕ, ◌==◌, ◌⊎◌, inl, inr, true, false, [], ◌∷◌, ◌++◌, map, refl, sym, ap, ◌∙◌, Option, Some, None, eqb-true, List, cond}
 use Rattle.std.specs.Option.{option_map}
 use Rattle.std.proofs.lemmas.Bool.{cond_both, eq-eqb}
+use Rattle.dimensions.specs.Rules.{is_empty}
 use Rattle.swarm_model.specs.declared.attempt.Attempt.{Attempt}
 use Rattle.swarm_model.specs.declared.task_state.TaskState.{TaskState}
 use Rattle.swarm_model.specs.declared.task_state.TaskState.TheVariants.{Pending}
@@ -10,17 +11,17 @@ use Rattle.swarm_model.specs.declared.pool_state.PoolState.{PoolState}
 use Rattle.swarm_model.specs.declared.entry.Entry.{Entry}
 use Rattle.swarm_model.specs.declared.entry.EntryKind.{EntryKind}
 use Rattle.swarm_model.specs.declared.entry.EntryKind.TheVariants as kind
-use Rattle.swarm_model.specs.declared.entry.Outcome.{Outcome}
-use Rattle.swarm_model.specs.declared.entry.Outcome.TheVariants as outcome
 use Rattle.swarm_model.specs.Finding.{is_state}
-use Rattle.swarm_model.specs.Deadlines.{next_of}
-use Rattle.swarm_model.specs.Effects.{task_after, added_tasks, expired_slice, started_run, killed, with_chunk, with_last_report, new_row, after}
+use Rattle.swarm_model.specs.Effects.{task_after, added_tasks, started_run, new_row, after}
 use Rattle.swarm_model.specs.History.{MayFollow}
 use Rattle.swarm_model.specs.Soundness.{IsSound}
 use Rattle.pool_laws.proofs.Lists.{Among, each_one, among_left, among_right, among_map, here}
 use Rattle.pool_laws.proofs.Preconditions.{Finds, HasTask, waits}
 use Rattle.pool_laws.proofs.EntryPreconditions.{finds}
-use Rattle.pool_laws.proofs.Rows.{task_by, task_is, row_is, claim_waits, fits_in}
+use Rattle.pool_laws.proofs.Rows.{task_is, row_is, claim_waits, fits_in}
+use Rattle.pool_laws.proofs.Origins.{Origin, origin_same}
+use Rattle.pool_laws.proofs.Claimed.{Key, key_in, is_claiming, key_same}
+use Rattle.pool_laws.proofs.Numbers.{task_no}
 use Rattle.index_laws.specs.Keys.{HasKey, KeysGrow}
 use Rattle.index_laws.specs.TaskClaims.{Claimed, claimed_of, claim_to_come}
 use Rattle.index_laws.specs.TaskUuids.{Sent, sent_of, uuid_to_come}
@@ -30,14 +31,10 @@ use Rattle.index_laws.proofs.Keys.{grows, contains_of}
 abbrev pub claim_in : Option Attempt → ℕ → Option Claimed
 claim_in attempt n = option_map (λ (a : Attempt). (a.bot, a.claim, n)) attempt
 
-abbrev is_claiming : EntryKind → Bool
-is_claiming (kind.Claim b t id) = true
-is_claiming entry = false
-
--- a change of the attempt that leaves its bot and its id leaves the claim
-claim_kept : (f : Attempt → Attempt) (n : ℕ) → ((a : Attempt) → claim_in (Some (f a)) n ≡ claim_in (Some a) n) → (attempt : Option Attempt) → claim_in (option_map f attempt) n ≡ claim_in attempt n
-claim_kept f n e None = refl
-claim_kept f n e (Some a) = e a
+-- it is the key of the attempt with that number
+claim_by_key : (attempt : Option Attempt) (n : ℕ) → claim_in attempt n ≡ option_map (λ (p : ℕ × List ℕ). (p.0, p.1, n)) (key_in attempt)
+claim_by_key None n = refl
+claim_by_key (Some a) n = refl
 
 -- a task that waits has none
 none_yet : (state : TaskState) (attempt : Option Attempt) (ended : Option ℕ) (n : ℕ) → fits_in state attempt ended ≡ true → is_state state Pending ≡ true → claim_in attempt n ≡ None
@@ -49,20 +46,11 @@ module _ (s : PoolState) (m : ℕ) (o : IsSound s) where
   -- only an entry of a claim changes the claim of a row
   claim_same : (k : EntryKind) → Finds s k → is_claiming k ≡ false → (x : TaskRow) → Among x s.tasks → claimed_of (task_after s m k x) ≡ claimed_of x
   claim_same k f q x a =
-      task_by (λ (y : TaskRow). claimed_of y ≡ claimed_of x) s m o x a k f (record {
-        same = refl;
-        moves = λ w. by_outcome (next_of s x);
-        loses = λ w. refl;
-        begins = λ b t id is found w. absurd (cc (q, ap is_claiming is));
-        cancels = λ w. refl;
-        marks = λ w. claim_kept killed x.no (λ a. refl) x.attempt;
-        grows = λ chunk g w. claim_kept (with_chunk chunk) x.no (λ a. refl) x.attempt;
-        finishes = λ chunk last y w e. claim_kept (with_last_report chunk last) y.no (λ a. refl) y.attempt ∙ e;
-      })
-    where
-      by_outcome : (to : Outcome) → claimed_of (expired_slice m to x) ≡ claimed_of x
-      by_outcome (outcome.Slice place) = refl
-      by_outcome (outcome.Ended state) = refl
+      let y : TaskRow = task_after s m k x in
+      claim_by_key y.attempt y.no
+      ∙ ap (λ (n : ℕ). option_map (λ (p : ℕ × List ℕ). (p.0, p.1, n)) (key_in y.attempt)) (task_no s m k o f x a)
+      ∙ ap (λ (key : Key). option_map (λ (p : ℕ × List ℕ). (p.0, p.1, x.no)) key) (key_same s m k o f q x a)
+      ∙ sym (claim_by_key x.attempt x.no)
 
   claim_stays : (k : EntryKind) → Finds s k → (x : TaskRow) → Among x s.tasks → (p : Claimed) → claimed_of x ≡ Some p → claimed_of (task_after s m k x) ≡ Some p
   claim_stays (kind.Claim b t id) f x a p h =
@@ -96,20 +84,7 @@ module _ (s : PoolState) (m : ℕ) (o : IsSound s) where
   -- no entry changes the uuid of a row
   sent_same : (k : EntryKind) → Finds s k → (x : TaskRow) → Among x s.tasks → sent_of (task_after s m k x) ≡ sent_of x
   sent_same k f x a =
-      task_by (λ (y : TaskRow). sent_of y ≡ sent_of x) s m o x a k f (record {
-        same = refl;
-        moves = λ w. by_outcome (next_of s x);
-        loses = λ w. refl;
-        begins = λ b t id is found w. refl;
-        cancels = λ w. refl;
-        marks = λ w. refl;
-        grows = λ chunk g w. refl;
-        finishes = λ chunk last y w e. e;
-      })
-    where
-      by_outcome : (to : Outcome) → sent_of (expired_slice m to x) ≡ sent_of x
-      by_outcome (outcome.Slice place) = refl
-      by_outcome (outcome.Ended state) = refl
+      ap (λ (z : Origin). cond {A = Option Sent} (is_empty z.request.request_uuid) None (Some (z.creator, z.request.request_uuid, z.no))) (origin_same s m k o f x a)
 
   sent_added : (k : EntryKind) → (x : TaskRow) → Among x (added_tasks m k) → (p : Sent) → sent_of x ≡ Some p → uuid_to_come k ≡ Some p
   sent_added (kind.New t who request state slice from) x a p h =

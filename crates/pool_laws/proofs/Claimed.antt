@@ -48,7 +48,7 @@ by_key b id (Some a) e =
 
 -- what an entry does to a key
 
-abbrev is_claiming : EntryKind → Bool
+abbrev pub is_claiming : EntryKind → Bool
 is_claiming (kind.Claim b t id) = true
 is_claiming entry = false
 
@@ -58,7 +58,7 @@ key_kept f e None = refl
 key_kept f e (Some a) = e a
 
 -- only a claim changes it
-key_same : (s : PoolState) (m : ℕ) (k : EntryKind) → IsSound s → Finds s k → is_claiming k ≡ false → (x : TaskRow) → Among x s.tasks → claim_key (task_after s m k x) ≡ claim_key x
+pub key_same : (s : PoolState) (m : ℕ) (k : EntryKind) → IsSound s → Finds s k → is_claiming k ≡ false → (x : TaskRow) → Among x s.tasks → claim_key (task_after s m k x) ≡ claim_key x
 key_same s m k o f q x a =
     task_by (λ (y : TaskRow). claim_key y ≡ claim_key x) s m o x a k f (record {
       same = refl;

@@ -10,6 +10,7 @@ pub mod Rows
 pub mod Tasks
 pub mod Bots
 pub mod Runs
+pub mod Origins
 pub mod Numbers
 pub mod Claimed
 pub mod UuidLaw

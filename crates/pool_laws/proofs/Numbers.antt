@@ -1,5 +1,5 @@
 -- Rows keep their numbers, and added rows have the next ones.
-use Rattle.std.proofs.Common.{◌≡◌, ℕ, ◌+◌, List, [], ◌∷◌, ◌⊎◌, inl, inr, length, refl, sym, Option, Some, None, arith}
+use Rattle.std.proofs.Common.{◌≡◌, ℕ, ◌+◌, List, [], ◌∷◌, ◌⊎◌, inl, inr, length, refl, sym, Option, Some, None, arith, ap}
 use Rattle.std.specs.Option.{option_map_or}
 use Rattle.swarm_model.specs.declared.task_row.TaskRow.{TaskRow}
 use Rattle.swarm_model.specs.declared.bot_row.BotRow.{BotRow}
@@ -9,26 +9,20 @@ use Rattle.swarm_model.specs.declared.entry.EntryKind.{EntryKind}
 use Rattle.swarm_model.specs.declared.entry.EntryKind.TheVariants as kind
 use Rattle.swarm_model.specs.declared.entry.EventKind.{EventKind}
 use Rattle.swarm_model.specs.declared.entry.EventKind.TheVariants as event
-use Rattle.swarm_model.specs.declared.entry.Outcome.{Outcome}
-use Rattle.swarm_model.specs.declared.entry.Outcome.TheVariants as outcome
 use Rattle.swarm_model.specs.Finding.{bot_of}
 use Rattle.swarm_model.specs.Numbers.{AreNumbered}
-use Rattle.swarm_model.specs.Deadlines.{next_of}
-use Rattle.swarm_model.specs.Effects.{no_of_task, no_of_bot, task_after, added_tasks, bot_after, added_bots, expired_slice, session_row, event_effect, after}
+use Rattle.swarm_model.specs.Effects.{no_of_task, no_of_bot, task_after, added_tasks, bot_after, added_bots, session_row, event_effect, after}
 use Rattle.swarm_model.specs.History.{MayFollow}
 use Rattle.swarm_model.specs.Soundness.{IsSound}
 use Rattle.pool_laws.proofs.Lists.{Among, numbered_after}
 use Rattle.pool_laws.proofs.Preconditions.{Finds, IsOld, IsNewcomer}
 use Rattle.pool_laws.proofs.EntryPreconditions.{IsFitting, finds, fitting}
-use Rattle.pool_laws.proofs.Rows.{task_by, bot_by, find_bot}
+use Rattle.pool_laws.proofs.Rows.{bot_by, find_bot}
+use Rattle.pool_laws.proofs.Origins.{Origin, origin_same}
 
 -- no entry changes the number of a task
 pub task_no : (s : PoolState) (m : ℕ) (k : EntryKind) → IsSound s → Finds s k → (x : TaskRow) → Among x s.tasks → (task_after s m k x).no ≡ x.no
-task_no s m k o f x a = task_by (λ (y : TaskRow). y.no ≡ x.no) s m o x a k f (record { same = refl; moves = λ w. by_outcome (next_of s x); loses = λ w. refl; begins = λ b t id is found w. refl; cancels = λ w. refl; marks = λ w. refl; grows = λ chunk g w. refl; finishes = λ chunk last y w e. e })
-  where
-    by_outcome : (to : Outcome) → (expired_slice m to x).no ≡ x.no
-    by_outcome (outcome.Slice place) = refl
-    by_outcome (outcome.Ended state) = refl
+task_no s m k o f x a = ap (λ (z : Origin). z.no) (origin_same s m k o f x a)
 
 -- no entry changes the number of a bot
 event_effect_no : (m : ℕ) (e : EventKind) (text : List ℕ) (x : BotRow) → (event_effect m e text x).no ≡ x.no

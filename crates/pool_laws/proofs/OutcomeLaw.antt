@@ -1,5 +1,5 @@
 -- A task that took an outcome has its source, now and whatever follows.
-use Rattle.std.proofs.Common.{◌≡◌, ℕ, ◌+◌, length, ◌<◌, true, false, List, [], ◌∷◌, refl, sym, ap, ◌∙◌, subst, arith, Option, Some, None, IfSome}
+use Rattle.std.proofs.Common.{◌≡◌, ℕ, ◌<◌, true, false, List, [], ◌∷◌, refl, sym, ap, ◌∙◌, subst, arith, Option, Some, None}
 use Rattle.std.specs.Option.{option_map_or}
 use Rattle.std.proofs.lemmas.Bool.{and_parts}
 use Rattle.std.proofs.lemmas.Option.{same_Some}
@@ -13,22 +13,20 @@ use Rattle.swarm_model.specs.declared.pool_state.PoolState.{PoolState}
 use Rattle.swarm_model.specs.declared.entry.Entry.{Entry}
 use Rattle.swarm_model.specs.declared.entry.EntryKind.{EntryKind}
 use Rattle.swarm_model.specs.declared.entry.EntryKind.TheVariants as kind
-use Rattle.swarm_model.specs.declared.entry.Outcome.{Outcome}
-use Rattle.swarm_model.specs.declared.entry.Outcome.TheVariants as outcome
-use Rattle.swarm_model.specs.Deadlines.{next_of}
 use Rattle.swarm_model.specs.Finding.{has_state, is_state, is_final, is_task}
 use Rattle.swarm_model.specs.Slices.{current_slice}
 use Rattle.swarm_model.specs.Reuse.{ended_well, ran_hash, has_hash}
 use Rattle.swarm_model.specs.ReuseLaw.{HasSource, OutcomesAreTaken}
-use Rattle.swarm_model.specs.Effects.{opening, after, task_after, added_tasks, expired_slice, new_row, no_of_task}
+use Rattle.swarm_model.specs.Effects.{opening, after, task_after, added_tasks, new_row, no_of_task}
 use Rattle.swarm_model.specs.History.{replay, IsCaused, MayFollow}
 use Rattle.swarm_model.specs.Soundness.{IsSound}
 use Rattle.pool_laws.proofs.Lists.{Among, Found, each_one, each_map, each_append, find_is, number_within}
 use Rattle.pool_laws.proofs.Preconditions.{Finds, FindsNew, FindsSource}
 use Rattle.pool_laws.proofs.EntryPreconditions.{finds}
-use Rattle.pool_laws.proofs.Rows.{task_by, find_task}
+use Rattle.pool_laws.proofs.Rows.{find_task}
 use Rattle.pool_laws.proofs.Sound.{sound_after, sound_replay, opening_sound}
 use Rattle.pool_laws.proofs.Tracks.{still_among, final_same}
+use Rattle.pool_laws.proofs.Origins.{Origin, origin_same}
 
 -- what a task has that took the outcome of one of that number
 record Took (s : PoolState) (x : TaskRow) (n : ℕ) : Type 0 where
@@ -47,24 +45,6 @@ record Took (s : PoolState) (x : TaskRow) (n : ℕ) : Type 0 where
 abbrev HaveSources : PoolState → Type 0
 HaveSources s = (x : TaskRow) → Among x s.tasks → (n : ℕ) → x.source ≡ Some n → Took s x n
 
--- no entry changes which outcome a task took
-source_same : (s : PoolState) (m : ℕ) (k : EntryKind) → IsSound s → Finds s k → (x : TaskRow) → Among x s.tasks → (task_after s m k x).source ≡ x.source
-source_same s m k o f x a =
-    task_by (λ (y : TaskRow). y.source ≡ x.source) s m o x a k f (record {
-      same = refl;
-      moves = λ w. by_outcome (next_of s x);
-      loses = λ w. refl;
-      begins = λ b t id is found w. refl;
-      cancels = λ w. refl;
-      marks = λ w. refl;
-      grows = λ chunk g w. refl;
-      finishes = λ chunk last y w e. e;
-    })
-  where
-    by_outcome : (to : Outcome) → (expired_slice m to x).source ≡ x.source
-    by_outcome (outcome.Slice place) = refl
-    by_outcome (outcome.Ended state) = refl
-
 -- what completed is over
 completed_final : (state : TaskState) → is_state state Completed ≡ true → is_final state ≡ true
 completed_final Completed e = refl
@@ -72,6 +52,28 @@ completed_final state e = absurd (cc (e))
 
 ended_final : (x : TaskRow) → ended_well x ≡ true → is_final x.state ≡ true
 ended_final x e = completed_final x.state (and_parts (has_state Completed x) _ e).0
+
+-- what a new task takes, in a pool that has the source
+new_took : (s there : PoolState) (m t : ℕ) (who : List ℕ) (request : NewTask) (state : TaskState) (slice number : ℕ) → IsSound s → (g : FindsNew s t who request state slice (Some number)) →
+    Among g.takes.source there.tasks → Took there (new_row m t who request state slice (Some number)) number
+new_took s there m t who request state slice number o g among =
+    let h : FindsSource s request state slice number = g.takes in
+    let low = (number_within no_of_task 1 s.tasks o.tasks_numbered h.source h.among).1 in
+    let next = g.next in
+    let named = h.named in
+    record {
+      completed = h.completed;
+      no_run = refl;
+      source = h.source;
+      among = among;
+      named = named;
+      earlier = omega (arith, low, next, named);
+      ended = h.ended;
+      own = h.own;
+      comes_to = h.reached;
+      idempotent = h.idempotent;
+      alike = h.alike;
+    }
 
 module _ (s : PoolState) (e : Entry) (o : IsSound s) (follows : MayFollow s e) where
   f : Finds s e.kind
@@ -100,34 +102,17 @@ module _ (s : PoolState) (e : Entry) (o : IsSound s) (follows : MayFollow s e) w
   -- a row that was there took what it had taken, and is as it was
   row_took : HaveSources s → (x : TaskRow) → Among x s.tasks → (n : ℕ) → (task_after s e.moment e.kind x).source ≡ Some n → Took (after s e) (task_after s e.moment e.kind x) n
   row_took have x a n is =
-      let t : Took s x n = have x a n (sym (source_same s e.moment e.kind o f x a) ∙ is) in
+      let t : Took s x n = have x a n (sym (ap (λ (z : Origin). z.source) (origin_same s e.moment e.kind o f x a)) ∙ is) in
       let final : is_final x.state ≡ true = ap is_final t.completed in
       subst (λ (z : TaskRow). Took (after s e) z n) (sym (final_same s e.moment e.kind o f x a final)) (took_still x n t)
 
   -- so did one that is added
   added_took : (k : EntryKind) → Finds s k → (x : TaskRow) → Among x (added_tasks e.moment k) → (n : ℕ) → x.source ≡ Some n → Took (after s e) x n
-  added_took (kind.New t who request state slice from) g x a n is =
-      each_one (λ (y : TaskRow). y.source ≡ Some n → Took (after s e) y n) (new_row e.moment t who request state slice from) (by_from from g.takes) x a is
-    where
-      by_from : (r : Option ℕ) → IfSome r (FindsSource s request state slice) → r ≡ Some n → Took (after s e) (new_row e.moment t who request state slice from) n
-      by_from None h j = absurd (cc (j))
-      by_from (Some b) h j =
-          (let named : h.source.no ≡ n = h.named ∙ same_Some _ _ j in
-          let low = (number_within no_of_task 1 s.tasks o.tasks_numbered h.source h.among).1 in
-          let next = g.next in
-          record {
-            completed = h.completed;
-            no_run = refl;
-            source = h.source;
-            among = stays_there h.source h.among (ended_final h.source h.ended);
-            named = named;
-            earlier = omega (arith, low, next, named);
-            ended = h.ended;
-            own = h.own;
-            comes_to = h.reached;
-            idempotent = h.idempotent;
-            alike = h.alike;
-          })
+  added_took (kind.New t who request state slice None) g x a n is = absurd (cc (is, each_one (λ (y : TaskRow). y.source ≡ None) (new_row e.moment t who request state slice None) refl x a))
+  added_took (kind.New t who request state slice (Some number)) g x a n is =
+      each_one (λ (y : TaskRow). y.source ≡ Some n → Took (after s e) y n) (new_row e.moment t who request state slice (Some number)) (λ j.
+      subst (Took (after s e) (new_row e.moment t who request state slice (Some number))) (same_Some _ _ j)
+      (new_took s (after s e) e.moment t who request state slice number o g (stays_there g.takes.source g.takes.among (ended_final g.takes.source g.takes.ended)))) x a is
   added_took k g x a n is = elim a [ ]
 
   sources_after : HaveSources s → HaveSources (after s e)
@@ -164,29 +149,8 @@ has_source s o x n t = by_slice (current_slice t.source) refl t.alike
 -- what a new task takes when it is accepted
 pub new_source : (s : PoolState) (m t : ℕ) (who : List ℕ) (request : NewTask) (state : TaskState) (slice number : ℕ) → IsSound s → FindsNew s t who request state slice (Some number) →
     HasSource s (new_row m t who request state slice (Some number)) number
-new_source s m t who request state slice number o g = has_source s o (new_row m t who request state slice (Some number)) number took
-  where
-    h : FindsSource s request state slice number
-    h = g.takes
-
-    low : h.source.no < 1 + length s.tasks
-    low = (number_within no_of_task 1 s.tasks o.tasks_numbered h.source h.among).1
-
-    took : Took s (new_row m t who request state slice (Some number)) number
-    took =
-        record {
-          completed = h.completed;
-          no_run = refl;
-          source = h.source;
-          among = h.among;
-          named = h.named;
-          earlier = (let next = g.next in let named = h.named in let under = low in omega (arith, under, next, named));
-          ended = h.ended;
-          own = h.own;
-          comes_to = h.reached;
-          idempotent = h.idempotent;
-          alike = h.alike;
-        }
+new_source s m t who request state slice number o g =
+    has_source s o (new_row m t who request state slice (Some number)) number (new_took s s m t who request state slice number o g g.takes.among)
 
 pub outcomes_taken : OutcomesAreTaken
 outcomes_taken settings log t number task c e is =

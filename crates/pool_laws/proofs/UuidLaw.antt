@@ -10,19 +10,17 @@ use Rattle.swarm_model.specs.declared.pool_state.PoolState.{PoolState}
 use Rattle.swarm_model.specs.declared.entry.Entry.{Entry}
 use Rattle.swarm_model.specs.declared.entry.EntryKind.{EntryKind}
 use Rattle.swarm_model.specs.declared.entry.EntryKind.TheVariants as kind
-use Rattle.swarm_model.specs.declared.entry.Outcome.{Outcome}
-use Rattle.swarm_model.specs.declared.entry.Outcome.TheVariants as outcome
-use Rattle.swarm_model.specs.Deadlines.{next_of}
-use Rattle.swarm_model.specs.Effects.{task_after, added_tasks, expired_slice, new_row, after}
+use Rattle.swarm_model.specs.Effects.{task_after, added_tasks, new_row, after}
 use Rattle.swarm_model.specs.History.{MayFollow}
 use Rattle.swarm_model.specs.Reuse.{sent, is_sent}
 use Rattle.swarm_model.specs.Soundness.{IsSound, sent_key, AreSentApart}
 use Rattle.pool_laws.proofs.Lists.{Among, Found, each, each_one, find_is, find_none}
 use Rattle.pool_laws.proofs.Preconditions.{Finds}
 use Rattle.pool_laws.proofs.EntryPreconditions.{finds}
-use Rattle.pool_laws.proofs.Rows.{task_by, all_tasks, one_task}
+use Rattle.pool_laws.proofs.Rows.{all_tasks, one_task}
 use Rattle.pool_laws.proofs.Numbers.{task_no}
 use Rattle.pool_laws.proofs.Alike.{same_is, is_same}
+use Rattle.pool_laws.proofs.Origins.{Origin, origin_same}
 
 -- a key, as the test for a task that was sent sees it
 
@@ -65,20 +63,7 @@ sent_find s who uuid e = ap (λ (b : Bool). cond b None (find (is_sent who uuid)
 -- nothing
 key_same : (s : PoolState) (m : ℕ) (k : EntryKind) → IsSound s → Finds s k → (x : TaskRow) → Among x s.tasks → sent_key (task_after s m k x) ≡ sent_key x
 key_same s m k o f x a =
-    task_by (λ (y : TaskRow). sent_key y ≡ sent_key x) s m o x a k f (record {
-      same = refl;
-      moves = λ w. by_outcome (next_of s x);
-      loses = λ w. refl;
-      begins = λ b t id is found w. refl;
-      cancels = λ w. refl;
-      marks = λ w. refl;
-      grows = λ chunk g w. refl;
-      finishes = λ chunk last y w e. e;
-    })
-  where
-    by_outcome : (to : Outcome) → sent_key (expired_slice m to x) ≡ sent_key x
-    by_outcome (outcome.Slice place) = refl
-    by_outcome (outcome.Ended state) = refl
+    ap (λ (z : Origin). cond {A = Option (List ℕ × List ℕ)} (is_empty z.request.request_uuid) None (Some (z.creator, z.request.request_uuid))) (origin_same s m k o f x a)
 
 -- a key under which none is found is that of no row
 unsent_new : (s : PoolState) (who uuid : List ℕ) → sent s who uuid ≡ None → (x : TaskRow) → Among x s.tasks → (p : List ℕ × List ℕ) → IsKeyed x p.0 p.1 → who ≡ p.0 → uuid ≡ p.1 → ⊥
