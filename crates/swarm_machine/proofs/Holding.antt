@@ -1,34 +1,21 @@
 -- What is known of the rows, since a log leads to them.
-use Rattle.std.proofs.Common.{ℕ, ◌+◌, ◌≤◌, ◌<◌, ◌^◌, ◌&&◌, Bool, true, false, length, get_or, refl, subst, sym, arith, IsTrue, nat_le}
-use Rattle.std.specs.List.{All, list_all, sum_by}
+use Rattle.std.proofs.Common.{ℕ, ◌≤◌, ◌<◌, ◌^◌, ◌&&◌, Bool, true, false, length, refl, arith, IsTrue, nat_le}
+use Rattle.std.specs.List.{list_all}
 use Rattle.std.proofs.lemmas.Bool.{and_parts}
 use borrow.Author.Tests.{leb-true}
-use Rattle.task_props.proofs.Checked.{slices_counted}
 use Rattle.swarm_model.specs.declared.pool_settings.PoolSettings.{PoolSettings}
 use Rattle.swarm_model.specs.declared.pool_state.PoolState.{PoolState}
 use Rattle.swarm_model.specs.declared.entry.Entry.{Entry}
-use Rattle.swarm_model.specs.Entries.{weight}
-use Rattle.swarm_model.specs.MachineState.{IsHistory}
 use Rattle.swarm_model.specs.Settings.{is_pool_name, is_grant, keeps_rules}
 use Rattle.swarm_model.specs.Words.{is_between}
 use Rattle.swarm_model.specs.Soundness.{IsSound}
-use Rattle.pool_laws.proofs.Sound.{sound_always}
-use Rattle.row_changes.specs.Rows.{HasFewSlices, IsEarly, IsHeard}
-use Rattle.swarm_machine.specs.declared.pool.Pool.TheInside.{Inside}
+use Rattle.pool_log.specs.Reached.{MayComeNext}
+use Rattle.pool_log.proofs.Reached.{reached_is_sound, room_before}
+use Rattle.swarm_machine.specs.declared.indexed_rows.IndexedRows.TheInside.{Inside}
 use Rattle.swarm_machine.specs.Inside.{state_of}
-use Rattle.swarm_machine.specs.Invariant.{kept_of, IsKept}
-use Rattle.swarm_machine.specs.Plain.{machine_of}
+use Rattle.swarm_machine.specs.Invariant.{IsKept}
 use Rattle.swarm_machine.specs.UsesBehind.{HasFewUses}
 use Rattle.swarm_machine.proofs.UsesFollow.{uses_are_small}
-
-pub all_early : (s : PoolState) → IsSound s → All IsEarly s.tasks
-all_early s sound = λ k d low. let last = sound.last in let since = (sound.tasks k d low).since in omega (arith, last, since)
-
-pub all_few : (s : PoolState) → IsSound s → All HasFewSlices s.tasks
-all_few s sound = λ k d low. (slices_counted (get_or s.tasks k d).request (sound.tasks k d low).checked).1
-
-pub all_heard : (s : PoolState) → IsSound s → All IsHeard s.bots
-all_heard s sound = λ k d low. let last = sound.last in let contact = (sound.bots k d low).contact in omega (arith, last, contact)
 
 -- ---- the settings allow few tasks and bots
 
@@ -73,21 +60,18 @@ few_rows p rules =
 
 -- ---- the rows of a pool
 
-module _ (pool : Inside) (kept : IsKept pool) where
-  pub kept_sound : IsSound (state_of pool.rows)
-  kept_sound = subst IsSound (sym kept.replayed) (sound_always pool.rows.settings pool.log.items kept.legal.caused)
+module _ (own : Inside) (kept : IsKept own) where
+  pub kept_sound : IsSound (state_of own.rows)
+  kept_sound = reached_is_sound (state_of own.rows) kept.reached
 
-  pub kept_history : IsHistory (machine_of (kept_of pool))
-  kept_history = record { replayed = kept.replayed; legal = kept.legal }
+  pub few_tasks : length own.rows.tasks.rows < 2 ^ 32
+  few_tasks = let few = kept_sound.few_tasks in let most = (few_rows own.rows.settings kept.reached.replay_of.rules).0 in omega (arith, few, most)
 
-  pub few_tasks : length pool.rows.tasks.rows < 2 ^ 32
-  few_tasks = let few = kept_sound.few_tasks in let most = (few_rows pool.rows.settings kept.rules).0 in omega (arith, few, most)
+  pub few_bots : length own.rows.bots.rows < 2 ^ 32
+  few_bots = let few = kept_sound.few_bots in let most = (few_rows own.rows.settings kept.reached.replay_of.rules).1 in omega (arith, few, most)
 
-  pub few_bots : length pool.rows.bots.rows < 2 ^ 32
-  few_bots = let few = kept_sound.few_bots in let most = (few_rows pool.rows.settings kept.rules).1 in omega (arith, few, most)
-
-  -- no digest has 2^32 uses after an entry for which the log has room
-  pub few_uses : (e : Entry) → sum_by weight pool.log.items + weight e ≤ pool.rows.settings.most_weight → HasFewUses (state_of pool.rows) e
-  few_uses e light =
-      let most = (few_rows pool.rows.settings kept.rules).2 in
-      uses_are_small pool.rows.settings pool.log.items (state_of pool.rows) e pool.rows.settings.most_weight kept.replayed kept.legal.caused light (omega (arith, most))
+-- no digest has 2^32 uses after an entry for which the log has room
+pub few_uses : (s : PoolState) (e : Entry) → MayComeNext s e → HasFewUses s e
+few_uses s e next =
+    let most = (few_rows s.settings next.replay_of.rules).2 in
+    uses_are_small s.settings next.log s e s.settings.most_weight next.replay_of.replayed next.replay_of.legal.caused (room_before s e next).light (omega (arith, most))

@@ -1,8 +1,6 @@
 mod Tasks
 mod Holding
 mod Entering
-mod TasksBelow
-mod Finding
 mod NumberedTasks
 mod Following
 mod Moving

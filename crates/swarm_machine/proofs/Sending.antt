@@ -14,9 +14,9 @@ use Rattle.swarm_model.specs.contracts.attempt.Last as Last
 use Rattle.swarm_model.specs.contracts.entry.Entry as Entry
 use Rattle.swarm_model.specs.contracts.entry.EntryKind as EntryKind
 use Rattle.swarm_model.specs.contracts.task_row.TaskRow as TaskRow
+use Rattle.pool_log.specs.contracts.logged_pool.LoggedPool as LoggedPool
+use Rattle.swarm_machine.specs.contracts.indexed_rows.IndexedRows as IndexedRows
 use Rattle.swarm_machine.specs.contracts.indexes.Indexes as Indexes
-use Rattle.swarm_machine.specs.contracts.pool.Pool as Pool
-use Rattle.swarm_machine.specs.contracts.pool.Ready as Ready
 use Rattle.swarm_machine.specs.contracts.rows.Rows as Rows
 
 new_task_send : IsSend NewTask.the_field.row
@@ -61,8 +61,8 @@ kind_send = search (text_send, bot_dims_send, last_send, new_task_send, single.c
 entry_send : IsSend Entry.the_field.row
 entry_send = search (kind_send, single.crosses, maps.crosses, sendable) depth 60 fits 100000
 
-ready_send : IsSend Ready.the_field.row
-ready_send = search (entry_send, single.crosses, maps.crosses, sendable) depth 60 fits 100000
+indexed_rows_send : IsSend IndexedRows.the_row
+indexed_rows_send = search (rows_send, indexes_send, entry_send, single.crosses, maps.crosses, sendable) depth 60 fits 100000
 
-pub pool_send : IsSend Pool.the_row
-pool_send = search (rows_send, indexes_send, entry_send, ready_send, single.crosses, maps.crosses, sendable) depth 60 fits 100000
+pub pool_send : (g : _) → IsSend (LoggedPool.the_row IndexedRows.the_row g)
+pool_send g = search (indexed_rows_send, entry_send, single.crosses, maps.crosses, sendable) depth 60 fits 100000

@@ -49,11 +49,10 @@ pub record AreReadyFor (indexes : Indexes) (s : PoolState) (k : EntryKind) : Typ
   pub uses : AreListedFor indexes.uses k
   pub source : indexes.sources.ready ≡ source_link_before s.tasks k
 
--- what an entry adds lies ready in each part, and the log has room for it
-pub record IsMadeReady (rows : Rows) (indexes : Indexes) (log_size log_room : ℕ) (entry : Entry) : Type 0 where
+-- what an entry adds lies ready in each part
+pub record IsMadeReady (rows : Rows) (indexes : Indexes) (entry : Entry) : Type 0 where
   pub rows_of : AreRowsReadyFor rows entry.kind
   pub indexes_of : AreReadyFor indexes (state_of rows) entry.kind
-  pub log : log_size < log_room
 
 abbrev pub state_of_row : Option TaskRow → Option TaskState
 state_of_row row = option_map (λ task. task.state) row

@@ -1,4 +1,3 @@
-pub mod Plain
 pub mod Changing
 pub mod Inside
 pub mod Counting

@@ -1,9 +1,9 @@
-//! The pool of the program: its rows, their log, and indexes beside them.
+//! The pool of the program: a log over rows with indexes beside them.
 //!
-//! [`Pool`] is a [`Machine`](swarm_model::Machine): its rows are the replay of its log, which is
-//! legal. It answers the queries of `pool_rules` by indexes that its invariant alone ties to the
-//! rows (`specs/Indexes.antt`, `specs/Invariant.antt`), so its contract is that of any machine.
-//! `pool.rt` has the log and the queries, `rows.rt` the rows, which an entry changes
+//! [`Pool`] is a [`Machine`](swarm_model::Machine): the log is that of `pool_log`, over
+//! [`IndexedRows`]. They answer the queries of `pool_rules` by indexes that their invariant alone ties
+//! to the rows (`specs/Indexes.antt`, `specs/Invariant.antt`), so the contract is that of any rows.
+//! `indexed_rows.rt` has the queries, `rows.rt` the rows, which an entry changes
 //! (`changing_tasks.rt`), and `indexes.rt` the indexes. These are set anew for the rows that an
 //! entry touched (`touched.rt`): deadlines (`deadlines.rt`), queues (`queueing.rt`), sources of
 //! outcomes (`sources.rt`), uses of digests (`uses.rt`) and counts of states (`counting.rt`).
@@ -18,7 +18,7 @@
 //! is put again moves at most half of them, 16 bytes each. The sets of a new task are compared with
 //! at most 1,024 that are known, and the one with which it will wait with those of the queues; one
 //! that is not known costs a pass over the bots, and so does a run that is lost by silence.
-//! `commit` takes no memory: `reserve` took it.
+//! `apply` takes no memory: `reserve` took it.
 //!
 //! These read one row after another: a page of tasks in one state, as far as it has to look, so
 //! that a rare state costs all of them; and a blob by its digest or number.
@@ -27,13 +27,17 @@
 mod changing_tasks;
 mod counting;
 mod deadlines;
+mod indexed_rows;
 mod indexes;
 mod pages;
-mod pool;
 mod queueing;
 mod rows;
 mod sources;
 mod touched;
 mod uses;
 
-pub use pool::Pool;
+pub use indexed_rows::IndexedRows;
+use pool_log::LoggedPool;
+
+/// The pool of the program.
+pub type Pool = LoggedPool<IndexedRows>;

@@ -1,4 +1,3 @@
-pub mod Plain
 pub mod Inside
 pub mod Invariant
 pub mod Lowest

@@ -1,7 +1,7 @@
 //! The plain machine: one pool as lists of rows that are scanned in full.
 //!
-//! [`ListPool`] is a [`Machine`](swarm_model::Machine): its rows are the replay of its log, and the
-//! log is legal. It implements the queries of `pool_rules` by scans, and has no index but the store's
+//! [`ListPool`] is a [`Machine`](swarm_model::Machine): the log is that of `pool_log`, over
+//! [`ListRows`]. They answer the queries of `pool_rules` by scans, and have no index but the store's
 //! own. The rows of the blobs, with the bytes that are held, are those of `content_store`. It is a
 //! machine for tests: no crate of the program stands on it, and the program's own is `Pool` of
 //! `swarm_machine`.
@@ -9,10 +9,14 @@
 
 mod deadlines;
 mod effects;
-mod list_pool;
+mod list_rows;
 mod pages;
 mod rows;
 mod scans;
 mod sources;
 
-pub use list_pool::ListPool;
+pub use list_rows::ListRows;
+use pool_log::LoggedPool;
+
+/// A pool that scans its rows.
+pub type ListPool = LoggedPool<ListRows>;

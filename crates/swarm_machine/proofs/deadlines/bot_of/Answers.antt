@@ -3,7 +3,7 @@ use Rattle.dimensions.proofs.Found.{IfSome-find}
 use Rattle.swarm_model.specs.Finding.{is_bot}
 use Rattle.row_changes.specs.Rows.{IsHeard}
 use Rattle.swarm_machine.specs.Inside.{state_of}
-use Rattle.swarm_machine.proofs.Holding.{all_heard}
+use Rattle.pool_log.proofs.RowFacts.{all_heard}
 use Rattle.swarm_machine.proofs.deadlines.bot_of.Goals as goal
 
 pub returns-clause-heard : goal.returns-clause-heard

@@ -3,7 +3,7 @@ use Rattle.dimensions.proofs.Found.{IfSome-find}
 use Rattle.swarm_model.specs.Finding.{is_task}
 use Rattle.row_changes.specs.Rows.{IsEarly}
 use Rattle.swarm_machine.specs.Inside.{state_of}
-use Rattle.swarm_machine.proofs.Holding.{all_early}
+use Rattle.pool_log.proofs.RowFacts.{all_early}
 use Rattle.swarm_machine.proofs.deadlines.task_of.Goals as goal
 
 pub returns-clause-early : goal.returns-clause-early

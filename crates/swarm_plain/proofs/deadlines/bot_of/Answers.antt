@@ -3,7 +3,7 @@ use Rattle.swarm_model.specs.Finding.{is_bot}
 use Rattle.row_changes.specs.Rows.{IsHeard}
 use Rattle.dimensions.proofs.Found.{IfSome-find}
 use Rattle.swarm_plain.specs.Inside.{state_of}
-use Rattle.swarm_plain.proofs.Holding.{all_heard}
+use Rattle.pool_log.proofs.RowFacts.{all_heard}
 use Rattle.swarm_plain.proofs.deadlines.bot_of.Goals as goal
 
 pub row_of-requires : goal.row_of-requires

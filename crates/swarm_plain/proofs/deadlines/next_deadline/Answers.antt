@@ -1,6 +1,6 @@
 -- Each slice began, and each bot was heard, at a moment of the log.
 use Rattle.swarm_plain.specs.Inside.{state_of}
-use Rattle.swarm_plain.proofs.Holding.{all_early, all_heard}
+use Rattle.pool_log.proofs.RowFacts.{all_early, all_heard}
 use Rattle.swarm_plain.proofs.deadlines.next_deadline.Goals as goal
 
 pub slices_ends-slices-requires : goal.slices_ends-slices-requires

@@ -1,6 +1,6 @@
 -- The first tasks have the lowest numbers.
 use Rattle.std.proofs.lemmas.List.{take_min}
-use Rattle.swarm_plain.proofs.TasksBelow.{filter-is_listed}
+use Rattle.pool_log.proofs.TasksBelow.{filter-is_listed}
 use Rattle.swarm_plain.proofs.pages.count_below.Goals as goal
 
 pub returns-in-Some-clause-first : goal.returns-in-Some-clause-first

@@ -2,7 +2,7 @@
 use Rattle.std.proofs.Common.{List, take, reverse, slice_get, ap, sym, ◌∙◌}
 use Rattle.swarm_model.specs.declared.task_row.TaskRow.{TaskRow}
 use Rattle.swarm_model.specs.Finding.{is_wanted}
-use Rattle.swarm_plain.proofs.Finding.{find-reverse}
+use Rattle.pool_log.proofs.Finding.{find-reverse}
 use Rattle.swarm_plain.proofs.pages.newest_below.Goals as goal
 
 pub returns : goal.returns

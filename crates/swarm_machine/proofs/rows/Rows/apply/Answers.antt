@@ -11,7 +11,7 @@ use Rattle.pool_changes.specs.declared.effects.BlobEffect.{BlobEffect}
 use Rattle.pool_changes.specs.Blobs.{held_in, blob_effect, effect_of, rows_with, held_with}
 use Rattle.pool_changes.proofs.BlobEffects.{with_blobs_is, held_is, can_change, keeps_short}
 use Rattle.swarm_machine.specs.Inside.{state_of}
-use Rattle.swarm_machine.proofs.Holding.{all_few}
+use Rattle.pool_log.proofs.RowFacts.{all_few}
 use Rattle.swarm_machine.proofs.Entering.{next_task, follows_bots}
 use Rattle.swarm_machine.proofs.rows.Rows.apply.Goals as goal
 

@@ -1,0 +1,5 @@
+pub mod Reached
+mod Logs
+pub mod RowFacts
+pub mod TasksBelow
+pub mod Finding

@@ -1,0 +1,25 @@
+-- States to which logs lead, and the entries that may come next.
+use Rattle.std.specs.Prelude.{◌≡◌, IsTrue, List}
+use Rattle.swarm_model.specs.declared.pool_state.PoolState.{PoolState}
+use Rattle.swarm_model.specs.declared.entry.Entry.{Entry}
+use Rattle.swarm_model.specs.Settings.{keeps_rules}
+use Rattle.swarm_model.specs.Effects.{opening}
+use Rattle.swarm_model.specs.History.{replay, IsLegal, MayFollow, has_room}
+
+-- the state is the replay of a legal log, of settings that keep the rules
+pub record IsReplayOf (log : List Entry) (s : PoolState) : Type 0 where
+  pub rules : IsTrue (keeps_rules s.settings)
+  pub replayed : s ≡ replay (opening s.settings) log
+  pub legal : IsLegal (opening s.settings) log
+
+-- some log leads to the state
+pub record IsReached (s : PoolState) : Type 0 where
+  pub log : List Entry
+  pub replay_of : IsReplayOf log s
+
+-- the entry may follow in the state, to which some log leads that has room for it
+pub record MayComeNext (s : PoolState) (entry : Entry) : Type 0 where
+  pub log : List Entry
+  pub replay_of : IsReplayOf log s
+  pub follows : MayFollow s entry
+  pub room : IsTrue (has_room s.settings log entry)

@@ -1,0 +1,75 @@
+-- The rows and the indexes go on by what an entry does that may come next.
+use Rattle.std.proofs.Common.{ℕ, List, Bor, sym, ap, ◌∙◌, subst}
+use Rattle.std.specs.Option.{option_map}
+use Rattle.content_store.specs.Contents.{bytes_of}
+use Rattle.swarm_model.specs.Bytes.{held_after}
+use Rattle.swarm_model.specs.Effects.{after}
+use Rattle.swarm_model.specs.Soundness.{IsSound}
+use Rattle.pool_laws.proofs.Sound.{sound_after}
+use Rattle.pool_changes.proofs.Growing.{placed_below, brought_is}
+use Rattle.pool_log.specs.Reached.{MayComeNext}
+use Rattle.pool_log.specs.Plain.{RowsState}
+use Rattle.pool_log.proofs.Reached.{sound_before, room_before, reached_after}
+use Rattle.swarm_machine.specs.Inside.{state_of}
+use Rattle.swarm_machine.proofs.Committing.{made_for}
+use Rattle.swarm_machine.proofs.Holding.{kept_sound, few_tasks, few_uses}
+use Rattle.swarm_machine.proofs.indexed_rows.IndexedRowsPoolRows.apply.Goals as goal
+
+pub apply-requires-clause-sound : goal.apply-requires-clause-sound
+apply-requires-clause-sound c = kept_sound c.self.inside c.self.invariant
+
+pub apply-requires-clause-follows : goal.apply-requires-clause-follows
+apply-requires-clause-follows c = (rw (← c.self.view_is) at c.requires.next).follows
+
+pub apply-requires-clause-ready : goal.apply-requires-clause-ready
+apply-requires-clause-ready c =
+    (made_for c.self.inside c.self.invariant c.args.entry.now (ap (λ (kept : RowsState). kept.ready) c.self.view_is ∙ c.requires.ready)).rows_of
+
+pub apply-requires-clause-few : goal.apply-requires-clause-few
+apply-requires-clause-few c =
+    let s = state_of c.self.inside.rows in
+    let next : MayComeNext s c.args.entry.now = rw (← c.self.view_is) at c.requires.next in
+    placed_below s.settings s next.log next.replay_of.replayed (room_before s c.args.entry.now next).few
+
+pub apply-requires-clause-bytes : goal.apply-requires-clause-bytes
+apply-requires-clause-bytes c = brought_is c.args.entry.now.kind c.args.bytes c.requires.bytes
+
+pub update_from-requires-clause-sound : goal.update_from-requires-clause-sound
+update_from-requires-clause-sound c =
+    let s = state_of c.self.inside.rows in
+    let next : MayComeNext s c.args.entry.now = rw (← c.self.view_is) at c.requires.next in
+    subst IsSound (sym c.apply.ensures.state) (sound_after s c.args.entry.now (kept_sound c.self.inside c.self.invariant) next.follows)
+
+pub update_from-requires-clause-behind : goal.update_from-requires-clause-behind
+update_from-requires-clause-behind c =
+    let s = state_of c.self.inside.rows in
+    let next : MayComeNext s c.args.entry.now = rw (← c.self.view_is) at c.requires.next in
+    record {
+      before = s;
+      sound = kept_sound c.self.inside c.self.invariant;
+      few = few_tasks c.self.inside c.self.invariant;
+      few_uses = few_uses s c.args.entry.now next;
+      follows = next.follows;
+      is_after = c.apply.ensures.state;
+      touched_by = c.touched_by-touched.ensures;
+      indexes_of = c.self.invariant.indexed;
+      ready = (made_for c.self.inside c.self.invariant c.args.entry.now (ap (λ (kept : RowsState). kept.ready) c.self.view_is ∙ c.requires.ready)).indexes_of;
+    }
+
+pub invariant_of-self : goal.invariant_of-self
+invariant_of-self c =
+    let s = state_of c.self.inside.rows in
+    let next : MayComeNext s c.args.entry.now = rw (← c.self.view_is) at c.requires.next in
+    record {
+      reached = reached_after s c.args.entry.now next (state_of c.apply.new.self) c.apply.ensures.state;
+      of_settings = c.apply.ensures.of_settings;
+      indexed = c.update_from.ensures;
+      prepared = rw c.take.ensures.after tt;
+    }
+
+pub returns-clause-state : goal.returns-clause-state
+returns-clause-state c = c.apply.ensures.state ∙ ap (λ (kept : RowsState). after kept.pool c.args.entry.now) c.self.view_is
+
+pub returns-clause-held : goal.returns-clause-held
+returns-clause-held c =
+    c.apply.ensures.held ∙ ap (λ (kept : RowsState). held_after kept.pool c.args.entry.now.kind (option_map (λ (b : Bor (List ℕ)). b.now) c.args.bytes) (bytes_of kept.held)) c.self.view_is

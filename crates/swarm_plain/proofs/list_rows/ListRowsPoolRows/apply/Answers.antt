@@ -1,0 +1,65 @@
+-- The rows go on by what an entry does that may come next.
+use Rattle.std.proofs.Common.{◌≡◌, ℕ, List, Bor, Option, Some, IfSome, sym, ap, ◌∙◌, subst}
+use Rattle.std.specs.Option.{option_map}
+use Rattle.swarm_model.specs.declared.entry.Entry.{Entry}
+use Rattle.content_store.specs.Contents.{bytes_of}
+use Rattle.swarm_model.specs.Bytes.{held_after}
+use Rattle.swarm_model.specs.Effects.{after}
+use Rattle.pool_changes.proofs.Growing.{placed_below, brought_is}
+use Rattle.pool_log.specs.Reached.{MayComeNext}
+use Rattle.pool_log.specs.Plain.{RowsState}
+use Rattle.pool_log.proofs.Reached.{room_before, reached_after}
+use Rattle.swarm_plain.specs.Inside.{state_of}
+use Rattle.swarm_plain.specs.Invariant.{IsMadeReady}
+use Rattle.swarm_plain.proofs.Holding.{kept_sound}
+use Rattle.swarm_plain.proofs.list_rows.ListRowsPoolRows.apply.Goals as goal
+
+pub apply-requires-clause-sound : goal.apply-requires-clause-sound
+apply-requires-clause-sound c = kept_sound c.self.inside c.self.invariant
+
+pub apply-requires-clause-follows : goal.apply-requires-clause-follows
+apply-requires-clause-follows c = (rw (← c.self.view_is) at c.requires.next).follows
+
+pub apply-requires-clause-of_pool : goal.apply-requires-clause-of_pool
+apply-requires-clause-of_pool c = c.self.invariant.of_pool
+
+pub apply-requires-clause-few : goal.apply-requires-clause-few
+apply-requires-clause-few c =
+    let s = state_of c.self.inside.rows in
+    let next : MayComeNext s c.args.entry.now = rw (← c.self.view_is) at c.requires.next in
+    placed_below s.settings s next.log next.replay_of.replayed (room_before s c.args.entry.now next).few
+
+pub apply-requires-clause-bytes : goal.apply-requires-clause-bytes
+apply-requires-clause-bytes c = brought_is c.args.entry.now.kind c.args.bytes c.requires.bytes
+
+pub apply-requires-clause-copy : goal.apply-requires-clause-copy
+apply-requires-clause-copy c =
+    let some : Some c.in-Some.copy ≡ Some c.args.entry.now = sym c.in-Some.is ∙ c.take.ensures.value ∙ ap (λ (kept : RowsState). kept.ready) c.self.view_is ∙ c.requires.ready in
+    cc (some)
+
+pub apply-requires-clause-room : goal.apply-requires-clause-room
+apply-requires-clause-room c =
+    let ready = ap (λ (kept : RowsState). kept.ready) c.self.view_is ∙ c.requires.ready in
+    (subst (λ (o : Option Entry). IfSome o (IsMadeReady c.self.inside.rows)) ready c.self.invariant.prepared).room
+
+pub apply-requires-clause-chunk : goal.apply-requires-clause-chunk
+apply-requires-clause-chunk c =
+    let ready = ap (λ (kept : RowsState). kept.ready) c.self.view_is ∙ c.requires.ready in
+    (subst (λ (o : Option Entry). IfSome o (IsMadeReady c.self.inside.rows)) ready c.self.invariant.prepared).chunk
+
+pub invariant_of-self : goal.invariant_of-self
+invariant_of-self c =
+    let s = state_of c.self.inside.rows in
+    let next : MayComeNext s c.args.entry.now = rw (← c.self.view_is) at c.requires.next in
+    record {
+      reached = reached_after s c.args.entry.now next (state_of c.apply.new.self) c.apply.ensures.state;
+      of_pool = c.apply.ensures.of_pool;
+      prepared = rw c.take.ensures.after tt;
+    }
+
+pub returns-clause-state : goal.returns-clause-state
+returns-clause-state c = c.apply.ensures.state ∙ ap (λ (kept : RowsState). after kept.pool c.args.entry.now) c.self.view_is
+
+pub returns-clause-held : goal.returns-clause-held
+returns-clause-held c =
+    c.apply.ensures.held ∙ ap (λ (kept : RowsState). held_after kept.pool c.args.entry.now.kind (option_map (λ (b : Bor (List ℕ)). b.now) c.args.bytes) (bytes_of kept.held)) c.self.view_is

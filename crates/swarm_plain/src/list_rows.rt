@@ -1,0 +1,210 @@
+use crate::deadlines::next_deadline;
+use crate::rows::Rows;
+use crate::{pages, scans, sources};
+use content_store::{Filled, Held};
+use dimensions::{BotDims, DimSet, Text, TryCopy};
+use pool_log::PoolRows;
+use pool_queries::PoolQueries;
+use row_changes::{is_capable, row_of};
+use std::alloc::{AllocError, Global};
+use std::marker::Model;
+use std::mem;
+use std::sync::ledger::Ledger;
+use swarm_model::{BlobRow, BotRow, Deadline, Entry, PoolSettings, Steps, TaskRow, TaskState};
+use task_props::Digest;
+
+/// Rows of a pool that are scanned.
+#[derive(Drop)]
+pub struct ListRows {
+    alloc: Global,
+    rows: Rows,
+    /// A copy of the entry for which all lies ready: its texts move into the rows.
+    ready: Option<Entry>,
+}
+
+impl Model for ListRows {
+    ghost use Rattle.pool_log.specs.Plain.{RowsState};
+
+    ghost Value = { RowsState };
+
+    ghost use Rattle.swarm_plain.specs.Invariant.{kept_of, IsKept};
+
+    ghost view = { kept_of };
+
+    ghost invariant = { IsKept };
+}
+
+impl PoolQueries for ListRows {
+    ghost state = { λ rows. rows.pool };
+
+    fn sound(&self) {
+        // For the proof: the invariant of the rows.
+        let _rows = &self.rows;
+    }
+
+    fn settings(&self) -> &PoolSettings {
+        &self.rows.settings
+    }
+
+    fn task_count(&self) -> usize {
+        self.rows.tasks.len()
+    }
+
+    fn count(&self, wanted: Option<TaskState>) -> u64 {
+        scans::count_wanted(self.rows.tasks.as_slice(), wanted)
+    }
+
+    fn task_of<L: Ledger>(&self, number: u32, steps: &mut Steps<L>) -> Option<&TaskRow> {
+        let row = row_of(self.rows.tasks.as_slice(), number)?;
+        steps.tick();
+        Some(row)
+    }
+
+    fn newest_below<L: Ledger>(
+        &self,
+        wanted: Option<TaskState>,
+        below: Option<u32>,
+        _steps: &mut Steps<L>,
+    ) -> Option<&TaskRow> {
+        pages::newest_below(self.rows.tasks.as_slice(), wanted, below)
+    }
+
+    fn bot_count(&self) -> usize {
+        self.rows.bots.len()
+    }
+
+    fn bot_of(&self, number: u32) -> Option<&BotRow> {
+        row_of(self.rows.bots.as_slice(), number)
+    }
+
+    fn bot_named<'a>(&'a self, name: &Text) -> Option<&'a BotRow> {
+        scans::bot_named(self.rows.bots.as_slice(), name)
+    }
+
+    fn next_bot<'a>(&'a self, name: &Text) -> Option<&'a BotRow> {
+        pages::next_bot(self.rows.bots.as_slice(), name)
+    }
+
+    fn sent<'a, L: Ledger>(
+        &'a self,
+        who: &Text,
+        uuid: &Text,
+        _steps: &mut Steps<L>,
+    ) -> Option<&'a TaskRow> {
+        scans::sent(self.rows.tasks.as_slice(), who, uuid)
+    }
+
+    fn newest_source<'a, L: Ledger>(
+        &'a self,
+        alloc: Global,
+        moment: u64,
+        digest: &Digest,
+        _steps: &mut Steps<L>,
+    ) -> Result<Option<&'a TaskRow>, AllocError> {
+        let age = self.rows.settings.reuse_age_secs;
+        sources::newest_source(alloc, self.rows.tasks.as_slice(), age, moment, digest)
+    }
+
+    fn by_claim<'a, L: Ledger>(
+        &'a self,
+        bot: u32,
+        claim: &Text,
+        _steps: &mut Steps<L>,
+    ) -> Option<&'a TaskRow> {
+        scans::claimed(self.rows.tasks.as_slice(), bot, claim)
+    }
+
+    fn first_for<'a, L: Ledger>(
+        &'a self,
+        dims: &BotDims,
+        _steps: &mut Steps<L>,
+    ) -> Option<&'a TaskRow> {
+        scans::first(self.rows.tasks.as_slice(), dims)
+    }
+
+    fn capable(&self, dims: &DimSet) -> bool {
+        is_capable(self.rows.bots.as_slice(), dims)
+    }
+
+    fn blob_count(&self) -> usize {
+        self.rows.blobs.count()
+    }
+
+    fn blob_of<'a>(&'a self, digest: &Digest) -> Option<&'a BlobRow> {
+        self.rows.blobs.blob_of(digest)
+    }
+
+    fn blob_numbered(&self, number: u32) -> Option<&BlobRow> {
+        self.rows.blobs.blob_numbered(number)
+    }
+
+    fn probe(&self, digest: &Digest, size: u32) -> Held {
+        self.rows.blobs.probe(digest, size)
+    }
+
+    fn is_used(&self, digest: &Digest) -> bool {
+        scans::is_used(self.rows.tasks.as_slice(), digest)
+    }
+
+    fn next_deadline(&self) -> Option<Deadline> {
+        next_deadline(&self.rows)
+    }
+}
+
+impl PoolRows for ListRows {
+    ghost ready = { λ rows. rows.ready };
+
+    ghost held = { λ rows. rows.held };
+
+    fn new(alloc: Global, settings: PoolSettings) -> Result<ListRows, AllocError> {
+        Ok(ListRows {
+            alloc,
+            rows: Rows::new(alloc, settings)?,
+            ready: None,
+        })
+    }
+
+    fn release(&mut self) {
+        drop(self.ready.take());
+    }
+
+    fn reserve(&mut self, entry: &Entry) -> Result<(), AllocError> {
+        drop(self.ready.take());
+        self.rows.make_room(&entry.kind)?;
+        let copy = entry.try_copy(self.alloc)?;
+        drop(mem::replace(&mut self.ready, Some(copy)));
+        Ok(())
+    }
+
+    fn apply(&mut self, entry: &Entry, bytes: Option<&[u8]>) {
+        match self.ready.take() {
+            None => unreachable!(),
+            Some(copy) => self.rows.apply(self.alloc, entry, copy, bytes),
+        }
+    }
+
+    fn fill(&mut self, digest: &Digest, bytes: &[u8]) -> Filled {
+        drop(self.ready.take());
+        // For the proof: the rows of the blobs are tied to the store.
+        let _count = self.rows.blobs.count();
+        self.rows.blobs.fill(digest, bytes)
+    }
+
+    fn bytes(&self, digest: &Digest) -> Option<&[u8]> {
+        // For the proof: the rows of the blobs are tied to the store.
+        let _count = self.rows.blobs.count();
+        self.rows.blobs.bytes(digest)
+    }
+
+    fn tally(&self) -> [u64; 9] {
+        scans::tally(self.rows.tasks.as_slice())
+    }
+
+    fn last(&self) -> u64 {
+        self.rows.last
+    }
+
+    fn blob_at(&self, at: u32) -> Option<&BlobRow> {
+        self.rows.blobs.row_at(at as usize)
+    }
+}
