@@ -287,7 +287,7 @@ SHARES = (
     ("JSON", re.compile(r"serde_json|\bjson|reply_bodies|_bodies::|swarm_wire|btree")),
     ("heads and routes", re.compile(r"httparse|head|matchit|routes|link_reader|link_writer|swarm_http|http::|memchr|itoa")),
     ("dimensions", re.compile(r"\bdimensions::")),
-    ("the pool", re.compile(r"swarm_machine|pool_rules|pool_index|dim_queue|task_rows|bot_registry|row_changes|pool_queries|pool_changes|content_store|region::|block_list|placed_list")),
+    ("the pool", re.compile(r"swarm_machine|pool_log|pool_rules|pool_index|dim_queue|task_rows|bot_registry|row_changes|pool_queries|pool_changes|content_store|region::|block_list|placed_list")),
     ("checks and copies of a task", re.compile(r"task_checks|task_props|swarm_model")),
     ("SHA-256", re.compile(r"sha2")),
 )
