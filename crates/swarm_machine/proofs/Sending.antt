@@ -64,5 +64,5 @@ entry_send = search (kind_send, single.crosses, maps.crosses, sendable) depth 60
 indexed_rows_send : IsSend IndexedRows.the_row
 indexed_rows_send = search (rows_send, indexes_send, entry_send, single.crosses, maps.crosses, sendable) depth 60 fits 100000
 
-pub pool_send : (g : _) → IsSend (LoggedPool.the_row IndexedRows.the_row g)
-pool_send g = search (indexed_rows_send, entry_send, single.crosses, maps.crosses, sendable) depth 60 fits 100000
+pub pool_send : (own : _) (queries : _) → IsSend (LoggedPool.the_row IndexedRows.the_row own queries)
+pool_send own queries = search (indexed_rows_send, entry_send, single.crosses, maps.crosses, sendable) depth 60 fits 100000

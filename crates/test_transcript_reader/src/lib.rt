@@ -94,4 +94,4 @@ pub use comparison::{
 pub use conversation::Conversation;
 pub use error::{TextFault, TranscriptError};
 pub use reader::read;
-pub use test_transcript_reader::{File, Pieces, Reply, Transcript};
+pub use transcript::{File, Pieces, Reply, Transcript};

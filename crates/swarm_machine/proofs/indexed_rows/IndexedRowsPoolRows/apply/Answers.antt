@@ -9,7 +9,7 @@ use Rattle.pool_laws.proofs.Sound.{sound_after}
 use Rattle.pool_changes.proofs.Growing.{placed_below, brought_is}
 use Rattle.pool_log.specs.Reached.{MayComeNext}
 use Rattle.pool_log.specs.Plain.{RowsState}
-use Rattle.pool_log.proofs.Reached.{sound_before, room_before, reached_after}
+use Rattle.pool_log.proofs.Reached.{room_before, reached_after}
 use Rattle.swarm_machine.specs.Inside.{state_of}
 use Rattle.swarm_machine.proofs.Committing.{made_for}
 use Rattle.swarm_machine.proofs.Holding.{kept_sound, few_tasks, few_uses}
