@@ -70,7 +70,7 @@ pub(crate) fn task_of<'a, L: Ledger>(
 }
 
 /// The last of the first tasks that is in the state, or of all where none is named.
-#[tactic(auto, using(crate::proofs::Finding::find_last))]
+#[tactic(auto, using(pool_log::proofs::Finding::find_last))]
 fn newest<'a, L: Ledger>(
     tasks: &'a TaskRows,
     count: usize,
