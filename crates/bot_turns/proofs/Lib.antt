@@ -4,5 +4,6 @@ pub mod UploadLemmas
 pub mod TrimLemmas
 pub mod StepLemmas
 pub mod EventLemmas
+pub mod PrepareLemmas
 pub mod TurnHands
 pub mod RunLemmas
