@@ -1,5 +1,6 @@
 -- A pool can be sent to another thread, since its parts can.
-use denote.Param.Send.{IsSend, sendable}
+use denote.Param.Send.{IsSend, sendable, view_send, recorded_send, struct_send}
+use denote.Struct.Declared.{shape}
 use Rattle.std.proofs.Crossing as single
 use Rattle.std.proofs.MapsCrossing as maps
 use Rattle.dimensions.specs.contracts.bot_dims.BotDims as BotDims
@@ -16,6 +17,7 @@ use Rattle.swarm_model.specs.contracts.entry.EntryKind as EntryKind
 use Rattle.swarm_model.specs.contracts.task_row.TaskRow as TaskRow
 use Rattle.pool_log.specs.contracts.logged_pool.LoggedPool as LoggedPool
 use Rattle.swarm_machine.specs.contracts.indexed_rows.IndexedRows as IndexedRows
+use Rattle.swarm_machine.specs.contracts.indexed_rows.IndexedRows.TheInside as inside
 use Rattle.swarm_machine.specs.contracts.indexes.Indexes as Indexes
 use Rattle.swarm_machine.specs.contracts.rows.Rows as Rows
 
@@ -61,8 +63,15 @@ kind_send = search (text_send, bot_dims_send, last_send, new_task_send, single.c
 entry_send : IsSend Entry.the_field.row
 entry_send = search (kind_send, single.crosses, maps.crosses, sendable) depth 60 fits 100000
 
+-- field by field: one search for all of them breaks off
+inside_send : IsSend inside.the_row
+inside_send =
+    recorded_send inside.the_field.row _ _ inside.the_type.to_one
+    (struct_send (shape inside.the_type)
+     (search (sendable, single.crosses), (rows_send, (indexes_send, (search (single.crosses, maps.crosses, sendable) depth 60 fits 100000, tt)))))
+
 indexed_rows_send : IsSend IndexedRows.the_row
-indexed_rows_send = search (rows_send, indexes_send, entry_send, single.crosses, maps.crosses, sendable) depth 60 fits 100000
+indexed_rows_send = view_send _ _ _ _ _ inside_send
 
 pub pool_send : (own : _) (queries : _) → IsSend (LoggedPool.the_row IndexedRows.the_row own queries)
 pool_send own queries = search (indexed_rows_send, entry_send, single.crosses, maps.crosses, sendable) depth 60 fits 100000
