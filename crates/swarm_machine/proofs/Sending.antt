@@ -68,7 +68,7 @@ inside_send : IsSend inside.the_row
 inside_send =
     recorded_send inside.the_field.row _ _ inside.the_type.to_one
     (struct_send (shape inside.the_type)
-     (search (sendable, single.crosses), (rows_send, (indexes_send, (search (single.crosses, maps.crosses, sendable) depth 60 fits 100000, tt)))))
+    (search (sendable, single.crosses), (rows_send, (indexes_send, (search (single.crosses, maps.crosses, sendable) depth 60 fits 100000, tt)))))
 
 indexed_rows_send : IsSend IndexedRows.the_row
 indexed_rows_send = view_send _ _ _ _ _ inside_send
