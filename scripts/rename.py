@@ -249,7 +249,8 @@ def crate_in(path, text, rule):
         kind = kind_of(path)
         if path == "crates.txt":
             made = re.sub(rf"(?m)(?<!\w){old}(?!\w)", new, made)
-        elif kind in ("rust", "edit"):
+        elif kind in ("rust", "edit") and not path.startswith((f"crates/{old}/", f"crates/{new}/")):
+            # (in the crate itself the word is a module, as no path begins with the name of its own crate)
             outer = rf"(?<![\w:]){old}(?=::)"
             made = map_code(made, kind, lambda code: re.sub(outer, new, code),
                             lambda quoted: f"`{new}`" if quoted == f"`{old}`" else quoted)
