@@ -22,13 +22,13 @@ use std::alloc::{AllocError, Global};
 use task_props::{Cache, NewTask, Properties, Slice};
 
 /// The pairs of dimensions that break no rule.
-fn read_dimensions(alloc: Global, pairs: &[(Text, Text)]) -> Result<DimSet, AllocError>
-    requires { broken_dimensions pairs.now ≡ None }
-    ensures value { IfOk result (λ set. set ≡ sorted_pairs pairs.now) }
+fn read_dimensions(pairs: Seq<(Text, Text)>) -> Result<DimSet, AllocError>
+    requires { broken_dimensions pairs ≡ None }
+    ensures value { IfOk result (λ set. set ≡ sorted_pairs pairs) }
     ensures checked { IfOk result (λ set. are_checked set ≡ true) }
 {
     // No rule is broken, so only memory can be missing.
-    match DimSet::read(alloc, pairs) {
+    match DimSet::read(pairs) {
         Ok(dimensions) => Ok(dimensions),
         Err(_) => Err(AllocError),
     }
@@ -64,11 +64,10 @@ fn read_properties(alloc: Global, raw: RawProperties) -> Result<Properties, Allo
     ensures value { IfOk result (λ properties. properties ≡ properties_of raw) }
     ensures checked { IfOk result (λ properties. are_checked properties.dimensions ≡ true) }
 {
-    let dimensions = read_dimensions(alloc, raw.dimensions.as_slice())?;
     Ok(Properties {
         command: raw.command,
         env: sorted_env(raw.env)?,
-        dimensions,
+        dimensions: read_dimensions(raw.dimensions)?,
         caches: sorted_caches(raw.caches)?,
         inputs: read_inputs(alloc, raw.inputs)?,
         outputs: sorted_outputs(raw.outputs)?,
