@@ -68,8 +68,8 @@ fn dims_fault(alloc: Global, rule: DimRule, place: u32) -> PropFault
 }
 
 #[tactic(auto, unfolding(crate::specs::BotFields::dims_of))]
-fn read_dims(alloc: Global, name: &str, pairs: &[(Text, Seq<Text>)]) -> Result<BotDims, PropFault>
-    ensures exact { Reads result (dims_of name.now pairs.now) }
+fn read_dims(alloc: Global, name: &str, pairs: Seq<(Text, Seq<Text>)>) -> Result<BotDims, PropFault>
+    ensures exact { Reads result (dims_of name.now pairs) }
     ensures checked { IfOk result (λ dims. are_bot_checked name.now dims ≡ true) }
 {
     match BotDims::read(alloc, name, pairs) {
@@ -110,7 +110,7 @@ pub(crate) fn check_bot_info(
     ensures checked { IfOk result (λ info. are_bot_checked name.now info.dims ≡ true) }
     ensures short { IfOk result (λ info. length info.quarantined ≤ 256) }
 {
-    let dims = read_dims(alloc, name, raw.pairs.as_slice())?;
+    let dims = read_dims(alloc, name, raw.pairs)?;
     let quarantined = read_quarantined(alloc, raw.quarantined)?;
     Ok(BotInfo { dims, quarantined })
 }
