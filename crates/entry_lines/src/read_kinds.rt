@@ -11,6 +11,7 @@ use dimensions::{BotDims, Text};
 use serde_json::Value;
 use std::alloc::Global;
 use swarm_model::{Chunk, EntryKind, EventKind, Last, Outcome, TaskState};
+use task_props::SharedTask;
 
 #[tactic(auto, unfolding(crate::specs::Kinds::slice_kind_in))]
 fn read_slice(alloc: Global, value: &Value) -> Result<EntryKind, LineFault>
@@ -47,7 +48,7 @@ fn read_new(alloc: Global, value: &Value) -> Result<EntryKind, LineFault>
     let from = read_field::<Option<u32>>(alloc, value, "from")?;
     let uuid = text_or_empty(alloc, read_field::<Option<Text>>(alloc, value, "uuid")?);
     let request_value = value_at(value, "request")?;
-    let request = read_request(alloc, request_value, uuid)?;
+    let request = SharedTask::new(alloc, read_request(alloc, request_value, uuid)?)?;
     let slice = read_field::<u32>(alloc, value, "slice")?;
     let state = read_field::<TaskState>(alloc, value, "state")?;
     let t = read_field::<u32>(alloc, value, "t")?;

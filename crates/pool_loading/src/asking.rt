@@ -9,7 +9,7 @@ use std::alloc::{AllocError, Global};
 use swarm_model::{
     BotRow, Chunk, EntryKind, EventKind, Last, Machine, Request, TaskRow, task_uncounted,
 };
-use task_props::{Digest, NewTask};
+use task_props::{Digest, SharedTask};
 
 /// A request with its caller.
 #[derive(Drop)]
@@ -46,7 +46,7 @@ fn dims_or(new: &Option<BotDims>, old: &BotDims, alloc: Global) -> Result<BotDim
     }
 }
 
-fn new_request(alloc: Global, who: &Text, request: &NewTask) -> Result<EntryRequest, AllocError>
+fn new_request(alloc: Global, who: &Text, request: &SharedTask) -> Result<EntryRequest, AllocError>
     ensures { IfOk result (λ r. as_asked r ≡ record { who = who.now; request = Request.New request.now }) }
 {
     let caller = who.try_copy(alloc)?;

@@ -10,13 +10,13 @@ use pool_queries::{PoolQueries, refusal, reply_only, reply_with_entry};
 use std::alloc::{AllocError, Global};
 use std::sync::ledger::Ledger;
 use swarm_model::{Decision, EntryKind, Reply, Reuse, Rule, Steps, TaskRow, TaskState};
-use task_props::NewTask;
+use task_props::SharedTask;
 
 /// A task that is sent again is told once more, and another under its uuid is refused.
-fn resubmitted(request: &NewTask, task: &TaskRow) -> Decision
+fn resubmitted(request: &SharedTask, task: &TaskRow) -> Decision
     ensures { result ≡ resubmitted request.now task.now }
 {
-    if task.request == *request {
+    if *task.request == **request {
         reply_only(Reply::New {
             task: task.no,
             state: task.state,
@@ -43,7 +43,7 @@ fn new_task_decision<P: PoolQueries>(
     alloc: Global,
     pool: &P,
     who: &Text,
-    request: &NewTask,
+    request: &SharedTask,
     state: TaskState,
     slice: u32,
     from: Option<u32>,
@@ -73,7 +73,7 @@ fn accepted<P: PoolQueries>(
     alloc: Global,
     pool: &P,
     who: &Text,
-    request: &NewTask,
+    request: &SharedTask,
 ) -> Result<Decision, AllocError>
     requires room { length (P.state pool.now).tasks < (P.state pool.now).settings.most_tasks }
     requires few { length request.now.task_slices ≤ 8 }
@@ -97,7 +97,7 @@ fn reuse_outcome<P: PoolQueries>(
     alloc: Global,
     pool: &P,
     who: &Text,
-    request: &NewTask,
+    request: &SharedTask,
     found: Reuse,
 ) -> Result<Decision, AllocError>
     requires { length (P.state pool.now).tasks < (P.state pool.now).settings.most_tasks }
@@ -121,7 +121,7 @@ pub(crate) fn new_task<P: PoolQueries, L: Ledger>(
     pool: &P,
     who: &Text,
     moment: u64,
-    request: &NewTask,
+    request: &SharedTask,
     steps: &mut Steps<L>,
 ) -> Result<Decision, AllocError>
     requires { length request.now.task_slices ≤ 8 }

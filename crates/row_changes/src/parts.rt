@@ -5,7 +5,7 @@ ghost use Rattle.row_changes.specs.Parts.{bot_parts, task_parts};
 use dimensions::{BotDims, Text, TryCopy};
 use std::alloc::{AllocError, Global};
 use swarm_model::{Chunk, EntryKind, Last};
-use task_props::NewTask;
+use task_props::SharedTask;
 
 /// What an entry moves into the row of a task.
 #[derive(Drop)]
@@ -13,7 +13,7 @@ pub enum TaskParts {
     /// The caller and the request of a new task.
     New {
         creator: Text,
-        request: NewTask,
+        request: SharedTask,
     },
     /// The id of a claim.
     Claim(Text),

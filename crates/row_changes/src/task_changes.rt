@@ -8,7 +8,7 @@ use dimensions::Text;
 use reserved_vec::ReservedVec;
 use std::mem;
 use swarm_model::{Attempt, Chunk, Last, Outcome, TaskRow, TaskState};
-use task_props::NewTask;
+use task_props::SharedTask;
 
 impl Row for TaskRow {
     ghost use Rattle.swarm_model.specs.Effects.{no_of_task};
@@ -34,7 +34,7 @@ pub fn new_row(
     moment: u64,
     no: u32,
     creator: Text,
-    request: NewTask,
+    request: SharedTask,
     state: TaskState,
     slice: u32,
     source: Option<u32>,

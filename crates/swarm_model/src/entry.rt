@@ -1,7 +1,7 @@
 use crate::{Chunk, Last, TaskState};
 use dimensions::{BotDims, Text, TryCopy};
 use std::alloc::{AllocError, Global};
-use task_props::{Digest, NewTask};
+use task_props::{Digest, SharedTask};
 
 /// What becomes of a task whose slice has run out.
 #[derive(Clone, Copy, Debug, PartialEq, Eq)]
@@ -46,7 +46,7 @@ pub enum EntryKind {
     New {
         t: u32,
         who: Text,
-        request: NewTask,
+        request: SharedTask,
         state: TaskState,
         slice: u32,
         from: Option<u32>,

@@ -1,12 +1,12 @@
 use crate::{Chunk, EventKind, Last, TaskState};
 use dimensions::{BotDims, Seq, Text};
-use task_props::{Digest, NewTask};
+use task_props::{Digest, SharedTask};
 
 /// A checked request to one pool. A task is named by its number in the pool, and one of its runs
 /// by the number of the try; try 0 names the task itself. A bot is named by its name.
 #[derive(Drop)]
 pub enum Request {
-    New(NewTask),
+    New(SharedTask),
     /// A task isn't wanted any more; `kill` stops its run, too, where it has one.
     Cancel {
         task: u32,

@@ -1,13 +1,13 @@
 use crate::{Attempt, Last, TaskState};
 use dimensions::Text;
-use task_props::{NewTask, Slice};
+use task_props::{SharedTask, Slice};
 
 /// What a pool knows of a task. Tasks are numbered from 1 in the order of their acceptance.
 #[derive(Drop)]
 pub struct TaskRow {
     pub no: u32,
     pub creator: Text,
-    pub request: NewTask,
+    pub request: SharedTask,
     pub created: u64,
     pub state: TaskState,
     /// The place of the slice that the task has come to, from 0.

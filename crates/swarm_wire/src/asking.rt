@@ -18,7 +18,7 @@ use serde_json::Value;
 use std::alloc::Global;
 use swarm_model::{PoolSettings, Request};
 use task_bodies::{read_cancel, read_count, read_list, read_stdout, read_task, read_task_id};
-use task_props::{PropFault, PropRule};
+use task_props::{PropFault, PropRule, SharedTask};
 
 /// The task in a body, asked of the pool of its dimensions.
 #[tactic(auto, unfolding(crate::specs::Asking::new_of))]
@@ -38,7 +38,7 @@ pub(crate) fn ask_new(
     };
     Ok(Asked {
         place,
-        request: Request::New(task),
+        request: Request::New(SharedTask::new(alloc, task)?),
         bytes: Seq::new(alloc),
     })
 }

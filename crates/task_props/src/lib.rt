@@ -18,6 +18,7 @@ mod new_task;
 mod prop_fault;
 mod prop_rule;
 mod properties;
+mod shared_task;
 mod slice;
 mod task_field;
 
@@ -30,5 +31,6 @@ pub use new_task::NewTask;
 pub use prop_fault::PropFault;
 pub use prop_rule::PropRule;
 pub use properties::Properties;
+pub use shared_task::SharedTask;
 pub use slice::Slice;
 pub use task_field::{SliceField, TaskField};
