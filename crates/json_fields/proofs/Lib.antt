@@ -3,3 +3,4 @@ pub mod Numerals
 pub mod IdDigits
 pub mod Arrays
 pub mod Steps
+pub mod LeftFields

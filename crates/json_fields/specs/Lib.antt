@@ -1,6 +1,7 @@
 pub mod Readings
 pub mod Numbers
 pub mod Fields
+pub mod Taken
 pub mod Ranges
 pub mod Pages
 pub mod Ids

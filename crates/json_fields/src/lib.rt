@@ -11,6 +11,11 @@
 //! Lists are read here alone, item by item: of texts ([`read_texts`], [`read_optional_texts`]), and
 //! of objects ([`read_objects`], [`read_optional_objects`]), whose fields a [`ReadFields`] reads.
 //!
+//! Where the object isn't needed any more, the same is taken out of it, so that no text is copied:
+//! [`take_text`], [`take_texts`], [`take_object`], [`take_objects`] by a [`TakeFields`], and their
+//! kin. What is left is the object without that key (`specs/Taken.antt`), in which every other field
+//! is read as before (`proofs/LeftFields.antt`).
+//!
 //! The ids of tasks and of their runs are shown by [`task_id`] and [`run_id`] and read by
 //! [`read_id`] and [`read_run`], and [`id_tells_its_parts`] is the law by which the number of an id
 //! tells the place, the task and the try that it was made of (`specs/Ids.antt`). The number of the
@@ -34,6 +39,8 @@ mod lists;
 mod numbers;
 mod pages;
 mod ranges;
+mod taken;
+mod taken_lists;
 
 pub use body::read_body;
 pub use checks::{CheckItem, check_items};
@@ -51,3 +58,7 @@ pub use keys::unknown_key;
 pub use lists::{ReadFields, read_objects, read_optional_objects, read_optional_texts, read_texts};
 pub use pages::read_limit;
 pub use ranges::read_whole;
+pub use taken::{take_object, take_required_text, take_text};
+pub use taken_lists::{
+    TakeFields, take_objects, take_optional_objects, take_optional_texts, take_texts,
+};
