@@ -10,7 +10,6 @@
 #![tactic(auto)]
 
 mod asking;
-mod bodies;
 mod bots;
 mod canceling;
 mod collecting;
@@ -19,7 +18,9 @@ mod ids;
 mod once;
 mod output;
 mod polls;
+mod post;
 mod printing;
+mod rows;
 mod server;
 mod tasks;
 mod triggering;
@@ -27,6 +28,7 @@ mod triggering;
 pub use bots::list_bots;
 pub use canceling::cancel;
 pub use collecting::collect;
+pub use printing::settings_line;
 pub use server::Server;
 pub use tasks::list_tasks;
 pub use triggering::trigger;
