@@ -62,7 +62,7 @@ pub(crate) fn list_values<T: LineField>(
 fn read_items<T: LineField + Drop>(alloc: Global, items: &[Value]) -> Result<Vec<T>, LineFault>
     ensures { FindsValue (λ v. v.items) result (each T.value_in (map view items.now)) }
 {
-    let mut values = Vec::new(alloc);
+    let mut values = Vec::with_capacity(alloc, items.len())?;
     for item in items {
         values.push(T::from_value(alloc, item)?)?;
     }

@@ -95,8 +95,9 @@ fn read_files(alloc: Global, raw: Seq<RawFile>) -> Result<Seq<File>, AllocError>
     requires sizes { All (λ file. spec_size_rule file.size ≡ None) raw }
     ensures { IfOk result (λ files. files ≡ map file_of raw) }
 {
-    let mut files = Vec::new(alloc);
-    for file in raw.into_vec() {
+    let raw = raw.into_vec();
+    let mut files = Vec::with_capacity(alloc, raw.len())?;
+    for file in raw {
         files.push(read_file(file))?;
     }
     Ok(Seq::from_vec(files))

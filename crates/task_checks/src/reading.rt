@@ -95,8 +95,9 @@ fn read_slices(alloc: Global, raw: Seq<RawSlice>) -> Result<Seq<Slice>, AllocErr
     ensures value { IfOk result (λ slices. slices ≡ map slice_of raw) }
     ensures sound { IfOk result (λ slices. list_all is_sound_slice slices ≡ true) }
 {
-    let mut slices = Vec::new(alloc);
-    for slice in raw.into_vec() {
+    let raw = raw.into_vec();
+    let mut slices = Vec::with_capacity(alloc, raw.len())?;
+    for slice in raw {
         slices.push(read_slice(alloc, slice)?)?;
     }
     Ok(Seq::from_vec(slices))
