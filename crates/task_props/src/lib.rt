@@ -1,11 +1,12 @@
 //! What a task is: its properties, its slices, the request for it, and the rules on their fields.
 //!
-//! Every type here is plain data that contracts see field by field. [`Properties::canonical`] is
-//! the compact JSON of `specs/Canonical.antt`, and [`Properties::hash`] its SHA-256 (FIPS 180-4),
-//! by which a run is known again. `is_checked` of `specs/Checked.antt` says which tasks keep the
-//! rules (`FieldRules`, `ItemRules`, `Paths` and `Slices`): the texts of checked properties are
-//! equal exactly where the properties are. `task_checks` reads a request by these rules.
-//! The crate stands on `dimensions`.
+//! Every type here is plain data that contracts see field by field. [`properties_value`] is the
+//! JSON object that every format of properties has (`specs/Shown.antt`). [`Properties::canonical`]
+//! is the compact JSON of `specs/Canonical.antt`, and [`Properties::hash`] its SHA-256
+//! (FIPS 180-4), by which a run is known again. `is_checked` of `specs/Checked.antt` says which
+//! tasks keep the rules (`FieldRules`, `ItemRules`, `Paths` and `Slices`): the texts of checked
+//! properties are equal exactly where the properties are. `task_checks` reads a request by these
+//! rules. The crate stands on `dimensions`.
 #![tactic(auto)]
 
 mod cache;
@@ -19,6 +20,7 @@ mod prop_fault;
 mod prop_rule;
 mod properties;
 mod shared_task;
+mod shown;
 mod slice;
 mod task_field;
 
@@ -32,5 +34,6 @@ pub use prop_fault::PropFault;
 pub use prop_rule::PropRule;
 pub use properties::Properties;
 pub use shared_task::SharedTask;
+pub use shown::{ListValues, properties_value};
 pub use slice::Slice;
 pub use task_field::{SliceField, TaskField};
