@@ -9,6 +9,7 @@ use Rattle.task_props.specs.declared.file.File.{File}
 use Rattle.task_props.specs.declared.properties.Properties.{Properties}
 use Rattle.task_props.specs.declared.slice.Slice.{Slice}
 use Rattle.task_props.specs.declared.new_task.NewTask.{NewTask}
+use Rattle.task_props.specs.Shown.{later_members, properties_with}
 use Rattle.swarm_model.specs.declared.attempt.Chunk.{Chunk}
 use Rattle.swarm_model.specs.declared.attempt.Last.{Last}
 use Rattle.swarm_model.specs.declared.entry.Outcome.{Outcome}
@@ -16,7 +17,7 @@ use Rattle.swarm_model.specs.declared.entry.Outcome.TheVariants as outcome
 use Rattle.entry_lines.specs.Finding.{whole}
 use Rattle.entry_lines.specs.Lists.{list_data}
 use Rattle.entry_lines.specs.Parts.{IsWord, pair_data, values_data, cache_data, file_data, HoldsFile, chunk_data, HoldsChunk, last_data, HoldsLast, outcome_data, HoldsOutcome}
-use Rattle.entry_lines.specs.Tasks.{later_members, properties_data, HoldsProperties, slice_data, HoldsSlice, request_data, HoldsRequest}
+use Rattle.entry_lines.specs.Tasks.{properties_data, HoldsProperties, slice_data, HoldsSlice, request_data, HoldsRequest}
 use Rattle.entry_lines.proofs.ReadTexts.{ReadsBack, whole_reads, signed_reads, list_reads}
 
 pub word_reads : (n : ℕ) → IsWord n → ReadsBack (whole n)
@@ -81,16 +82,16 @@ cache_reads : (cache : Cache) → ReadsBack (cache_data cache)
 cache_reads cache = record { value = refl; numbers = (tt, (tt, tt)) }
 
 properties_read : (p : Properties) → HoldsProperties p → ReadsBack (properties_data p)
-unfolding properties_data later_members
+unfolding properties_with later_members
 properties_read p h =
     let caches = list_reads cache_data (λ _. ⊤) (λ cache _. cache_reads cache) p.caches (any_all p.caches) in
     let command = texts_read p.command in
     let dimensions = pairs_read p.dimensions in
     let env = pairs_read p.env in
-    let execution = word_reads p.execution_timeout_secs h.0 in
-    let grace = word_reads p.grace_period_secs h.1.0 in
-    let inputs = files_read p.inputs h.1.2 in
-    let io = word_reads p.io_timeout_secs h.1.1 in
+    let execution = word_reads p.execution_timeout_secs h.0.0 in
+    let grace = word_reads p.grace_period_secs h.0.2 in
+    let inputs = files_read p.inputs h.1 in
+    let io = word_reads p.io_timeout_secs h.0.1 in
     let outputs = texts_read p.outputs in
     record {
       value = rw (caches.value, command.value, dimensions.value, env.value, execution.value, grace.value, inputs.value, io.value, outputs.value) refl;

@@ -2,15 +2,17 @@
 use Rattle.std.proofs.Common.{◌≡◌, ℕ, ◌≤◌, ◌^◌, List, [], ◌∷◌, Bool, false, Option, Some, None, refl, arith}
 use Rattle.std.specs.Prelude.{⊤, codes, unwrap_or}
 use Rattle.std.specs.List.{All}
-use Rattle.serde_json.specs.Data.{Data, string, boolean, object, Members, member, no_members, depth, members_depth}
+use Rattle.serde_json.specs.Data.{Data, string, boolean, object, member, no_members, depth}
 use Rattle.serde_json.specs.Find.{as_str, as_bool}
-use Rattle.serde_json.specs.Written.{has_float, members_have_float}
+use Rattle.serde_json.specs.Written.{has_float}
 use Rattle.dimensions.specs.declared.text.Text.{Text}
 use Rattle.task_props.specs.declared.cache.Cache.{Cache}
 use Rattle.task_props.specs.declared.file.File.{File}
 use Rattle.task_props.specs.declared.properties.Properties.{Properties}
 use Rattle.task_props.specs.declared.slice.Slice.{Slice}
 use Rattle.task_props.specs.declared.new_task.NewTask.{NewTask}
+use Rattle.task_props.specs.Shown.{later_members, properties_with, HasWordTimes}
+use Rattle.task_props.proofs.NoFloats.{properties_are_plain}
 use Rattle.entry_lines.specs.Finding.{◌>>=◌, field, whole}
 use Rattle.entry_lines.specs.Lists.{list_data, list_in, list_reads_back, list_has_no_float, list_is_shallow}
 use Rattle.entry_lines.specs.Numbers.{number_reads_back}
@@ -19,24 +21,8 @@ use Rattle.entry_lines.specs.PartLaws.{texts_reads_back, pair_is_shallow, cache_
 
 -- ---- properties
 
--- the members from `grace_period_secs` on
-unfoldable pub later_members : Properties → Members
-later_members p =
-    member (codes "grace_period_secs") (whole p.grace_period_secs)
-    (member (codes "idempotent") (boolean p.idempotent)
-    (member (codes "inputs") (list_data file_data p.inputs)
-    (member (codes "io_timeout_secs") (whole p.io_timeout_secs)
-    (member (codes "outputs") (list_data string p.outputs) no_members))))
-
-unfoldable pub properties_data : Properties → Data
-properties_data p =
-    object
-    (member (codes "caches") (list_data cache_data p.caches)
-    (member (codes "command") (list_data string p.command)
-    (member (codes "dimensions") (list_data pair_data p.dimensions)
-    (member (codes "env") (list_data pair_data p.env)
-    (member (codes "execution_timeout_secs") (whole p.execution_timeout_secs)
-    (later_members p))))))
+abbrev pub properties_data : Properties → Data
+properties_data p = properties_with (list_data cache_data p.caches) (list_data pair_data p.dimensions) (list_data pair_data p.env) (list_data file_data p.inputs) p
 
 unfoldable pub properties_in : Data → Option Properties
 properties_in d = do
@@ -63,11 +49,8 @@ properties_in d = do
     idempotent = idempotent;
   })
 
-abbrev pub HoldsLaterMembers : Properties → Type 0
-HoldsLaterMembers p = IsWord p.grace_period_secs × IsWord p.io_timeout_secs × All HoldsFile p.inputs
-
 abbrev pub HoldsProperties : Properties → Type 0
-HoldsProperties p = IsWord p.execution_timeout_secs × HoldsLaterMembers p
+HoldsProperties p = HasWordTimes p × All HoldsFile p.inputs
 
 -- ---- slices
 
@@ -137,41 +120,31 @@ files_reads_back : (files : List File) → All HoldsFile files → list_in file_
 files_reads_back files h = list_reads_back file_data file_in HoldsFile file_reads_back files h
 
 pub properties_reads_back : (p : Properties) → HoldsProperties p → properties_in (properties_data p) ≡ Some p
-unfolding properties_data later_members properties_in
+unfolding properties_with later_members properties_in
 properties_reads_back p h =
     rw (
       caches_reads_back p.caches,
       texts_reads_back p.command,
       pairs_reads_back p.dimensions,
       pairs_reads_back p.env,
-      number_reads_back (2 ^ 32) p.execution_timeout_secs h.0,
-      number_reads_back (2 ^ 32) p.grace_period_secs h.1.0,
-      files_reads_back p.inputs h.1.2,
-      number_reads_back (2 ^ 32) p.io_timeout_secs h.1.1,
+      number_reads_back (2 ^ 32) p.execution_timeout_secs h.0.0,
+      number_reads_back (2 ^ 32) p.grace_period_secs h.0.2,
+      files_reads_back p.inputs h.1,
+      number_reads_back (2 ^ 32) p.io_timeout_secs h.0.1,
       texts_reads_back p.outputs,
     ) refl
 
-last_has_no_float : (p : Properties) → members_have_float (later_members p) ≡ false
-unfolding later_members
-last_has_no_float p = rw (list_has_no_float file_data (λ _. refl) p.inputs, list_has_no_float string (λ _. refl) p.outputs) refl
-
 pub properties_has_no_float : (p : Properties) → has_float (properties_data p) ≡ false
-unfolding properties_data
 properties_has_no_float p =
-    rw (
-      list_has_no_float cache_data (λ _. refl) p.caches,
-      list_has_no_float string (λ _. refl) p.command,
-      list_has_no_float pair_data (λ _. refl) p.dimensions,
-      list_has_no_float pair_data (λ _. refl) p.env,
-      last_has_no_float p,
-    ) refl
-
-last_is_shallow : (p : Properties) → members_depth (later_members p) ≤ 2
-unfolding later_members
-last_is_shallow p = omega (arith, list_is_shallow file_data 1 file_is_shallow p.inputs, list_is_shallow string 0 (λ _. omega arith) p.outputs)
+    properties_are_plain _ _ _ _
+    (list_has_no_float cache_data (λ _. refl) p.caches)
+    (list_has_no_float pair_data (λ _. refl) p.dimensions)
+    (list_has_no_float pair_data (λ _. refl) p.env)
+    (list_has_no_float file_data (λ _. refl) p.inputs)
+    p
 
 pub properties_is_shallow : (p : Properties) → depth (properties_data p) ≤ 3
-unfolding properties_data
+unfolding properties_with later_members
 properties_is_shallow p =
     omega (
       arith,
@@ -179,7 +152,8 @@ properties_is_shallow p =
       list_is_shallow string 0 (λ _. omega arith) p.command,
       list_is_shallow pair_data 1 pair_is_shallow p.dimensions,
       list_is_shallow pair_data 1 pair_is_shallow p.env,
-      last_is_shallow p,
+      list_is_shallow file_data 1 file_is_shallow p.inputs,
+      list_is_shallow string 0 (λ _. omega arith) p.outputs,
     )
 
 pub slice_reads_back : (slice : Slice) → HoldsSlice slice → slice_in (slice_data slice) ≡ Some slice

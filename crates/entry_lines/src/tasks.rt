@@ -1,11 +1,10 @@
 //! The request for a task in a line.
 ghost use Rattle.std.specs.Prelude.{◌≡◌, ⊤, IfOk, OnOk, codes, refl};
-ghost use Rattle.serde_json.specs.Data.{Members};
-ghost use Rattle.serde_json.specs.View.{view, members_view};
+ghost use Rattle.serde_json.specs.View.{view};
 ghost use Rattle.entry_lines.specs.Finding.{Finds};
 ghost use Rattle.entry_lines.specs.Parts.{cache_data, cache_in};
 ghost use Rattle.entry_lines.specs.PartLaws.{cache_is_shallow};
-ghost use Rattle.entry_lines.specs.Tasks.{later_members as spec_later_members, HoldsLaterMembers, properties_data, properties_in, HoldsProperties, slice_data, slice_in, HoldsSlice, request_data, request_in, HoldsRequest};
+ghost use Rattle.entry_lines.specs.Tasks.{properties_data, properties_in, HoldsProperties, slice_data, slice_in, HoldsSlice, request_data, request_in, HoldsRequest};
 ghost use Rattle.entry_lines.specs.Tasks.{properties_reads_back, properties_has_no_float, properties_is_shallow, slice_reads_back, slice_has_no_float, slice_is_shallow};
 
 use crate::LineFault;
@@ -14,7 +13,7 @@ use crate::members::{read_field, with_field};
 use dimensions::{DimSet, Seq, Text};
 use serde_json::{Map, Value};
 use std::alloc::{AllocError, Global};
-use task_props::{Cache, File, NewTask, Properties, Slice};
+use task_props::{Cache, File, ListValues, NewTask, Properties, Slice, properties_value};
 
 /// A cache, as `{"name": NAME, "path": PATH}`.
 impl LineField for Cache {
@@ -45,29 +44,6 @@ impl LineField for Cache {
     ghost within_levels = { cache_is_shallow };
 }
 
-/// The members from `grace_period_secs` on.
-#[tactic(auto, unfolding(crate::specs::Tasks::later_members))]
-fn later_members(alloc: Global, properties: &Properties) -> Result<Map<String, Value>, AllocError>
-    ensures value { IfOk result (λ members. members_view members.entries ≡ spec_later_members properties.now) }
-    ensures holds { OnOk result (HoldsLaterMembers properties.now) }
-{
-    let members = with_field(alloc, Map::new(alloc), "outputs", &properties.outputs)?;
-    let members = with_field(
-        alloc,
-        members,
-        "io_timeout_secs",
-        &properties.io_timeout_secs,
-    )?;
-    let members = with_field(alloc, members, "inputs", &properties.inputs)?;
-    let members = with_field(alloc, members, "idempotent", &properties.idempotent)?;
-    with_field(
-        alloc,
-        members,
-        "grace_period_secs",
-        &properties.grace_period_secs,
-    )
-}
-
 /// An object of the fields by their names.
 impl LineField for Properties {
     ghost data_of = { properties_data };
@@ -78,20 +54,14 @@ impl LineField for Properties {
 
     ghost levels = { 3 };
 
-    #[tactic(auto, unfolding(crate::specs::Tasks::properties_data, crate::specs::Tasks::later_members))]
     fn to_value(&self, alloc: Global) -> Result<Value, AllocError> {
-        let members = later_members(alloc, self)?;
-        let members = with_field(
-            alloc,
-            members,
-            "execution_timeout_secs",
-            &self.execution_timeout_secs,
-        )?;
-        let members = with_field(alloc, members, "env", &self.env)?;
-        let members = with_field(alloc, members, "dimensions", &self.dimensions)?;
-        let members = with_field(alloc, members, "command", &self.command)?;
-        let members = with_field(alloc, members, "caches", &self.caches)?;
-        Ok(Value::Object(members))
+        let lists = ListValues {
+            caches: self.caches.to_value(alloc)?,
+            dimensions: self.dimensions.to_value(alloc)?,
+            env: self.env.to_value(alloc)?,
+            inputs: self.inputs.to_value(alloc)?,
+        };
+        properties_value(alloc, self, lists)
     }
 
     #[tactic(auto, unfolding(crate::specs::Tasks::properties_in))]

@@ -12,10 +12,11 @@ use Rattle.swarm_model.specs.declared.rule.Rule.{Rule}
 use Rattle.swarm_model.specs.declared.rule.Rule.TheVariants as rule
 use Rattle.swarm_model.specs.declared.reply.Reply.{Reply}
 use Rattle.swarm_model.specs.declared.reply.Reply.TheVariants as reply
+use Rattle.task_props.proofs.NoFloats.{properties_are_plain}
 use Rattle.json_values.specs.Values.{whole, signed, or_null}
 use Rattle.reply_bodies.specs.Items.{pair_data, bot_pair_data, cache_data, file_data, blob_data}
 use Rattle.reply_bodies.specs.Views.{run_data, last_members, task_members, task_data, bot_members, bot_data}
-use Rattle.reply_bodies.specs.Commands.{last_properties, properties_members, run_members}
+use Rattle.reply_bodies.specs.Commands.{run_properties, run_members}
 use Rattle.reply_bodies.specs.Refusals.{refusal_members}
 use Rattle.reply_bodies.specs.Bodies.{number_data, reply_members}
 
@@ -101,25 +102,18 @@ bot_is_plain place bot =
 bots_are_plain : (place : ℕ) (bots : List BotView) → items_have_float (items_of (map (bot_data place) bots)) ≡ false
 bots_are_plain place bots = plain_items (bot_data place) (bot_is_plain place) bots
 
-last_properties_are_plain : (properties : Properties) → members_have_float (last_properties properties) ≡ false
-unfolding last_properties
-last_properties_are_plain properties =
-    rw (files_are_plain properties.inputs, plain_items string (λ _. refl) properties.outputs) refl
-
-properties_are_plain : (properties : Properties) → members_have_float (properties_members properties) ≡ false
-unfolding properties_members
-properties_are_plain properties =
-    rw (
-      plain_items cache_data (λ _. refl) properties.caches,
-      plain_items string (λ _. refl) properties.command,
-      plain_items pair_data (λ _. refl) properties.dimensions,
-      plain_items pair_data (λ _. refl) properties.env,
-      last_properties_are_plain properties,
-    ) refl
+run_properties_are_plain : (p : Properties) → has_float (run_properties p) ≡ false
+run_properties_are_plain p =
+    properties_are_plain _ _ _ _
+    (plain_items cache_data (λ _. refl) p.caches)
+    (plain_items pair_data (λ _. refl) p.dimensions)
+    (plain_items pair_data (λ _. refl) p.env)
+    (files_are_plain p.inputs)
+    p
 
 run_is_plain : (place : ℕ) (run : ℕ × ℕ) (slice tolerance : ℕ) (properties : Properties) → members_have_float (run_members place run slice tolerance properties) ≡ false
 unfolding run_members
-run_is_plain place run slice tolerance properties = rw (properties_are_plain properties) refl
+run_is_plain place run slice tolerance properties = rw (run_properties_are_plain properties) refl
 
 reply_are_plain : (place : ℕ) (r : Reply) (pieces : List (List ℕ)) → members_have_float (reply_members place r pieces) ≡ false
 reply_are_plain place (reply.New task state) pieces = refl

@@ -1,53 +1,30 @@
 //! What a bot is told to do.
 ghost use Rattle.std.specs.Prelude.{◌≡◌, ◌<◌, IfOk};
-ghost use Rattle.serde_json.specs.View.{members_view};
-ghost use Rattle.reply_bodies.specs.Commands.{last_properties as spec_last_properties, properties_members as spec_properties_members, run_members as spec_run_members};
+ghost use Rattle.serde_json.specs.View.{view, members_view};
+ghost use Rattle.reply_bodies.specs.Commands.{run_properties as spec_run_properties, run_members as spec_run_members};
 
-use crate::items::{Caches, Files, Pairs, Texts};
+use crate::items::{Caches, Files, Pairs};
 use crate::views::with_run_id;
-use json_values::{with, with_flag, with_list, with_text, with_whole};
+use json_values::{list_value, with, with_text, with_whole};
 use serde_json::{Map, Value};
 use std::alloc::{AllocError, Global};
-use task_props::Properties;
+use task_props::{ListValues, Properties, properties_value};
 
-// The keys are put in falling order, each before all others.
-
-#[tactic(auto, unfolding(crate::specs::Commands::last_properties))]
-fn last_properties(alloc: Global, properties: &Properties) -> Result<Map<String, Value>, AllocError>
-    ensures { IfOk result (λ members. members_view members.entries ≡ spec_last_properties properties.now) }
+/// The object whose lists hold objects.
+fn run_properties(alloc: Global, properties: &Properties) -> Result<Value, AllocError>
+    ensures { IfOk result (λ value. view value ≡ spec_run_properties properties.now) }
 {
-    let items = properties.outputs.as_slice();
-    let members = with_list(alloc, Map::new(alloc), "outputs", &Texts, items)?;
-    let secs = u64::from(properties.io_timeout_secs);
-    let members = with_whole(alloc, members, "io_timeout_secs", secs)?;
-    let items = properties.inputs.as_slice();
-    let members = with_list(alloc, members, "inputs", &Files, items)?;
-    let members = with_flag(alloc, members, "idempotent", properties.idempotent)?;
-    let secs = u64::from(properties.grace_period_secs);
-    with_whole(alloc, members, "grace_period_secs", secs)
+    let lists = ListValues {
+        caches: list_value(alloc, &Caches, properties.caches.as_slice())?,
+        dimensions: list_value(alloc, &Pairs, properties.dimensions.pairs())?,
+        env: list_value(alloc, &Pairs, properties.env.as_slice())?,
+        inputs: list_value(alloc, &Files, properties.inputs.as_slice())?,
+    };
+    properties_value(alloc, properties, lists)
 }
 
-#[tactic(auto, unfolding(crate::specs::Commands::properties_members, crate::specs::Commands::last_properties))]
-fn properties_members(
-    alloc: Global,
-    properties: &Properties,
-) -> Result<Map<String, Value>, AllocError>
-    ensures { IfOk result (λ members. members_view members.entries ≡ spec_properties_members properties.now) }
-{
-    let members = last_properties(alloc, properties)?;
-    let secs = u64::from(properties.execution_timeout_secs);
-    let members = with_whole(alloc, members, "execution_timeout_secs", secs)?;
-    let items = properties.env.as_slice();
-    let members = with_list(alloc, members, "env", &Pairs, items)?;
-    let items = properties.dimensions.pairs();
-    let members = with_list(alloc, members, "dimensions", &Pairs, items)?;
-    let items = properties.command.as_slice();
-    let members = with_list(alloc, members, "command", &Texts, items)?;
-    let items = properties.caches.as_slice();
-    with_list(alloc, members, "caches", &Caches, items)
-}
-
-/// A run of a task of the pool at a place.
+/// A run of a task of the pool at a place. The keys are put in falling order, each before all
+/// others.
 #[tactic(auto, unfolding(crate::specs::Commands::run_members))]
 pub(crate) fn run_members(
     alloc: Global,
@@ -62,7 +39,7 @@ pub(crate) fn run_members(
 {
     let members = with_whole(alloc, Map::new(alloc), "slice", u64::from(slice))?;
     let members = with_run_id(alloc, members, "run_id", place, run)?;
-    let properties = Value::Object(properties_members(alloc, properties)?);
+    let properties = run_properties(alloc, properties)?;
     let members = with(alloc, members, "properties", properties)?;
     let members = with_text(alloc, members, "cmd", "run")?;
     let tolerance = u64::from(tolerance);

@@ -3,11 +3,12 @@ use Rattle.std.proofs.Common.{◌≡◌, length, refl, ap, ◌∙◌}
 use Rattle.std.specs.Fmt.{digits}
 use Rattle.sha2.specs.Sha256.{compress, digest_bytes, first_words, hash_after, rounds, schedule, sha256}
 use Rattle.serde_json.proofs.OnLiterals.{serde_json_on_literals}
-use Rattle.task_props.specs.Canonical.{canonical, canonical_data, last_members, hash}
+use Rattle.task_props.specs.Canonical.{canonical, hash}
+use Rattle.task_props.specs.Shown.{later_members, properties_with}
 use Rattle.task_props.specs.Examples.{small, small_text, small_hash}
 
 pub canonical_small : canonical small ≡ small_text
-unfolding serde_json_on_literals digits canonical canonical_data last_members
+unfolding serde_json_on_literals digits canonical properties_with later_members
 canonical_small = refl
 
 pub length-small : length (canonical small) ≡ 189

@@ -14,7 +14,8 @@ use Rattle.serde_json.specs.Written.{outline}
 use Rattle.task_props.specs.declared.cache.Cache.{Cache}
 use Rattle.task_props.specs.declared.file.File.{File}
 use Rattle.task_props.specs.declared.properties.Properties.{Properties}
-use Rattle.task_props.specs.Canonical.{pair_data, cache_data, input_data, last_members, canonical_data, canonical, HasByteDigests, HasWords, CanonicalTells}
+use Rattle.task_props.specs.Canonical.{pair_data, cache_data, input_data, canonical_data, canonical, HasByteDigests, HasWords, CanonicalTells}
+use Rattle.task_props.specs.Shown.{later_members, properties_with}
 use Rattle.task_props.proofs.Outlines.{text_tells, list_tells, list_has_numbers, list_depth}
 
 -- ---- what each item tells
@@ -69,10 +70,10 @@ AnyAll : {A : Type 0} (xs : List A) → All (λ _. ⊤) xs
 AnyAll xs k d low = tt
 
 files : (p : Properties) → HasByteDigests p → HasWords p → All IsFile p.inputs
-files p digests words k d low = (digests k d low, words.3 k d low)
+files p digests words k d low = (digests k d low, words.1 k d low)
 
 has_numbers : (p : Properties) → HasByteDigests p → HasWords p → HasNumbers (outline (canonical_data p))
-unfolding canonical_data last_members
+unfolding properties_with later_members
 has_numbers p digests words =
     let caches = list_has_numbers cache_data (λ _. ⊤) (λ _ _. (tt, (tt, tt))) p.caches (AnyAll p.caches) in
     let command = list_has_numbers string (λ _. ⊤) (λ _ _. tt) p.command (AnyAll p.command) in
@@ -80,13 +81,13 @@ has_numbers p digests words =
     let env = list_has_numbers pair_data (λ _. ⊤) (λ _ _. (tt, (tt, tt))) p.env (AnyAll p.env) in
     let inputs = list_has_numbers input_data IsFile (λ file h. (tt, (tt, (word_number file.size h.1, tt)))) p.inputs (files p digests words) in
     let outputs = list_has_numbers string (λ _. ⊤) (λ _ _. tt) p.outputs (AnyAll p.outputs) in
-    let execution = word_number p.execution_timeout_secs words.0 in
-    let io = word_number p.io_timeout_secs words.1 in
-    let grace = word_number p.grace_period_secs words.2 in
+    let execution = word_number p.execution_timeout_secs words.0.0 in
+    let io = word_number p.io_timeout_secs words.0.1 in
+    let grace = word_number p.grace_period_secs words.0.2 in
     (caches, (command, (dimensions, (env, (execution, (grace, (tt, (inputs, (io, (outputs, tt))))))))))
 
 is_shallow : (p : Properties) → depth (outline (canonical_data p)) ≤ json.max_depth
-unfolding canonical_data last_members
+unfolding properties_with later_members
 is_shallow p =
     omega (
       arith,
@@ -169,7 +170,7 @@ same_fields a b command env dimensions caches inputs outputs execution io grace 
     same
 
 fields_tell : (a b : Properties) → HasByteDigests a → HasByteDigests b → HasWords a → HasWords b → outline (canonical_data a) ≡ outline (canonical_data b) → a ≡ b
-unfolding canonical_data last_members
+unfolding properties_with later_members
 fields_tell a b a_digests b_digests a_words b_words e =
     same_fields a b
     (list_tells string (λ _. ⊤) (λ x y _ _. ap text_in) a.command b.command (AnyAll a.command) (AnyAll b.command) (ap (λ j. items_in (part 1 j)) e))
@@ -178,9 +179,9 @@ fields_tell a b a_digests b_digests a_words b_words e =
     (list_tells cache_data (λ _. ⊤) (λ x y _ _. cache_tells x y) a.caches b.caches (AnyAll a.caches) (AnyAll b.caches) (ap (λ j. items_in (part 0 j)) e))
     (list_tells input_data IsFile input_tells a.inputs b.inputs (files a a_digests a_words) (files b b_digests b_words) (ap (λ j. items_in (part 7 j)) e))
     (list_tells string (λ _. ⊤) (λ x y _ _. ap text_in) a.outputs b.outputs (AnyAll a.outputs) (AnyAll b.outputs) (ap (λ j. items_in (part 9 j)) e))
-    (whole_tells a.execution_timeout_secs b.execution_timeout_secs a_words.0 b_words.0 (ap (λ j. text_in (part 4 j)) e))
-    (whole_tells a.io_timeout_secs b.io_timeout_secs a_words.1 b_words.1 (ap (λ j. text_in (part 8 j)) e))
-    (whole_tells a.grace_period_secs b.grace_period_secs a_words.2 b_words.2 (ap (λ j. text_in (part 5 j)) e))
+    (whole_tells a.execution_timeout_secs b.execution_timeout_secs a_words.0.0 b_words.0.0 (ap (λ j. text_in (part 4 j)) e))
+    (whole_tells a.io_timeout_secs b.io_timeout_secs a_words.0.1 b_words.0.1 (ap (λ j. text_in (part 8 j)) e))
+    (whole_tells a.grace_period_secs b.grace_period_secs a_words.0.2 b_words.0.2 (ap (λ j. text_in (part 5 j)) e))
     (ap (λ j. flag_in (part 6 j)) e)
 
 pub canonical_tells : CanonicalTells

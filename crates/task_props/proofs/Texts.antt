@@ -55,7 +55,7 @@ words p h =
     let io = below 604800 p.io_timeout_secs rest.0 in
     let grace = below 3600 p.grace_period_secs rest.1 in
     let sizes = All-weaker (λ file. is_file file ≡ true) (λ file. file.size < 2 ^ 32) size_fits p.inputs (AllPass-from_list_all is_file p.inputs (are_files p h)) in
-    (omega arith, omega arith, omega arith, sizes)
+    ((omega arith, omega arith, omega arith), sizes)
 
 pub have_one_text_each : HaveOneTextEach
 have_one_text_each a b a_sound b_sound =

@@ -1,8 +1,8 @@
 -- The canonical text of properties: compact JSON, the keys in order of bytes, and its hash.
-use Rattle.std.specs.Prelude.{◌≡◌, ℕ, ◌<◌, ◌^◌, List, [], ◌∷◌, codes}
+use Rattle.std.specs.Prelude.{◌≡◌, ℕ, ◌<◌, ◌^◌, List, [], ◌∷◌}
 use Rattle.std.specs.List.{All}
 use Rattle.hex.specs.Hex.{encode_lower}
-use Rattle.serde_json.specs.Data.{Data, boolean, string, array, object, Members, member, no_members}
+use Rattle.serde_json.specs.Data.{Data, string, array}
 use Rattle.serde_json.specs.View.{items_of}
 use Rattle.serde_json.specs.Written.{compact_text}
 use Rattle.json_values.specs.Values.{whole, list_data}
@@ -10,6 +10,7 @@ use Rattle.sha2.specs.Sha256.{sha256}
 use Rattle.task_props.specs.declared.cache.Cache.{Cache}
 use Rattle.task_props.specs.declared.file.File.{File}
 use Rattle.task_props.specs.declared.properties.Properties.{Properties}
+use Rattle.task_props.specs.Shown.{properties_with, HasWordTimes}
 
 -- [key, value]
 abbrev pub pair_data : List ℕ × List ℕ → Data
@@ -23,26 +24,8 @@ cache_data cache = array (items_of (string cache.name ∷ string cache.path ∷ 
 abbrev pub input_data : File → Data
 input_data file = array (items_of (string file.path ∷ string (encode_lower file.digest) ∷ whole file.size ∷ []))
 
--- the members from `grace_period_secs` on
-unfoldable pub last_members : Properties → Members
-last_members p =
-    member (codes "grace_period_secs") (whole p.grace_period_secs)
-    (member (codes "idempotent") (boolean p.idempotent)
-    (member (codes "inputs") (list_data input_data p.inputs)
-    (member (codes "io_timeout_secs") (whole p.io_timeout_secs)
-    (member (codes "outputs") (list_data string p.outputs) no_members))))
-
-abbrev pub canonical_members : Properties → Members
-canonical_members p =
-    member (codes "caches") (list_data cache_data p.caches)
-    (member (codes "command") (list_data string p.command)
-    (member (codes "dimensions") (list_data pair_data p.dimensions)
-    (member (codes "env") (list_data pair_data p.env)
-    (member (codes "execution_timeout_secs") (whole p.execution_timeout_secs)
-    (last_members p)))))
-
-unfoldable pub canonical_data : Properties → Data
-canonical_data p = object (canonical_members p)
+abbrev pub canonical_data : Properties → Data
+canonical_data p = properties_with (list_data cache_data p.caches) (list_data pair_data p.dimensions) (list_data pair_data p.env) (list_data input_data p.inputs) p
 
 unfoldable pub canonical : Properties → List ℕ
 canonical p = compact_text (canonical_data p)
@@ -57,11 +40,7 @@ HasByteDigests p = All (λ file. All (λ byte. byte < 256) file.digest) p.inputs
 
 -- the numbers fit their 32 bits
 abbrev pub HasWords : Properties → Type 0
-HasWords p =
-    (p.execution_timeout_secs < 2 ^ 32)
-    × (p.io_timeout_secs < 2 ^ 32)
-    × (p.grace_period_secs < 2 ^ 32)
-    × All (λ file. file.size < 2 ^ 32) p.inputs
+HasWords p = HasWordTimes p × All (λ file. file.size < 2 ^ 32) p.inputs
 
 -- a canonical text is that of one properties alone, among those that the code can hold
 abbrev pub CanonicalTells : Type 0

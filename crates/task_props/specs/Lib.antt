@@ -8,6 +8,7 @@ pub mod Fields
 pub mod ItemRules
 pub mod Paths
 pub mod RuleNames
+pub mod Shown
 pub mod Slices
 pub mod Sorted
 pub mod Texts

@@ -1,11 +1,12 @@
 //! What a task is: its properties, its slices, the request for it, and the rules on their fields.
 //!
-//! Every type here is plain data that contracts see field by field. [`Properties::canonical`] is
-//! the compact JSON of `specs/Canonical.antt`, and [`Properties::hash`] its SHA-256 (FIPS 180-4),
-//! by which a run is known again. `is_checked` of `specs/Checked.antt` says which tasks keep the
-//! rules (`FieldRules`, `ItemRules`, `Paths` and `Slices`): the texts of checked properties are
-//! equal exactly where the properties are. `task_checks` reads a request by these rules.
-//! The crate stands on `dimensions`.
+//! Every type here is plain data that contracts see field by field. [`properties_value`] is the
+//! JSON object that every format of properties has (`specs/Shown.antt`). [`Properties::canonical`]
+//! is the compact JSON of `specs/Canonical.antt`, and [`Properties::hash`] its SHA-256
+//! (FIPS 180-4), by which a run is known again. `is_checked` of `specs/Checked.antt` says which
+//! tasks keep the rules (`FieldRules`, `ItemRules`, `Paths` and `Slices`): the texts of checked
+//! properties are equal exactly where the properties are. `task_checks` reads a request by these
+//! rules. The crate stands on `dimensions`.
 #![tactic(auto)]
 
 mod cache;
@@ -18,6 +19,7 @@ mod new_task;
 mod prop_fault;
 mod prop_rule;
 mod properties;
+mod shown;
 mod slice;
 mod task_field;
 
@@ -30,5 +32,6 @@ pub use new_task::NewTask;
 pub use prop_fault::PropFault;
 pub use prop_rule::PropRule;
 pub use properties::Properties;
+pub use shown::{ListValues, properties_value};
 pub use slice::Slice;
 pub use task_field::{SliceField, TaskField};
