@@ -66,7 +66,7 @@ pub fn group_pairs(
     Ok(Seq::from_vec(list_groups(alloc, pairs)?))
 }
 
-// A key with one value.
+/// A key with one value.
 fn single_group(alloc: Global, key: &str, value: &str) -> Result<(Text, Seq<Text>), AllocError>
     ensures { IfOk result (λ group. group ≡ (key.now, value.now ∷ [])) }
 {

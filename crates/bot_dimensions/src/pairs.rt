@@ -55,7 +55,7 @@ fn is_pair(item: &str) -> bool
     item.bytes().any(|byte| byte == b'=')
 }
 
-// Whether each item of the text is a pair.
+/// Whether each item of the text is a pair.
 fn are_pairs(text: &str) -> bool
     ensures { result ≡ list_all spec_is_pair (items_of text.now) }
 {
@@ -91,7 +91,7 @@ fn has_reserved_key(pairs: &[(Text, Text)]) -> bool
     has_key("pool", pairs) || has_key("id", pairs) || has_key("caches", pairs)
 }
 
-// Whether the server takes a bot of this name and pool with these pairs.
+/// Whether the server takes a bot of this name and pool with these pairs.
 fn are_fitting(
     alloc: Global,
     name: &str,

@@ -12,7 +12,7 @@ use std::alloc::{AllocError, Global};
 
 struct Texts;
 
-// Keys, each with its values.
+/// Keys, each with its values.
 struct Groups;
 
 impl ShowItem for Texts {
@@ -38,7 +38,7 @@ impl ShowItem for Groups {
     }
 }
 
-// The groups, and the names of the caches behind them, where there are any.
+/// The groups, and the names of the caches behind them, where there are any.
 fn with_caches(
     alloc: Global,
     groups: Seq<(Text, Seq<Text>)>,

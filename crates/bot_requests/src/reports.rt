@@ -11,7 +11,7 @@ use serde_json::{Map, Value};
 use std::alloc::{AllocError, Global};
 use task_props::File;
 
-// Files, each by its path, its digest and its size.
+/// Files, each by its path, its digest and its size.
 struct Files;
 
 impl ShowItem for Files {
@@ -43,7 +43,7 @@ fn output_members(
     with(alloc, members, "output", output)
 }
 
-// The report of a run that goes on.
+/// The report of a run that goes on.
 #[tactic(auto, unfolding(crate::specs::Bodies::output_members))]
 fn report_value(
     alloc: Global,
@@ -59,7 +59,7 @@ fn report_value(
     Ok(Value::Object(members))
 }
 
-// The last report of a run.
+/// The last report of a run.
 #[tactic(auto, unfolding(crate::specs::Bodies::output_members))]
 fn last_report_value(
     alloc: Global,

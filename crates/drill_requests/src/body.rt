@@ -6,7 +6,7 @@ use crate::DrillRequest;
 use base64::engine::general_purpose::STANDARD;
 use std::alloc::{AllocError, Global};
 
-// What the run of a cycle's task writes, in base64.
+/// What the run of a cycle's task writes, in base64.
 fn output_of(alloc: Global, cycle: u32) -> Result<String, AllocError>
     ensures { IfOk result (λ text. string_bytes text ≡ output cycle) }
 {

@@ -86,7 +86,7 @@ impl BodyBuffer {
     }
 }
 
-// `front`, with room for `size` bytes in all.
+/// `front`, with room for `size` bytes in all.
 fn reserved(alloc: Global, size: usize, front: &[u8]) -> Result<Vec<u8>, AllocError>
     ensures bytes { IfOk result (λ v. v.items ≡ front.now) }
     ensures room { IfOk result (λ v. size ≤ vec_capacity v) }
@@ -96,8 +96,8 @@ fn reserved(alloc: Global, size: usize, front: &[u8]) -> Result<Vec<u8>, AllocEr
     Ok(bytes)
 }
 
-// Reads once and forgets what came: `most` bytes at most. A function of its own, so that reads
-// into a buffer don't pay for `piece`.
+/// Reads once and forgets what came: `most` bytes at most. A function of its own, so that reads
+/// into a buffer don't pay for `piece`.
 #[cold]
 #[inline(never)]
 fn skip_piece<L: Link>(link: &mut L, most: usize) -> Result<usize, Failed>

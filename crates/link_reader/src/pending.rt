@@ -110,7 +110,7 @@ impl Pending {
     }
 }
 
-// Reads once into what stands behind the first `at` bytes.
+/// Reads once into what stands behind the first `at` bytes.
 pub(crate) fn read_at<L: Link>(bytes: &mut [u8], at: usize, link: &mut L) -> Result<usize, Failed>
     requires room { at < length bytes.old }
     requires clean { IsClean (L.state link.old) }
@@ -120,7 +120,7 @@ pub(crate) fn read_at<L: Link>(bytes: &mut [u8], at: usize, link: &mut L) -> Res
     link.read(&mut bytes[at..])
 }
 
-// Moves the bytes from n to `end` to the front, so that all room is behind them.
+/// Moves the bytes from n to `end` to the front, so that all room is behind them.
 fn shift_front(bytes: &mut [u8], n: usize, end: usize)
     requires order { n ≤ end }
     requires within { end ≤ length bytes.old }

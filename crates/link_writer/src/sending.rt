@@ -43,7 +43,7 @@ pub fn send_flushed<L: Link>(link: &mut L, text: &[u8]) -> Result<(), Failed>
     }
 }
 
-// Writes a text and one behind it, each from where it lies, and flushes them.
+/// Writes a text and one behind it, each from where it lies, and flushes them.
 fn send_apart<L: Link>(link: &mut L, head: &[u8], body: &[u8]) -> Result<(), Failed>
     ensures flushed { OnOk result (IsClean (L.state link.new)) }
     ensures sends { Sends (L.state link.old) (L.state link.new) (head.now ++ body.now) result }

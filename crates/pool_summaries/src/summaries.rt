@@ -25,7 +25,7 @@ fn write_count_line(text: &mut String, state: TaskState, count: u64) -> Result<(
     write!(text, "{name} {count}\n")
 }
 
-// The count of a state.
+/// The count of a state.
 fn count_of(counts: &[u64; 9], state: TaskState) -> u64
     ensures { result ≡ count_at counts.now state }
 {
@@ -41,7 +41,7 @@ fn write_count_lines(text: &mut String, counts: &[u64; 9]) -> Result<(), AllocEr
     Ok(())
 }
 
-// The sum of the counts.
+/// The sum of the counts.
 fn total(counts: &[u64; 9]) -> u64
     requires { sum_by (λ count. count) counts.now < 2 ^ 64 }
     ensures { result ≡ sum_by (λ count. count) counts.now }

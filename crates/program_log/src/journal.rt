@@ -52,7 +52,7 @@ impl<'a, D: Display> Display for Line<'a, D> {
     }
 }
 
-// Writes a text without what would end its line, or do more on a terminal than show.
+/// Writes a text without what would end its line, or do more on a terminal than show.
 struct Plain<'f, W>(&'f mut Formatter<W>);
 
 impl<'f, W> Drop for Plain<'f, W> {

@@ -23,7 +23,7 @@ impl<'a, F: Files + Drop, R: fs::Files, G: Log> LoggedFiles<'a, F, R, G> {
     }
 }
 
-// Reads the beginning of the file at a path.
+/// Reads the beginning of the file at a path.
 fn try_file<R: fs::Files>(disk: &R, path: &str) -> io::Result<usize> {
     let mut first = [0];
     fs::open(disk, path)?.read(&mut first)

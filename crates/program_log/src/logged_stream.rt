@@ -17,7 +17,7 @@ impl<'a, S: Drop, G: Log> LoggedStream<'a, S, G> {
         LoggedStream { log, name, stream }
     }
 
-    // What a call answered.
+    /// What a call answered.
     fn logged<T: Drop>(&self, call: &str, answer: io::Result<T>) -> io::Result<T>
         ensures { result ≡ answer }
     {

@@ -132,7 +132,7 @@ fn over_members(
     with_run_id(alloc, members, "run", place, run)
 }
 
-// What a refusal of the pool at a place tells beside its code.
+/// What a refusal of the pool at a place tells beside its code.
 fn told_members(alloc: Global, place: u32, why: &Rule) -> Result<Map<String, Value>, AllocError>
     requires { place < 4 }
     ensures { IfOk result (λ members. members_view members.entries ≡ spec_told_members place why.now) }

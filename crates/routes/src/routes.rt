@@ -97,7 +97,7 @@ impl Routes {
         }
     }
 
-    // What stands at a target, whatever follows a question mark.
+    /// What stands at a target, whatever follows a question mark.
     fn resource(&self, target: &str) -> Option<Resource>
         ensures { result ≡ resource_in target.now }
     {

@@ -61,7 +61,7 @@ impl MemoryRunner {
         }
     }
 
-    // A call that answers nothing more, and does what the next answer says.
+    /// A call that answers nothing more, and does what the next answer says.
     fn perform(&mut self, call: RunnerCall) -> Result<(), StartFault>
         requires plain { (a : RunnerAnswer) (rest : List RunnerAnswer) → as_answer call a rest ≡ as_done a rest }
         ensures { Performs result (⟦<MemoryRunner as Runner>⟧.state self.old) (⟦<MemoryRunner as Runner>⟧.state self.new) call }
@@ -84,14 +84,14 @@ fn count_fault(faults: &mut u64)
     *faults = faults.saturating_add(1);
 }
 
-// Adds a call, the last one: false where there is no memory for it.
+/// Adds a call, the last one: false where there is no memory for it.
 fn push_call(calls: &mut Vec<RunnerCall>, call: RunnerCall) -> bool
     ensures { calls.new.items ≡ (if result then calls.old.items ++ call ∷ [] else calls.old.items) }
 {
     calls.push(call).is_ok()
 }
 
-// The next answer, to another call than a look.
+/// The next answer, to another call than a look.
 fn next_answer(output: &[u8], at: &mut usize, answers: &mut VecDeque<RunnerAnswer>) -> RunnerAnswer
     requires { at.old ≤ length output.now }
     ensures taken { first_taken unless_output (with_output (drop at.old output.now) answers.old.items) ≡ (result, answers.new.items) }
@@ -107,7 +107,7 @@ fn next_answer(output: &[u8], at: &mut usize, answers: &mut VecDeque<RunnerAnswe
     }
 }
 
-// Takes the next answer, to a call that answers nothing more: true where it is success.
+/// Takes the next answer, to a call that answers nothing more: true where it is success.
 #[tactic(auto, using(crate::proofs::Taking::taken_as_done))]
 fn take_done(output: &[u8], at: &mut usize, answers: &mut VecDeque<RunnerAnswer>) -> bool
     requires { at.old ≤ length output.now }
@@ -120,7 +120,7 @@ fn take_done(output: &[u8], at: &mut usize, answers: &mut VecDeque<RunnerAnswer>
     }
 }
 
-// What `collect` finds by the next answer: none where that is a failure.
+/// What `collect` finds by the next answer: none where that is a failure.
 #[tactic(auto, using(crate::proofs::Taking::taken_as_file))]
 fn next_file(
     output: &[u8],
@@ -138,7 +138,7 @@ fn next_file(
     }
 }
 
-// Shows what is left of an output, as far as there is room.
+/// Shows what is left of an output, as far as there is room.
 fn show(output: &[u8], at: &mut usize, into: &mut [u8]) -> Look
     requires { at.old ≤ length output.now }
     ensures fits { FitsRoom result (length into.new) }

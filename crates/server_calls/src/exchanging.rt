@@ -8,7 +8,7 @@ use routes::Route;
 use std::alloc::Global;
 use sw_base::{Dialer, Link, StartFault};
 
-// Writes the request and reads the reply.
+/// Writes the request and reads the reply.
 fn exchange_over<L: Link>(alloc: Global, link: &mut L, request: &[u8], route: Route) -> Exchanged
     ensures { ExchangesOver route (L.state link.old) (L.state link.new) request.now result }
 {

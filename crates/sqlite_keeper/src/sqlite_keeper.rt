@@ -42,7 +42,7 @@ impl SqliteKeeper {
         }
     }
 
-    // What a call found, where a failure is counted and logged if it is not want of memory.
+    /// What a call found, where a failure is counted and logged if it is not want of memory.
     fn counted<T>(&mut self, call: &str, found: Result<T, Error>) -> Result<T, KeeperFault>
         ensures { Counts false self.old.faults self.new.faults result }
     {
@@ -57,7 +57,7 @@ impl SqliteKeeper {
         }
     }
 
-    // Logs that so many lines are read.
+    /// Logs that so many lines are read.
     fn log_lines(&self, lines: u64, how: &str) {
         let seconds = match &self.begun {
             Some(begun) => match begun.elapsed(&self.log) {

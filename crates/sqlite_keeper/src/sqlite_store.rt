@@ -41,8 +41,8 @@ impl<'a> SqliteStore<'a> {
         }
     }
 
-    // Logs why a file can't be opened. Of what the system answers `sqlite` tells nothing more than that
-    // it can't, so the file is opened once more to see it.
+    /// Logs why a file can't be opened. Of what the system answers `sqlite` tells nothing more than that
+    /// it can't, so the file is opened once more to see it.
     fn log_unopened(&self, path: &str, error: &Error) {
         match error {
             Error::SqliteFailure(ErrorCode::DatabaseBusy) => {
@@ -71,7 +71,7 @@ impl<'a> SqliteStore<'a> {
         }
     }
 
-    // A keeper over the file at a path, which is made where there is none.
+    /// A keeper over the file at a path, which is made where there is none.
     fn open_keeper(&self, path: String) -> Result<SqliteKeeper, StartFault>
         ensures { IfOk result (λ keeper. keeper.faults ≡ 0) }
     {

@@ -30,7 +30,7 @@ impl<R: fs::Files> DiskFiles<R> {
     }
 }
 
-// All that is left of a file, where that is at most so many bytes. It keeps no more of a longer one.
+/// All that is left of a file, where that is at most so many bytes. It keeps no more of a longer one.
 #[tactic(auto, using(crate::proofs::Whole::none_yet, crate::proofs::Whole::one_more, crate::proofs::Whole::none_more, crate::proofs::Whole::all_of_it))]
 fn read_up_to<F: Read>(alloc: Global, file: &mut F, most: u64) -> Result<Vec<u8>, FileFault>
     ensures bound { IfOk result (λ bytes. length bytes.items ≤ most) }
@@ -57,7 +57,7 @@ fn read_up_to<F: Read>(alloc: Global, file: &mut F, most: u64) -> Result<Vec<u8>
     Err(FileFault::Failed)
 }
 
-// The bytes of the file at a path, where there is one.
+/// The bytes of the file at a path, where there is one.
 fn read_file<R: fs::Files>(
     alloc: Global,
     rt: &R,
@@ -77,7 +77,7 @@ fn read_file<R: fs::Files>(
     }
 }
 
-// Writes all the bytes to a file, and syncs it.
+/// Writes all the bytes to a file, and syncs it.
 fn write_synced<F: Write + OpenFile>(file: &mut F, bytes: &[u8]) -> io::Result<()>
     ensures whole { OnOk result (Appends (F.contents file.old) (F.contents file.new) bytes.now) }
 {
@@ -85,13 +85,13 @@ fn write_synced<F: Write + OpenFile>(file: &mut F, bytes: &[u8]) -> io::Result<(
     file.sync_all()
 }
 
-// Makes a file of these bytes at a path, or makes an old one anew.
+/// Makes a file of these bytes at a path, or makes an old one anew.
 fn write_file<R: fs::Files>(rt: &R, path: &str, bytes: &[u8]) -> io::Result<()> {
     let mut file = fs::create(rt, path)?;
     write_synced(&mut file, bytes)
 }
 
-// Puts a file of these bytes at a path, over the path `new`, at which none stays where that fails.
+/// Puts a file of these bytes at a path, over the path `new`, at which none stays where that fails.
 fn replace_file<R: fs::Files>(rt: &R, path: &str, new: &str, bytes: &[u8]) -> io::Result<()> {
     let replaced = match write_file(rt, new, bytes) {
         Ok(()) => fs::rename(rt, new, path),

@@ -7,7 +7,7 @@ use crate::{Dialer, Link, MemoryLink, StartFault};
 use std::alloc::{AllocError, Global};
 use std::collections::VecDeque;
 
-// What the link of a dial gives, a call at most `piece` bytes at a time, and which calls on it fail.
+/// What the link of a dial gives, a call at most `piece` bytes at a time, and which calls on it fail.
 #[derive(Drop)]
 struct Answer {
     bytes: Vec<u8>,

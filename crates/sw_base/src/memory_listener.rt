@@ -70,7 +70,7 @@ impl MemoryListener {
     }
 }
 
-// An acceptor to which nothing comes.
+/// An acceptor to which nothing comes.
 trait Untouched: Acceptor {
     fn untouched(alloc: Global) -> Self
         ensures { Self.state result ≡ untouched [] };
@@ -82,7 +82,7 @@ impl Untouched for MemoryAcceptor {
     }
 }
 
-// The next acceptor that waits, or one to which nothing comes.
+/// The next acceptor that waits, or one to which nothing comes.
 fn next_waiting<A: Untouched + Drop>(alloc: Global, waiting: &mut VecDeque<A>) -> A
     requires given { All (λ a. IsGiven (A.state a)) waiting.old.items }
     ensures first { A.state result ≡ first_of (map A.state waiting.old.items) }
@@ -95,7 +95,7 @@ fn next_waiting<A: Untouched + Drop>(alloc: Global, waiting: &mut VecDeque<A>) -
     }
 }
 
-// So many of them, in order.
+/// So many of them, in order.
 fn next_ones<A: Untouched + Drop>(
     alloc: Global,
     waiting: &mut VecDeque<A>,

@@ -14,7 +14,7 @@ use sw_base::{ConsoleLink, DiskFiles, SystemClock};
 use swarm_cli::run;
 use tcp_links::TcpAll;
 
-// How much is logged, where the environment says it by a word that is known.
+/// How much is logged, where the environment says it by a word that is known.
 fn log_level(rt: &HostRuntime) -> Option<LevelFilter> {
     match env::var(rt, "SWARM_LOG") {
         Ok(word) => match word.as_str() {

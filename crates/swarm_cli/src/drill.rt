@@ -88,7 +88,7 @@ fn print_drill<L: Link, M: Machine>(
     }
 }
 
-// Serves the bytes over a door of these settings.
+/// Serves the bytes over a door of these settings.
 fn drill_over<L: Link>(
     alloc: Global,
     settings: &Settings,
