@@ -94,7 +94,7 @@ LONGEST = 0.5
 SLICE_SECS = 4
 PAUSE = 2
 # What is wanted of the figures: so many times as long at most, bytes at most, and times as many at least.
-MOST_CALL, MOST_CONNECTION, MOST_DEADLINE, MOST_BLOB, MOST_HOLE, MOST_UUID, MOST_MEMORY, LEAST_CLAIMS = 2, 1.5, 1.5, 2, 5, 2, 4096, 20
+MOST_CALL, MOST_CONNECTION, MOST_DEADLINE, MOST_BLOB, MOST_HOLE, MOST_UUID, MOST_MEMORY, LEAST_CLAIMS = 2, 1.5, 1.5, 2, 5, 2, 2600, 20
 # The task of examples/lab.sh, whose input is a file with this text.
 GREETING = b"Hello from the lab.\n"
 GREET = (

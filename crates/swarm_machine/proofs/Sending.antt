@@ -9,7 +9,7 @@ use Rattle.content_store.specs.contracts.blobs.Blobs as Blobs
 use Rattle.bot_registry.specs.contracts.registry.Registry as Registry
 use Rattle.row_changes.specs.contracts.parts.TaskParts as TaskParts
 use Rattle.task_rows.specs.contracts.rows.TaskRows as TaskRows
-use Rattle.task_props.specs.contracts.new_task.NewTask as NewTask
+use Rattle.task_props.proofs.Sending.{shared_task_send}
 use Rattle.swarm_model.specs.contracts.bot_row.BotRow as BotRow
 use Rattle.swarm_model.specs.contracts.attempt.Last as Last
 use Rattle.swarm_model.specs.contracts.entry.Entry as Entry
@@ -21,14 +21,11 @@ use Rattle.swarm_machine.specs.contracts.indexed_rows.IndexedRows.TheInside as i
 use Rattle.swarm_machine.specs.contracts.indexes.Indexes as Indexes
 use Rattle.swarm_machine.specs.contracts.rows.Rows as Rows
 
-new_task_send : IsSend NewTask.the_field.row
-new_task_send = search (single.crosses, maps.crosses, sendable) depth 60 fits 100000
-
 task_row_send : IsSend TaskRow.the_field.row
-task_row_send = search (new_task_send, single.crosses, maps.crosses, sendable) depth 60 fits 100000
+task_row_send = search (shared_task_send, single.crosses, maps.crosses, sendable) depth 60 fits 100000
 
 task_parts_send : IsSend TaskParts.the_field.row
-task_parts_send = search (new_task_send, single.crosses, maps.crosses, sendable) depth 60 fits 100000
+task_parts_send = search (shared_task_send, single.crosses, maps.crosses, sendable) depth 60 fits 100000
 
 task_rows_send : IsSend TaskRows.the_field.row
 task_rows_send = search (task_row_send, task_parts_send, single.crosses, maps.crosses, sendable) depth 60 fits 100000
@@ -58,7 +55,7 @@ last_send : IsSend Last.the_field.row
 last_send = search (single.crosses, maps.crosses, sendable) depth 60 fits 100000
 
 kind_send : IsSend EntryKind.the_field.row
-kind_send = search (text_send, bot_dims_send, last_send, new_task_send, single.crosses, maps.crosses, sendable) depth 60 fits 100000
+kind_send = search (text_send, bot_dims_send, last_send, shared_task_send, single.crosses, maps.crosses, sendable) depth 60 fits 100000
 
 entry_send : IsSend Entry.the_field.row
 entry_send = search (kind_send, single.crosses, maps.crosses, sendable) depth 60 fits 100000

@@ -36,9 +36,10 @@ pub(crate) fn ask_new(
     let Some(place) = pool_place(pools, task.pool()) else {
         return Err(WireFault::NoPool);
     };
+    let shared = SharedTask::new(alloc, task)?;
     Ok(Asked {
         place,
-        request: Request::New(SharedTask::new(alloc, task)?),
+        request: Request::New(shared),
         bytes: Seq::new(alloc),
     })
 }
