@@ -25,10 +25,10 @@ use task_props::{PropFault, PropRule};
 pub(crate) fn ask_new(
     alloc: Global,
     pools: &[PoolSettings],
-    body: &Value,
+    body: Value,
 ) -> Result<Asked, WireFault>
     requires few { length pools.now ≤ 4 }
-    ensures asks { Asks result (new_of pools.now (view body.now)) }
+    ensures asks { Asks result (new_of pools.now (view body)) }
     ensures fits { IfOk result (λ asked. FitsPool pools.now asked) }
     ensures carries { IfOk result CarriesBytes }
 {

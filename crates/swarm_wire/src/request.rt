@@ -56,7 +56,7 @@ fn ask(
 {
     let bytes = body.as_slice();
     match route {
-        Route::NewTask => ask_new(alloc, pools, &object(alloc, bytes)?),
+        Route::NewTask => ask_new(alloc, pools, object(alloc, bytes)?),
         Route::CancelTask => ask_cancel(alloc, pools, &object(alloc, bytes)?),
         Route::GetResult => ask_result(alloc, pools, &object(alloc, bytes)?),
         Route::GetStdout => ask_stdout(alloc, pools, &object(alloc, bytes)?),

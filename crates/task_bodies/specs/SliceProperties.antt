@@ -51,6 +51,9 @@ input_in d = do
 
 -- ---- properties
 
+abbrev pub list_keys : List (List ℕ)
+list_keys = codes "command" ∷ codes "env" ∷ codes "dimensions" ∷ codes "caches" ∷ codes "inputs" ∷ codes "outputs" ∷ []
+
 -- the lists; a command and dimensions must be there
 unfoldable pub lists_in : Data → Result RawLists PropFault
 lists_in d = do

@@ -1,15 +1,16 @@
 //! The properties of a slice in a body.
-ghost use Rattle.std.specs.Prelude.{◌≡◌, option_map};
+ghost use Rattle.std.specs.Prelude.{◌≡◌, IfOk, option_map};
 ghost use Rattle.serde_json.specs.View.{view};
-ghost use Rattle.json_fields.specs.Readings.{Reads};
+ghost use Rattle.json_fields.specs.Readings.{Reads, inside};
 ghost use Rattle.json_fields.specs.Fields.{unknown_key as spec_unknown_key};
-ghost use Rattle.task_bodies.specs.SliceProperties.{pair_in, cache_in, input_in, lists_in, grace_at, times_in, property_keys, properties_in, properties_at};
+ghost use Rattle.json_fields.specs.Taken.{without_all};
+ghost use Rattle.task_bodies.specs.SliceProperties.{pair_in, cache_in, input_in, lists_in, grace_at, times_in, list_keys, property_keys, properties_in, properties_at};
 
 use dimensions::{Seq, Text};
 use json_fields::{
-    ReadFields, below, broken, read_flag, read_number, read_object, read_objects,
-    read_optional_number, read_optional_objects, read_optional_texts, read_required_text,
-    read_text, read_texts, unknown_key,
+    TakeFields, below, broken, read_flag, read_number, read_object, read_optional_number,
+    take_object, take_objects, take_optional_objects, take_optional_texts, take_required_text,
+    take_text, take_texts, unknown_key,
 };
 use serde_json::Value;
 use std::alloc::Global;
@@ -52,16 +53,16 @@ pub(crate) struct RawTimes {
 /// A key with its value.
 struct PairFields;
 
-impl ReadFields for PairFields {
+impl TakeFields for PairFields {
     type Value = (Text, Text);
 
     ghost fields = { pair_in };
 
-    #[tactic(auto, unfolding(crate::specs::SliceProperties::pair_in))]
-    fn read_fields(alloc: Global, pair: &Value) -> Result<(Text, Text), PropFault> {
-        let key = read_text(alloc, pair, "key")?;
-        let value = read_text(alloc, pair, "value")?;
-        match unknown_key(pair, &["key", "value"]) {
+    #[tactic(auto, using(crate::proofs::Keys::pair_stays), unfolding(crate::specs::SliceProperties::pair_in))]
+    fn take_fields(alloc: Global, mut pair: Value) -> Result<(Text, Text), PropFault> {
+        let key = take_text(alloc, &mut pair, "key")?;
+        let value = take_text(alloc, &mut pair, "value")?;
+        match unknown_key(&pair, &["key", "value"]) {
             Some(name) => Err(broken(alloc, name, PropRule::Unknown)),
             None => Ok((key, value)),
         }
@@ -71,16 +72,16 @@ impl ReadFields for PairFields {
 /// A cache by its name, with its path.
 struct CacheFields;
 
-impl ReadFields for CacheFields {
+impl TakeFields for CacheFields {
     type Value = Cache;
 
     ghost fields = { cache_in };
 
-    #[tactic(auto, unfolding(crate::specs::SliceProperties::cache_in))]
-    fn read_fields(alloc: Global, cache: &Value) -> Result<Cache, PropFault> {
-        let name = read_text(alloc, cache, "name")?;
-        let path = read_text(alloc, cache, "path")?;
-        match unknown_key(cache, &["name", "path"]) {
+    #[tactic(auto, using(crate::proofs::Keys::cache_stays), unfolding(crate::specs::SliceProperties::cache_in))]
+    fn take_fields(alloc: Global, mut cache: Value) -> Result<Cache, PropFault> {
+        let name = take_text(alloc, &mut cache, "name")?;
+        let path = take_text(alloc, &mut cache, "path")?;
+        match unknown_key(&cache, &["name", "path"]) {
             Some(key) => Err(broken(alloc, key, PropRule::Unknown)),
             None => Ok(Cache { name, path }),
         }
@@ -90,34 +91,34 @@ impl ReadFields for CacheFields {
 /// A file by its path, with the digest and the size of its content.
 struct InputFields;
 
-impl ReadFields for InputFields {
+impl TakeFields for InputFields {
     type Value = RawFile;
 
     ghost fields = { input_in };
 
-    #[tactic(auto, unfolding(crate::specs::SliceProperties::input_in))]
-    fn read_fields(alloc: Global, input: &Value) -> Result<RawFile, PropFault> {
-        let path = read_text(alloc, input, "path")?;
-        let digest = read_required_text(alloc, input, "digest")?;
-        let size = read_number(alloc, input, "size")?;
-        let digest = Text::from_str(alloc, digest)?;
-        match unknown_key(input, &["path", "digest", "size"]) {
+    #[tactic(auto, using(crate::proofs::Keys::input_stays), unfolding(crate::specs::SliceProperties::input_in))]
+    fn take_fields(alloc: Global, mut input: Value) -> Result<RawFile, PropFault> {
+        let path = take_text(alloc, &mut input, "path")?;
+        let digest = take_required_text(alloc, &mut input, "digest")?;
+        let size = read_number(alloc, &input, "size")?;
+        match unknown_key(&input, &["path", "digest", "size"]) {
             Some(key) => Err(broken(alloc, key, PropRule::Unknown)),
             None => Ok(RawFile { path, digest, size }),
         }
     }
 }
 
-#[tactic(auto, unfolding(crate::specs::SliceProperties::lists_in))]
-fn read_lists(alloc: Global, properties: &Value) -> Result<RawLists, PropFault>
-    ensures { Reads result (lists_in (view properties.now)) }
+#[tactic(auto, using(crate::proofs::Keys::lists_stay), unfolding(crate::specs::SliceProperties::lists_in))]
+fn take_lists(alloc: Global, properties: &mut Value) -> Result<RawLists, PropFault>
+    ensures read { Reads result (lists_in (view properties.old)) }
+    ensures left { IfOk result (λ _. view properties.new ≡ without_all list_keys (view properties.old)) }
 {
-    let command = read_texts(alloc, properties, "command")?;
-    let env = read_optional_objects::<PairFields>(alloc, properties, "env")?;
-    let dimensions = read_objects::<PairFields>(alloc, properties, "dimensions")?;
-    let caches = read_optional_objects::<CacheFields>(alloc, properties, "caches")?;
-    let inputs = read_optional_objects::<InputFields>(alloc, properties, "inputs")?;
-    let outputs = read_optional_texts(alloc, properties, "outputs")?;
+    let command = take_texts(alloc, properties, "command")?;
+    let env = take_optional_objects::<PairFields>(alloc, properties, "env")?;
+    let dimensions = take_objects::<PairFields>(alloc, properties, "dimensions")?;
+    let caches = take_optional_objects::<CacheFields>(alloc, properties, "caches")?;
+    let inputs = take_optional_objects::<InputFields>(alloc, properties, "inputs")?;
+    let outputs = take_optional_texts(alloc, properties, "outputs")?;
     Ok(RawLists {
         command,
         env,
@@ -156,11 +157,11 @@ fn unknown_property(properties: &Value) -> Option<&str>
     unknown_key(properties, &PROPERTY_KEYS)
 }
 
-#[tactic(auto, unfolding(crate::specs::SliceProperties::properties_in))]
-fn read_properties(alloc: Global, properties: &Value) -> Result<RawProperties, PropFault>
-    ensures { Reads result (properties_in (view properties.now)) }
+#[tactic(auto, using(crate::proofs::Keys::properties_stay), unfolding(crate::specs::SliceProperties::properties_in))]
+fn take_properties(alloc: Global, properties: &mut Value) -> Result<RawProperties, PropFault>
+    ensures { Reads result (properties_in (view properties.old)) }
 {
-    let lists = read_lists(alloc, properties)?;
+    let lists = take_lists(alloc, properties)?;
     let times = read_times(alloc, properties)?;
     let idempotent = read_flag(alloc, properties, "idempotent")?;
     match unknown_property(properties) {
@@ -180,7 +181,33 @@ fn read_properties(alloc: Global, properties: &Value) -> Result<RawProperties, P
     }
 }
 
-/// The properties at a key, where they must be, not checked yet.
+fn take_properties_below(
+    alloc: Global,
+    mut properties: Value,
+    key: &str,
+) -> Result<RawProperties, PropFault>
+    ensures { Reads result (inside key.now (properties_in (view properties))) }
+{
+    match take_properties(alloc, &mut properties) {
+        Ok(properties) => Ok(properties),
+        Err(fault) => Err(below(alloc, key, fault)),
+    }
+}
+
+/// The properties at a key, where they must be, not checked yet: they are taken out of the slice.
+#[tactic(auto, unfolding(crate::specs::SliceProperties::properties_at))]
+pub(crate) fn take_properties_at(
+    alloc: Global,
+    mut slice: Value,
+    key: &str,
+) -> Result<RawProperties, PropFault>
+    ensures { Reads result (properties_at key.now (view slice)) }
+{
+    let properties = take_object(alloc, &mut slice, key)?;
+    take_properties_below(alloc, properties, key)
+}
+
+/// The properties at a key, where they must be, not checked yet. They are copied once.
 #[tactic(auto, unfolding(crate::specs::SliceProperties::properties_at))]
 pub fn read_properties_at(
     alloc: Global,
@@ -189,9 +216,6 @@ pub fn read_properties_at(
 ) -> Result<RawProperties, PropFault>
     ensures { Reads result (properties_at key.now (view slice.now)) }
 {
-    let properties = read_object(alloc, slice, key)?;
-    match read_properties(alloc, properties) {
-        Ok(properties) => Ok(properties),
-        Err(fault) => Err(below(alloc, key, fault)),
-    }
+    let properties = read_object(alloc, slice, key)?.clone()?;
+    take_properties_below(alloc, properties, key)
 }

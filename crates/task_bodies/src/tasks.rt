@@ -6,9 +6,9 @@ ghost use Rattle.json_fields.specs.Readings.{Reads};
 ghost use Rattle.json_fields.specs.Fields.{object_item, each_at};
 ghost use Rattle.task_bodies.specs.Tasks.{terms_in, slice_in, fields_of, checked, task_in};
 
-use crate::slice_properties::read_properties_at;
+use crate::slice_properties::take_properties_at;
 use dimensions::Seq;
-use json_fields::{ReadFields, read_flag, read_number, read_objects, read_text};
+use json_fields::{TakeFields, read_flag, read_number, take_objects, take_text};
 use serde_json::Value;
 use std::alloc::Global;
 use task_checks::{RawSlice, RawTask, check_task};
@@ -26,15 +26,15 @@ fn read_terms(alloc: Global, slice: &Value) -> Result<(i128, bool), PropFault>
 /// A slice.
 struct SliceFields;
 
-impl ReadFields for SliceFields {
+impl TakeFields for SliceFields {
     type Value = RawSlice;
 
     ghost fields = { slice_in };
 
     #[tactic(auto, unfolding(crate::specs::Tasks::slice_in))]
-    fn read_fields(alloc: Global, slice: &Value) -> Result<RawSlice, PropFault> {
-        let (expiration_secs, wait_for_capacity) = read_terms(alloc, slice)?;
-        let properties = read_properties_at(alloc, slice, "properties")?;
+    fn take_fields(alloc: Global, slice: Value) -> Result<RawSlice, PropFault> {
+        let (expiration_secs, wait_for_capacity) = read_terms(alloc, &slice)?;
+        let properties = take_properties_at(alloc, slice, "properties")?;
         Ok(RawSlice {
             expiration_secs,
             wait_for_capacity,
@@ -43,21 +43,21 @@ impl ReadFields for SliceFields {
     }
 }
 
-fn read_task_slices(alloc: Global, body: &Value) -> Result<Seq<RawSlice>, PropFault>
-    ensures { Reads result (each_at (object_item slice_in) (codes "task_slices") (view body.now)) }
+fn take_task_slices(alloc: Global, body: &mut Value) -> Result<Seq<RawSlice>, PropFault>
+    ensures { Reads result (each_at (object_item slice_in) (codes "task_slices") (view body.old)) }
 {
-    read_objects::<SliceFields>(alloc, body, "task_slices")
+    take_objects::<SliceFields>(alloc, body, "task_slices")
 }
 
-#[tactic(auto, unfolding(crate::specs::Tasks::fields_of))]
-fn read_task_fields(alloc: Global, body: &Value) -> Result<RawTask, PropFault>
-    ensures { Reads result (fields_of (view body.now)) }
+#[tactic(auto, using(crate::proofs::Keys::task_stays), unfolding(crate::specs::Tasks::fields_of))]
+fn take_task_fields(alloc: Global, body: &mut Value) -> Result<RawTask, PropFault>
+    ensures { Reads result (fields_of (view body.old)) }
 {
-    let name = read_text(alloc, body, "name")?;
+    let name = take_text(alloc, body, "name")?;
     let priority = read_number(alloc, body, "priority")?;
     let bot_ping_tolerance_secs = read_number(alloc, body, "bot_ping_tolerance_secs")?;
-    let request_uuid = read_text(alloc, body, "request_uuid")?;
-    let task_slices = read_task_slices(alloc, body)?;
+    let request_uuid = take_text(alloc, body, "request_uuid")?;
+    let task_slices = take_task_slices(alloc, body)?;
     Ok(RawTask {
         name,
         priority,
@@ -76,12 +76,12 @@ fn check(alloc: Global, raw: RawTask) -> Result<NewTask, PropFault>
 }
 
 /// The task that a body asks for, or the first broken rule: all fields are read before the other
-/// rules are tried.
+/// rules are tried. The texts of the task are those of the body, which are not copied.
 #[tactic(auto, unfolding(crate::specs::Tasks::task_in))]
-pub fn read_task(alloc: Global, body: &Value) -> Result<NewTask, PropFault>
-    ensures exact { Reads result (task_in (view body.now)) }
+pub fn read_task(alloc: Global, mut body: Value) -> Result<NewTask, PropFault>
+    ensures exact { Reads result (task_in (view body)) }
     ensures checked { IfOk result (λ task. is_checked task ≡ true) }
 {
-    let raw = read_task_fields(alloc, body)?;
+    let raw = take_task_fields(alloc, &mut body)?;
     check(alloc, raw)
 }
