@@ -106,7 +106,7 @@ uuid d = text_in-without (codes "request_uuid") (codes "name" ∷ []) d refl
 slices : (d : Data) → list_in (codes "task_slices") (without (codes "request_uuid") (without (codes "name") d)) ≡ list_in (codes "task_slices") d
 slices d = list_in-without (codes "task_slices") (codes "name" ∷ codes "request_uuid" ∷ []) d refl
 
--- What was read of a task by its fields: all of the body, after the name was taken, and after the uuid was.
+-- what was read of a body before the uuid of its task: its name was taken out of it
 pub record IsReadTo (d b : Data) (name : List ℕ) (high long : ℤ) : Type 0 where
   pub left : b ≡ without (codes "name") d
   pub named : text_at (codes "name") d ≡ Ok name
