@@ -6,9 +6,10 @@ ghost use Rattle.entry_lines.specs.Tasks.{uuid_of};
 ghost use Rattle.entry_lines.specs.Kinds.{kind_members as spec_kind_members, kind_name as spec_kind_name, KindFits};
 
 use crate::line_field::LineField;
-use crate::members::{with_field, with_member};
+use crate::members::with_field;
 use crate::tasks::request_value;
 use dimensions::{BotDims, Text, TryCopy};
+use json_values::with;
 use serde_json::{Map, Value};
 use std::alloc::{AllocError, Global};
 use swarm_model::{Chunk, EntryKind, EventKind, Last, TaskState};
@@ -94,7 +95,7 @@ fn new_members(
     let members = with_field(alloc, members, "state", &state)?;
     let members = with_field(alloc, members, "slice", &slice)?;
     let value = request_value(alloc, request)?;
-    let members = with_member(alloc, members, "request", value)?;
+    let members = with(alloc, members, "request", value)?;
     with_field(alloc, members, "from", &from)
 }
 

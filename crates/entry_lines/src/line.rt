@@ -9,9 +9,10 @@ ghost use Rattle.entry_lines.specs.Lines.{line as spec_line, if_line, entry_of_l
 
 use crate::LineFault;
 use crate::kinds::{kind_members, kind_name};
-use crate::members::{read_field, value_at, with_field, with_member};
+use crate::members::{read_field, value_at, with_field};
 use crate::read_kinds::read_kind;
 use dimensions::Text;
+use json_values::with;
 use serde_json::Value;
 use std::alloc::{AllocError, Global};
 use swarm_model::Entry;
@@ -25,7 +26,7 @@ fn entry_value(alloc: Global, entry: &Entry) -> Result<Value, AllocError>
     let members = with_field(alloc, members, "p", &entry.pass)?;
     let members = with_field(alloc, members, "m", &entry.moment)?;
     let name = Value::try_from_str(alloc, kind_name(&entry.kind))?;
-    let members = with_member(alloc, members, "k", name)?;
+    let members = with(alloc, members, "k", name)?;
     Ok(Value::Object(members))
 }
 

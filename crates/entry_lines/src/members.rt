@@ -8,22 +8,9 @@ ghost use Rattle.entry_lines.specs.Finding.{Finds, FindsValue, field};
 
 use crate::LineFault;
 use crate::line_field::LineField;
+use json_values::with;
 use serde_json::{Map, Value};
 use std::alloc::{AllocError, Global};
-
-/// The members and this one, in the order of the keys.
-pub(crate) fn with_member(
-    alloc: Global,
-    members: Map<String, Value>,
-    key: &str,
-    value: Value,
-) -> Result<Map<String, Value>, AllocError>
-    ensures { IfOk result (λ more. members_view more.entries ≡ put key.now (view value) (members_view members.entries)) }
-{
-    let mut members = members;
-    serde_json::put(&mut members, alloc, key, value)?;
-    Ok(members)
-}
 
 /// The members and one for this field, in the order of the keys.
 pub(crate) fn with_field<T: LineField>(
@@ -36,7 +23,7 @@ pub(crate) fn with_field<T: LineField>(
     ensures holds { OnOk result (T.Holds field.now) }
 {
     let value = field.to_value(alloc)?;
-    with_member(alloc, members, key, value)
+    with(alloc, members, key, value)
 }
 
 /// The value of the member at a key.
