@@ -32,7 +32,7 @@ use Rattle.pool_changes.specs.Blobs.{held_in, with_filled, AreBytesOf}
 use Rattle.pool_changes.proofs.Contents.{find_both, find-new, bytes_new, bytes_gone, bytes_filled}
 
 -- two ways to tell what is held are one where they tell the same of each digest
-pub held_by : (a b : HeldBytes) → ((digest : List ℕ) → a digest ≡ b digest) → a ≡ b
+held_by : (a b : HeldBytes) → ((digest : List ℕ) → a digest ≡ b digest) → a ≡ b
 held_by a b same = λ i digest. same digest i
 
 some_of : (o : Option Content) → (test : Content → Bool) → option_map_or test o false ≡ true → (c : Content) × (o ≡ Some c)
@@ -40,7 +40,7 @@ some_of None test is = absurd (cc (is))
 some_of (Some c) test is = (c, refl)
 
 -- bytes that are brought are held where they are those of a name and of its size
-pub filled_bytes : (held : List Content) (digest bytes : List ℕ) (f : Filled) → f ≡ fill_result held digest bytes → (other : List ℕ) →
+filled_bytes : (held : List Content) (digest bytes : List ℕ) (f : Filled) → f ≡ fill_result held digest bytes → (other : List ℕ) →
     bytes_of (held_after_fill f digest bytes held) other ≡ bytes_after_fill f digest bytes (bytes_of held) other
 filled_bytes held digest bytes Unknown is other = refl
 filled_bytes held digest bytes (Differs actual) is other = refl
@@ -54,6 +54,9 @@ filled_bytes held digest bytes Done is other = by_name (same_digest (sha256 byte
         bytes_of (map (filled_with digest bytes) held) other ≡ with_bytes digest bytes (bytes_of held) other
     by_name true e = (let there = sized (is_held_with_size held digest (length bytes)) refl e in bytes_filled held digest bytes there.0 there.1 other)
     by_name false e = absurd (cc (e))
+
+pub held_filled : (held : List Content) (digest bytes : List ℕ) (f : Filled) → f ≡ fill_result held digest bytes → bytes_of (held_after_fill f digest bytes held) ≡ bytes_after_fill f digest bytes (bytes_of held)
+held_filled held digest bytes f is = held_by (bytes_of (held_after_fill f digest bytes held)) (bytes_after_fill f digest bytes (bytes_of held)) (filled_bytes held digest bytes f is)
 
 module _ (rows : List BlobRow) (placed : ℕ) (held : List Content) (stored : AreStored rows placed held) where
   -- a digest is held with a size where a row has it with that size
@@ -188,12 +191,17 @@ held_removed old new number is = ap bytes_of (ap (λ (store : ContentStoreState)
 
 -- ---- what the rows of a pool tell of bytes
 
-module _ (s : PoolState) (held : List Content) (stored : AreStored s.blobs s.placed held) (digest : List ℕ) where
+module _ (blobs : BlobsState) (stored : AreStored blobs.rows blobs.placed blobs.store.held) (s : PoolState) (rows : s.blobs ≡ blobs.rows) (digest : List ℕ) where
+  has_size : (size : ℕ) → is_held_with_size blobs.store.held digest size ≡ has_blob s digest size
+  has_size size =
+      sized_is blobs.rows blobs.placed blobs.store.held stored digest size
+      ∙ ap (λ (list : List BlobRow). option_map_or (λ (row : BlobRow). row.size == size) (blob_of list digest) false) (sym rows)
+
   -- what becomes of bytes that are brought
-  pub filled_is : (bytes : List ℕ) → fill_result held digest bytes ≡ filled s digest bytes
-  filled_is bytes = ap (λ (t : Bool). cond (same_digest (sha256 bytes) digest) (cond t Done Unknown) (Differs (sha256 bytes))) (sized_is s.blobs s.placed held stored digest (length bytes))
+  pub filled_is : (bytes : List ℕ) → fill_result blobs.store.held digest bytes ≡ filled s digest bytes
+  filled_is bytes = ap (λ (t : Bool). cond (same_digest (sha256 bytes) digest) (cond t Done Unknown) (Differs (sha256 bytes))) (has_size (length bytes))
 
   -- the size of those that are lent
-  pub lent_size : (bytes : Option (Bor (List ℕ))) → IfSome bytes (λ b. IsTrue (is_held_with_size held digest (length b.now))) → IfSome bytes (λ b. IsTrue (has_blob s digest (length b.now)))
+  pub lent_size : (bytes : Option (Bor (List ℕ))) → IfSome bytes (λ b. IsTrue (is_held_with_size blobs.store.held digest (length b.now))) → IfSome bytes (λ b. IsTrue (has_blob s digest (length b.now)))
   lent_size None sized = tt
-  lent_size (Some b) sized = sym (sized_is s.blobs s.placed held stored digest (length b.now)) ∙ sized
+  lent_size (Some b) sized = sym (has_size (length b.now)) ∙ sized

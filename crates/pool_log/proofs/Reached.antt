@@ -1,5 +1,5 @@
 -- What is known of a state to which a log leads, and where an entry leads from it.
-use Rattle.std.proofs.Common.{◌≡◌, List, [], ◌∷◌, ◌++◌, IsTrue, refl, subst, sym, ap, ◌∙◌, arith}
+use Rattle.std.proofs.Common.{◌≡◌, List, [], ◌∷◌, ◌++◌, ◌<◌, IsTrue, refl, subst, sym, ap, ◌∙◌, arith}
 use Rattle.swarm_model.specs.declared.pool_settings.PoolSettings.{PoolSettings}
 use Rattle.swarm_model.specs.declared.pool_state.PoolState.{PoolState}
 use Rattle.swarm_model.specs.declared.entry.Entry.{Entry}
@@ -9,7 +9,7 @@ use Rattle.swarm_model.specs.History.{replay, IsLegal, MayFollow, has_room}
 use Rattle.swarm_model.specs.Soundness.{IsSound}
 use Rattle.pool_laws.proofs.Bots.{settings_same}
 use Rattle.pool_laws.proofs.Sound.{sound_always}
-use Rattle.pool_changes.proofs.Growing.{replayed_more}
+use Rattle.pool_changes.proofs.Growing.{placed_below, replayed_more}
 use Rattle.pool_changes.proofs.Legality.{Rooms, rooms, legal_more}
 use Rattle.pool_log.specs.Reached.{IsReplayOf, IsReached, MayComeNext}
 
@@ -52,6 +52,10 @@ module _ (s : PoolState) (entry : Entry) (next : MayComeNext s entry) where
 
   pub room_before : Rooms s.settings next.log entry
   room_before = rooms s.settings next.log entry next.room
+
+  -- fewer blobs were placed than the log may have entries
+  pub few_placed : s.placed < s.settings.most_entries
+  few_placed = placed_below s.settings s next.log next.replay_of.replayed room_before.few
 
   pub reached_after : (new : PoolState) → new ≡ after s entry → IsReached new
   reached_after new changed =

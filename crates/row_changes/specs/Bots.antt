@@ -1,6 +1,8 @@
 -- What an entry does to the rows of the bots, and when a bot counts as dead.
 use Rattle.std.specs.Prelude.{ℕ, Bool, ◌+◌, ◌<◌, List, [], ◌∷◌, ◌++◌, map, Option, Some, None, MatchOption, ⊤, if◌then◌else◌}
-use Rattle.std.specs.Option.{option_map_or}
+use Rattle.std.specs.Option.{option_map, option_map_or}
+use Rattle.swarm_model.specs.declared.task_state.TaskState.TheVariants.{Running}
+use Rattle.swarm_model.specs.declared.task_row.TaskRow.{TaskRow}
 use Rattle.swarm_model.specs.declared.bot_row.BotRow.{BotRow}
 use Rattle.swarm_model.specs.declared.deadline.Cause.TheVariants as cause
 use Rattle.swarm_model.specs.declared.deadline.Deadline.{Deadline}
@@ -8,6 +10,8 @@ use Rattle.swarm_model.specs.declared.entry.EntryKind.{EntryKind}
 use Rattle.swarm_model.specs.declared.entry.EntryKind.TheVariants as kind
 use Rattle.swarm_model.specs.declared.entry.EventKind.{EventKind}
 use Rattle.swarm_model.specs.Numbers.{change_at}
+use Rattle.swarm_model.specs.Finding.{has_state}
+use Rattle.swarm_model.specs.Deadlines.{silence_limit}
 use Rattle.swarm_model.specs.Effects.{no_of_bot, runs_task, silent_bot, bot_after, session_row, polled, event_effect}
 use Rattle.row_changes.specs.declared.parts.BotParts.{BotParts}
 use Rattle.row_changes.specs.declared.parts.BotParts.TheVariants as parts
@@ -46,6 +50,10 @@ with_message moment number which (parts.Message text) rows = map (change_at no_o
 with_message moment number which other rows = rows
 
 -- ---- deadlines
+
+-- the deadline of a task that runs, whose bot is this one
+abbrev pub silence_of : TaskRow → Option BotRow → Option Deadline
+silence_of task runner = if has_state Running task then option_map (silence_limit task) runner else None
 
 -- the deadline of a bot that isn't dead
 abbrev pub death_of : ℕ → BotRow → Option Deadline

@@ -1,9 +1,9 @@
 //! The deadlines of rows.
-ghost use Rattle.std.specs.Prelude.{◌≡◌};
+ghost use Rattle.std.specs.Prelude.{◌≡◌, IfSome};
 ghost use Rattle.std.specs.Option.{option_copied, option_map};
 ghost use Rattle.swarm_model.specs.Deadlines.{slice_limit, slice_end, silence_limit, blob_end};
 ghost use Rattle.row_changes.specs.Rows.{IsEarly, IsHeard};
-ghost use Rattle.row_changes.specs.Bots.{death_of};
+ghost use Rattle.row_changes.specs.Bots.{death_of, silence_of};
 
 use swarm_model::{BlobRow, BotRow, Cause, Deadline, TaskRow, TaskState};
 use task_props::Slice;
@@ -42,7 +42,7 @@ pub fn slice_end(task: &TaskRow) -> Option<Deadline>
 }
 
 /// When the bot that runs a task has been silent for longer than the task tolerates.
-pub fn silence_limit(task: &TaskRow, bot: &BotRow) -> Deadline
+fn silence_limit(task: &TaskRow, bot: &BotRow) -> Deadline
     requires { IsHeard bot.now }
     ensures { result ≡ silence_limit task.now bot.now }
 {
@@ -50,6 +50,20 @@ pub fn silence_limit(task: &TaskRow, bot: &BotRow) -> Deadline
         moment: bot.contact + u64::from(task.request.bot_ping_tolerance_secs),
         cause: Cause::Silence,
         number: task.no,
+    }
+}
+
+/// When a task that runs loses its run, since its bot, which is given, keeps silent.
+pub fn silence_of(task: &TaskRow, runner: Option<&BotRow>) -> Option<Deadline>
+    requires { IfSome (option_copied runner) IsHeard }
+    ensures { result ≡ silence_of task.now (option_copied runner.entry) }
+{
+    if !task.has_state(TaskState::Running) {
+        return None;
+    }
+    match runner {
+        Some(bot) => Some(silence_limit(task, bot)),
+        None => None,
     }
 }
 

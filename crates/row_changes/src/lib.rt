@@ -27,7 +27,7 @@ pub use bot_changes::{
 };
 pub use bots::change_bots;
 pub use changing::{Change, Row, change_row, place_of, row_of};
-pub use deadlines::{blob_end, death_of, silence_limit, slice_end};
+pub use deadlines::{blob_end, death_of, silence_of, slice_end};
 pub use output::{fresh_chunk, keep_chunk, make_fresh_room, record_report};
 pub use parts::{BotParts, TaskParts, split};
 pub use queries::{is_capable, is_claimed, is_sent, needs, waits_for};

@@ -1,4 +1,5 @@
 pub mod Lasting
+pub mod Machines
 pub mod Views
 pub mod Joined
 pub mod Opened

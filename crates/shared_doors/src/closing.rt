@@ -3,7 +3,7 @@ ghost use Rattle.std.specs.Prelude.{◌≡◌, ◌≤◌, ◌<◌, ◌++◌, ◌
 ghost use Rattle.std.specs.List.{All};
 ghost use Rattle.turnstile.specs.Passes.{IsPassOf, fixed_of, opening};
 ghost use Rattle.shared_doors.specs.Joined.{AreClosed, IsAloneView, IsClosed};
-ghost use Rattle.shared_doors.specs.Lasting.{lasting_of};
+ghost use Rattle.shared_doors.specs.Machines.{lasting_in, log_in};
 ghost use Rattle.shared_doors.specs.Views.{AreOf, look, view_at, views};
 
 use crate::kept::Kept;
@@ -16,9 +16,9 @@ fn close_one<M: Machine + Drop, K: Keeper + Drop>(
     turnstile: Turnstile<Kept<M, K>>,
     pass: Pass<Kept<M, K>>,
 ) -> M
-    requires own { IsPassOf (λ k. lasting_of (M.kept k.machine)) turnstile pass }
+    requires own { IsPassOf (lasting_in M.kept) turnstile pass }
     requires alone { IsAloneView (look pass) }
-    ensures { IsClosed (fixed_of (λ k. lasting_of (M.kept k.machine)) turnstile).settings (opening (λ k. (M.kept k.machine).log) turnstile) (look pass) (M.kept result) }
+    ensures { IsClosed (fixed_of (lasting_in M.kept) turnstile).settings (opening (log_in M.kept) turnstile) (look pass) (M.kept result) }
 {
     match turnstile.close(pass) {
         Ok(kept) => {
@@ -51,11 +51,11 @@ pub(crate) fn close_all<M: Machine + Drop, K: Keeper + Drop>(
     passes: Vec<Option<Pass<Kept<M, K>>>>,
     room: Vec<M>,
 ) -> Vec<M>
-    requires own { AreOf (λ k. lasting_of (M.kept k.machine)) turnstiles.items passes.items }
+    requires own { AreOf (lasting_in M.kept) turnstiles.items passes.items }
     requires alone { (p : ℕ) → p < length turnstiles.items → IsAloneView (view_at (views passes.items) p) }
     requires empty { vec_len room ≡ 0 }
     requires room { length turnstiles.items ≤ vec_capacity room }
-    ensures { AreClosed (λ k. lasting_of (M.kept k.machine)) (λ k. (M.kept k.machine).log) turnstiles.items (views passes.items) (map M.kept result.items) }
+    ensures { AreClosed (lasting_in M.kept) (log_in M.kept) turnstiles.items (views passes.items) (map M.kept result.items) }
 {
     let mut turnstiles = turnstiles;
     let mut passes = passes;

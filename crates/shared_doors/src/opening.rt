@@ -2,7 +2,7 @@
 ghost use Rattle.std.specs.Prelude.{◌≡◌, [], true, length, IsTrue, IfOk};
 ghost use Rattle.swarm_model.specs.Settings.{are_settings, keeps_rules};
 ghost use Rattle.turnstile.specs.Passes.{IsPassOf, fixed_of, opening};
-ghost use Rattle.shared_doors.specs.Lasting.{lasting_of};
+ghost use Rattle.shared_doors.specs.Machines.{lasting_in, log_in};
 ghost use Rattle.shared_doors.specs.Opened.{AreOpened};
 ghost use Rattle.shared_doors.specs.Views.{first_view, look};
 
@@ -21,9 +21,9 @@ fn open_pool<M: Machine + Drop, K: Keeper + Drop>(
     keeper: K,
 ) -> Result<(Turnstile<Kept<M, K>>, Pass<Kept<M, K>>), AllocError>
     requires { IsTrue (keeps_rules settings.now) }
-    ensures own { IfOk result (λ r. IsPassOf (λ k. lasting_of (M.kept k.machine)) r.0 r.1) }
-    ensures lasting { IfOk result (λ r. fixed_of (λ k. lasting_of (M.kept k.machine)) r.0 ≡ record { settings = settings.now; is_whole = true }) }
-    ensures empty { IfOk result (λ r. opening (λ k. (M.kept k.machine).log) r.0 ≡ []) }
+    ensures own { IfOk result (λ r. IsPassOf (lasting_in M.kept) r.0 r.1) }
+    ensures lasting { IfOk result (λ r. fixed_of (lasting_in M.kept) r.0 ≡ record { settings = settings.now; is_whole = true }) }
+    ensures empty { IfOk result (λ r. opening (log_in M.kept) r.0 ≡ []) }
     ensures fresh { IfOk result (λ r. look r.1 ≡ first_view) }
 {
     let pool = settings.try_copy(alloc)?;
@@ -39,7 +39,7 @@ pub(crate) fn open_all<M: Machine + Drop, K: Keeper + Drop>(
 ) -> Result<(Vec<Turnstile<Kept<M, K>>>, Passes<M, K>), AllocError>
     requires rules { IsTrue (are_settings settings.now) }
     requires keepers { length keepers.items ≡ length settings.now.pools }
-    ensures { IfOk result (λ r. AreOpened (λ k. lasting_of (M.kept k.machine)) (λ k. (M.kept k.machine).log) settings.now.pools r.0.items r.1.passes.items) }
+    ensures { IfOk result (λ r. AreOpened (lasting_in M.kept) (log_in M.kept) settings.now.pools r.0.items r.1.passes.items) }
 {
     let pools = settings.pools.as_slice();
     let count = pools.len();

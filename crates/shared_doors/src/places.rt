@@ -2,7 +2,7 @@
 ghost use Rattle.std.specs.Prelude.{◌≡◌, ◌<◌, ◌≤◌, ℕ, length, get_or, slice_index_or, slice_set, Some, None, IsTrue, is_some};
 ghost use Rattle.std.specs.Bool.{Decides};
 ghost use Rattle.turnstile.specs.Passes.{IsPassOf};
-ghost use Rattle.shared_doors.specs.Lasting.{lasting_of};
+ghost use Rattle.shared_doors.specs.Machines.{lasting_in};
 ghost use Rattle.shared_doors.specs.Joined.{IsAloneView, Joins, MaySplit, Splits};
 ghost use Rattle.shared_doors.specs.Views.{AreOf, IsFrontOf, IsOneOf, look, view_at, views};
 
@@ -34,11 +34,11 @@ pub(crate) fn split_at<M: Machine + Drop, K: Keeper + Drop>(
     passes: &mut Passes<M, K>,
     place: usize,
 ) -> Pass<Kept<M, K>>
-    requires own { AreOf (λ k. lasting_of (M.kept k.machine)) server.now.turnstiles.items passes.old.passes.items }
+    requires own { AreOf (lasting_in M.kept) server.now.turnstiles.items passes.old.passes.items }
     requires place { place < length server.now.turnstiles.items }
     requires first { MaySplit (view_at (views passes.old.passes.items) place) }
-    ensures own { AreOf (λ k. lasting_of (M.kept k.machine)) server.now.turnstiles.items passes.new.passes.items }
-    ensures given { IsOneOf (λ k. lasting_of (M.kept k.machine)) server.now.turnstiles.items place result }
+    ensures own { AreOf (lasting_in M.kept) server.now.turnstiles.items passes.new.passes.items }
+    ensures given { IsOneOf (lasting_in M.kept) server.now.turnstiles.items place result }
     ensures split { (kept : _) × (views passes.new.passes.items ≡ slice_set (views passes.old.passes.items) place kept) × Splits (view_at (views passes.old.passes.items) place) kept (look result) }
 {
     let pass = take_at(&mut passes.passes, place);
@@ -55,10 +55,10 @@ pub(crate) fn join_at<M: Machine + Drop, K: Keeper + Drop>(
     place: usize,
     other: Pass<Kept<M, K>>,
 )
-    requires own { AreOf (λ k. lasting_of (M.kept k.machine)) server.now.turnstiles.items passes.old.passes.items }
+    requires own { AreOf (lasting_in M.kept) server.now.turnstiles.items passes.old.passes.items }
     requires place { place < length server.now.turnstiles.items }
-    requires other { IsOneOf (λ k. lasting_of (M.kept k.machine)) server.now.turnstiles.items place other }
-    ensures own { AreOf (λ k. lasting_of (M.kept k.machine)) server.now.turnstiles.items passes.new.passes.items }
+    requires other { IsOneOf (lasting_in M.kept) server.now.turnstiles.items place other }
+    ensures own { AreOf (lasting_in M.kept) server.now.turnstiles.items passes.new.passes.items }
     ensures joined { (joined : _) × (views passes.new.passes.items ≡ slice_set (views passes.old.passes.items) place joined) × Joins (view_at (views passes.old.passes.items) place) (look other) joined }
 {
     let pass = take_at(&mut passes.passes, place);
@@ -73,7 +73,7 @@ pub(crate) fn alone_at<M: Machine + Drop, K: Keeper + Drop>(
     passes: &Passes<M, K>,
     place: usize,
 ) -> bool
-    requires own { AreOf (λ k. lasting_of (M.kept k.machine)) server.now.turnstiles.items passes.now.passes.items }
+    requires own { AreOf (lasting_in M.kept) server.now.turnstiles.items passes.now.passes.items }
     requires place { place < length server.now.turnstiles.items }
     ensures { Decides result (IsAloneView (view_at (views passes.now.passes.items) place)) }
 {
@@ -89,9 +89,9 @@ pub(crate) fn front_at<M: Machine + Drop, K: Keeper + Drop>(
     passes: &mut Passes<M, K>,
     place: usize,
 ) -> u64
-    requires own { AreOf (λ k. lasting_of (M.kept k.machine)) server.now.turnstiles.items passes.old.passes.items }
+    requires own { AreOf (lasting_in M.kept) server.now.turnstiles.items passes.old.passes.items }
     requires place { place < length server.now.turnstiles.items }
-    ensures own { AreOf (λ k. lasting_of (M.kept k.machine)) server.now.turnstiles.items passes.new.passes.items }
+    ensures own { AreOf (lasting_in M.kept) server.now.turnstiles.items passes.new.passes.items }
     ensures front { IsFrontOf (view_at (views passes.old.passes.items) place) result }
     ensures told { views passes.new.passes.items ≡ slice_set (views passes.old.passes.items) place (record (view_at (views passes.old.passes.items) place) { told = result }) }
 {

@@ -3,7 +3,8 @@ ghost use Rattle.std.specs.List.{All};
 ghost use Rattle.swarm_model.specs.Settings.{are_settings};
 ghost use Rattle.turnstile.specs.Passes.{fixed_of, opening};
 ghost use Rattle.shared_doors.specs.Joined.{AreClosed, IsAloneView, Joins, MaySplit, Splits};
-ghost use Rattle.shared_doors.specs.Lasting.{lasting_of, IsStanding};
+ghost use Rattle.shared_doors.specs.Lasting.{IsStanding};
+ghost use Rattle.shared_doors.specs.Machines.{lasting_in, log_in};
 ghost use Rattle.shared_doors.specs.Views.{AreOf, IsFrontOf, first_view, view_at, views};
 
 use crate::closing::close_all;
@@ -26,7 +27,7 @@ where
     pub(crate) alloc: Global,
     pub store: Option<Text>,
     pub turnstiles: Vec<Turnstile<Kept<M, K>>>,
-    ghost standing: { All (λ t. IsStanding (fixed_of (λ k. lasting_of (M.kept k.machine)) t)) turnstiles.items },
+    ghost standing: { All (λ t. IsStanding (fixed_of (lasting_in M.kept) t)) turnstiles.items },
     ghost sure: { IsTrue K.SURE },
 }
 
@@ -55,14 +56,14 @@ impl<M: Machine + Drop, K: Keeper + Drop> Server<M, K> {
         requires sure { IsTrue K.SURE }
         requires keepers { length keepers.items ≡ length settings.now.pools }
 
-        ensures own { IfOk result (λ r. AreOf (λ k. lasting_of (M.kept k.machine)) r.0.turnstiles.items r.1.passes.items) }
+        ensures own { IfOk result (λ r. AreOf (lasting_in M.kept) r.0.turnstiles.items r.1.passes.items) }
 
         // The pools are those of the settings, each with its blobs and an empty log.
         ensures count { IfOk result (λ r. length r.0.turnstiles.items ≡ length settings.now.pools) }
         ensures store { IfOk result (λ r. r.0.store ≡ settings.now.store) }
-        ensures settings { IfOk result (λ r. map (λ t. (fixed_of (λ k. lasting_of (M.kept k.machine)) t).settings) r.0.turnstiles.items ≡ settings.now.pools) }
-        ensures whole { IfOk result (λ r. All (λ t. IsTrue (fixed_of (λ k. lasting_of (M.kept k.machine)) t).is_whole) r.0.turnstiles.items) }
-        ensures opening { IfOk result (λ r. All (λ t. opening (λ k. (M.kept k.machine).log) t ≡ []) r.0.turnstiles.items) }
+        ensures settings { IfOk result (λ r. map (λ t. (fixed_of (lasting_in M.kept) t).settings) r.0.turnstiles.items ≡ settings.now.pools) }
+        ensures whole { IfOk result (λ r. All (λ t. IsTrue (fixed_of (lasting_in M.kept) t).is_whole) r.0.turnstiles.items) }
+        ensures opening { IfOk result (λ r. All (λ t. opening (log_in M.kept) t ≡ []) r.0.turnstiles.items) }
 
         ensures fresh { IfOk result (λ r. (p : ℕ) → p < length r.0.turnstiles.items → view_at (views r.1.passes.items) p ≡ first_view) }
     {
@@ -85,11 +86,11 @@ impl<M: Machine + Drop, K: Keeper + Drop> Server<M, K> {
         &self,
         passes: Passes<M, K>,
     ) -> Result<(Passes<M, K>, Passes<M, K>), (AllocError, Passes<M, K>)>
-        requires own { AreOf (λ k. lasting_of (M.kept k.machine)) self.now.turnstiles.items passes.passes.items }
+        requires own { AreOf (lasting_in M.kept) self.now.turnstiles.items passes.passes.items }
         requires first { (p : ℕ) → p < length self.now.turnstiles.items → MaySplit (view_at (views passes.passes.items) p) }
 
-        ensures kept { IfOk result (λ r. AreOf (λ k. lasting_of (M.kept k.machine)) self.now.turnstiles.items r.0.passes.items) }
-        ensures given { IfOk result (λ r. AreOf (λ k. lasting_of (M.kept k.machine)) self.now.turnstiles.items r.1.passes.items) }
+        ensures kept { IfOk result (λ r. AreOf (lasting_in M.kept) self.now.turnstiles.items r.0.passes.items) }
+        ensures given { IfOk result (λ r. AreOf (lasting_in M.kept) self.now.turnstiles.items r.1.passes.items) }
         ensures split { IfOk result (λ r. (p : ℕ) → p < length self.now.turnstiles.items → Splits (view_at (views passes.passes.items) p) (view_at (views r.0.passes.items) p) (view_at (views r.1.passes.items) p)) }
 
         ensures back { IfErr result (λ r. r.1 ≡ passes) }
@@ -108,9 +109,9 @@ impl<M: Machine + Drop, K: Keeper + Drop> Server<M, K> {
 
     /// The passes of two doors, joined at each place.
     pub fn join(&self, one: Passes<M, K>, two: Passes<M, K>) -> Passes<M, K>
-        requires one { AreOf (λ k. lasting_of (M.kept k.machine)) self.now.turnstiles.items one.passes.items }
-        requires two { AreOf (λ k. lasting_of (M.kept k.machine)) self.now.turnstiles.items two.passes.items }
-        ensures own { AreOf (λ k. lasting_of (M.kept k.machine)) self.now.turnstiles.items result.passes.items }
+        requires one { AreOf (lasting_in M.kept) self.now.turnstiles.items one.passes.items }
+        requires two { AreOf (lasting_in M.kept) self.now.turnstiles.items two.passes.items }
+        ensures own { AreOf (lasting_in M.kept) self.now.turnstiles.items result.passes.items }
         ensures joined { (p : ℕ) → p < length self.now.turnstiles.items → Joins (view_at (views one.passes.items) p) (view_at (views two.passes.items) p) (view_at (views result.passes.items) p) }
     {
         let mut joined = one;
@@ -126,10 +127,10 @@ impl<M: Machine + Drop, K: Keeper + Drop> Server<M, K> {
     /// The length of the log of the pool at a place, read without a turn: it doesn't wait, and takes
     /// no memory.
     pub fn front(&self, passes: &mut Passes<M, K>, place: u32) -> u64
-        requires own { AreOf (λ k. lasting_of (M.kept k.machine)) self.now.turnstiles.items passes.old.passes.items }
+        requires own { AreOf (lasting_in M.kept) self.now.turnstiles.items passes.old.passes.items }
         requires place { place < length self.now.turnstiles.items }
 
-        ensures own { AreOf (λ k. lasting_of (M.kept k.machine)) self.now.turnstiles.items passes.new.passes.items }
+        ensures own { AreOf (lasting_in M.kept) self.now.turnstiles.items passes.new.passes.items }
         ensures front { IsFrontOf (view_at (views passes.old.passes.items) place) result }
         ensures told { views passes.new.passes.items ≡ slice_set (views passes.old.passes.items) place (record (view_at (views passes.old.passes.items) place) { told = result }) }
     {
@@ -138,7 +139,7 @@ impl<M: Machine + Drop, K: Keeper + Drop> Server<M, K> {
 
     /// Whether no other pass is out at any place.
     fn alone(&self, passes: &Passes<M, K>) -> bool
-        requires own { AreOf (λ k. lasting_of (M.kept k.machine)) self.now.turnstiles.items passes.now.passes.items }
+        requires own { AreOf (lasting_in M.kept) self.now.turnstiles.items passes.now.passes.items }
         ensures alone { IsTrue result → (p : ℕ) → p < length self.now.turnstiles.items → IsAloneView (view_at (views passes.now.passes.items) p) }
         ensures out { ¬ IsTrue result → (p : ℕ) × (p < length self.now.turnstiles.items) × ¬ IsAloneView (view_at (views passes.now.passes.items) p) }
     {
@@ -162,7 +163,7 @@ impl<M: Machine + Drop, K: Keeper + Drop> Server<M, K> {
         passes: Passes<M, K>,
         room: Vec<M>,
     ) -> Result<Vec<M>, (Server<M, K>, Passes<M, K>)>
-        requires own { AreOf (λ k. lasting_of (M.kept k.machine)) self.turnstiles.items passes.passes.items }
+        requires own { AreOf (lasting_in M.kept) self.turnstiles.items passes.passes.items }
         requires empty { vec_len room ≡ 0 }
         requires room { length self.turnstiles.items ≤ vec_capacity room }
 
@@ -170,7 +171,7 @@ impl<M: Machine + Drop, K: Keeper + Drop> Server<M, K> {
         ensures alone { OnOk result ((p : ℕ) → p < length self.turnstiles.items → IsAloneView (view_at (views passes.passes.items) p)) }
         ensures refused { IfErr result (λ r. (r.0 ≡ self) × (r.1 ≡ passes) × ((p : ℕ) × (p < length self.turnstiles.items) × ¬ IsAloneView (view_at (views passes.passes.items) p))) }
 
-        ensures closed { IfOk result (λ machines. AreClosed (λ k. lasting_of (M.kept k.machine)) (λ k. (M.kept k.machine).log) self.turnstiles.items (views passes.passes.items) (map M.kept machines.items)) }
+        ensures closed { IfOk result (λ machines. AreClosed (lasting_in M.kept) (log_in M.kept) self.turnstiles.items (views passes.passes.items) (map M.kept machines.items)) }
     {
         if !self.alone(&passes) {
             return Err((self, passes));

@@ -4,7 +4,8 @@ ghost use Rattle.swarm_model.specs.Fits.{fits};
 ghost use Rattle.swarm_history.specs.Calls.{call_of};
 ghost use Rattle.turnstile.specs.Passes.{IsPassOf, IsTurn, fixed_of, lock_of, of_value, pass_of, seen, number, told, turns};
 ghost use Rattle.shared_doors.specs.Desks.{IsDesk, no_state};
-ghost use Rattle.shared_doors.specs.Lasting.{lasting_of, IsStanding};
+ghost use Rattle.shared_doors.specs.Lasting.{IsStanding};
+ghost use Rattle.shared_doors.specs.Machines.{lasting_in};
 ghost use Rattle.shared_doors.specs.SharedDoors.{IsTurnCall};
 ghost use Rattle.shared_doors.specs.Views.{look};
 
@@ -30,7 +31,7 @@ where
 impl<M: Machine + Drop, K: Keeper + Drop> SharedDesk<'_, M, K> {
     /// The number that its entries bear.
     fn pass(&self) -> u32
-        requires { IsTurn (λ k. lasting_of (M.kept k.machine)) self.now.turn }
+        requires { IsTurn (lasting_in M.kept) self.now.turn }
         ensures { result ≡ number (pass_of self.now.turn) }
     {
         self.turn.number() as u32
@@ -90,15 +91,15 @@ pub(crate) fn take_turn<M: Machine + Drop, K: Keeper + Drop, R: Wait>(
     pass: Pass<Kept<M, K>>,
     call: &PoolCall,
 ) -> (Result<Answered, CallFault>, Pass<Kept<M, K>>)
-    requires own { IsPassOf (λ k. lasting_of (M.kept k.machine)) turnstile.now pass }
+    requires own { IsPassOf (lasting_in M.kept) turnstile.now pass }
     requires turns { turns pass < 2 ^ 40 }
-    requires standing { IsStanding (fixed_of (λ k. lasting_of (M.kept k.machine)) turnstile.now) }
+    requires standing { IsStanding (fixed_of (lasting_in M.kept) turnstile.now) }
     requires sure { IsTrue K.SURE }
-    requires fits { IsTrue (fits (fixed_of (λ k. lasting_of (M.kept k.machine)) turnstile.now).settings call.now.request.now) }
+    requires fits { IsTrue (fits (fixed_of (lasting_in M.kept) turnstile.now).settings call.now.request.now) }
     requires carries { Carries call.now.request.now call.now.bytes.now }
 
-    ensures own { IsPassOf (λ k. lasting_of (M.kept k.machine)) turnstile.now result.1 }
-    ensures done { IsTurnCall (fixed_of (λ k. lasting_of (M.kept k.machine)) turnstile.now).settings (call_of (number pass) call.now)
+    ensures own { IsPassOf (lasting_in M.kept) turnstile.now result.1 }
+    ensures done { IsTurnCall (fixed_of (lasting_in M.kept) turnstile.now).settings (call_of (number pass) call.now)
         (seen pass) (seen result.1) (told pass) result.0 }
 
     // Sure keepers never fail.

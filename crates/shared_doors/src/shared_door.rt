@@ -1,5 +1,5 @@
 ghost use Rattle.std.specs.Prelude.{◌≡◌};
-ghost use Rattle.shared_doors.specs.Lasting.{lasting_of};
+ghost use Rattle.shared_doors.specs.Machines.{lasting_in};
 ghost use Rattle.shared_doors.specs.OneProof.{are_of_one};
 ghost use Rattle.shared_doors.specs.SharedDoors.{identities_of, pools_of, shared_door};
 ghost use Rattle.shared_doors.specs.Views.{AreOf, views};
@@ -28,15 +28,15 @@ where
     pub server: &'a Server<M, K>,
     /// One for each pool, in the order of the pools.
     passes: Vec<Option<Pass<Kept<M, K>>>>,
-    ghost own: { AreOf (λ k. lasting_of (M.kept k.machine)) server.now.turnstiles.items passes.items } by { are_of_one _ _ _ },
+    ghost own: { AreOf (lasting_in M.kept) server.now.turnstiles.items passes.items } by { are_of_one _ _ _ },
 }
 
 impl<'a, M: Machine + Drop, K: Keeper + Drop, R: Wait> SharedDoor<'a, M, K, R> {
     /// A door of the server, with these passes.
     pub fn new(rt: &'a R, server: &'a Server<M, K>, passes: Passes<M, K>) -> SharedDoor<'a, M, K, R>
-        requires own { AreOf (λ k. lasting_of (M.kept k.machine)) server.now.turnstiles.items passes.passes.items }
+        requires own { AreOf (lasting_in M.kept) server.now.turnstiles.items passes.passes.items }
         ensures server { result.server.now ≡ server.now }
-        ensures state { ⟦<SharedDoor<'a, M, K, R> as Door>⟧.state result ≡ shared_door server.now.store (pools_of (λ k. lasting_of (M.kept k.machine)) server.now.turnstiles.items) (identities_of server.now.turnstiles.items) (views passes.passes.items) }
+        ensures state { ⟦<SharedDoor<'a, M, K, R> as Door>⟧.state result ≡ shared_door server.now.store (pools_of (lasting_in M.kept) server.now.turnstiles.items) (identities_of server.now.turnstiles.items) (views passes.passes.items) }
     {
         let Passes { passes } = passes;
         SharedDoor { rt, server, passes }
@@ -46,9 +46,9 @@ impl<'a, M: Machine + Drop, K: Keeper + Drop, R: Wait> SharedDoor<'a, M, K, R> {
     /// made: what the door tells of its logs and settings is what the server has.
     pub fn end(self, server: &Server<M, K>) -> Passes<M, K>
         requires logs { (⟦<SharedDoor<'a, M, K, R> as Door>⟧.state self).writer.logs ≡ identities_of server.now.turnstiles.items }
-        requires settings { (⟦<SharedDoor<'a, M, K, R> as Door>⟧.state self).settings ≡ record { store = server.now.store; pools = pools_of (λ k. lasting_of (M.kept k.machine)) server.now.turnstiles.items } }
-        ensures own { AreOf (λ k. lasting_of (M.kept k.machine)) server.now.turnstiles.items result.passes.items }
-        ensures state { ⟦<SharedDoor<'a, M, K, R> as Door>⟧.state self.entry ≡ shared_door server.now.store (pools_of (λ k. lasting_of (M.kept k.machine)) server.now.turnstiles.items) (identities_of server.now.turnstiles.items) (views result.passes.items) }
+        requires settings { (⟦<SharedDoor<'a, M, K, R> as Door>⟧.state self).settings ≡ record { store = server.now.store; pools = pools_of (lasting_in M.kept) server.now.turnstiles.items } }
+        ensures own { AreOf (lasting_in M.kept) server.now.turnstiles.items result.passes.items }
+        ensures state { ⟦<SharedDoor<'a, M, K, R> as Door>⟧.state self.entry ≡ shared_door server.now.store (pools_of (lasting_in M.kept) server.now.turnstiles.items) (identities_of server.now.turnstiles.items) (views result.passes.items) }
     {
         let SharedDoor {
             rt: _,
@@ -60,7 +60,7 @@ impl<'a, M: Machine + Drop, K: Keeper + Drop, R: Wait> SharedDoor<'a, M, K, R> {
 }
 
 impl<'a, M: Machine + Drop, K: Keeper + Drop, R: Wait> Door for SharedDoor<'a, M, K, R> {
-    ghost state = { λ d. shared_door d.server.now.store (pools_of (λ k. lasting_of (M.kept k.machine)) d.server.now.turnstiles.items) (identities_of d.server.now.turnstiles.items) (views d.passes.items) };
+    ghost state = { λ d. shared_door d.server.now.store (pools_of (lasting_in M.kept) d.server.now.turnstiles.items) (identities_of d.server.now.turnstiles.items) (views d.passes.items) };
 
     fn call(
         &mut self,

@@ -6,3 +6,4 @@ pub mod Pools
 pub mod Asking
 mod Once
 pub mod Keepers
+pub mod Statuses

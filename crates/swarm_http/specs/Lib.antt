@@ -3,6 +3,7 @@ pub mod Permissions
 pub mod Requests
 pub mod Outcomes
 pub mod Exchange
+pub mod Statuses
 pub mod Answered
 pub mod Counting
 pub mod Sends

@@ -2,7 +2,7 @@
 //! their order.
 ghost use Rattle.std.specs.Prelude.{◌≡◌, ◌<◌, ◌≤◌, None, IfSome, slice_set};
 ghost use Rattle.std.specs.Option.{option_copied};
-ghost use Rattle.swarm_model.specs.Deadlines.{runner_of, silence_end, bot_end};
+ghost use Rattle.swarm_model.specs.Deadlines.{runner_of, bot_end};
 ghost use Rattle.swarm_model.specs.Finding.{task_of, bot_of};
 ghost use Rattle.swarm_model.specs.Soundness.{IsSound};
 ghost use Rattle.row_changes.specs.Rows.{IsEarly, IsHeard};
@@ -14,7 +14,7 @@ ghost use Rattle.swarm_machine.specs.TouchedBlobs.{blob_end_with};
 use crate::rows::Rows;
 use crate::touched::touched_blob;
 use pool_index::{DeadlineQueue, DeadlineTree};
-use row_changes::{blob_end, death_of, silence_limit, slice_end};
+use row_changes::{blob_end, death_of, silence_of, slice_end};
 use swarm_model::{BotRow, Chunk, Deadline, EntryKind, TaskRow, TaskState};
 
 fn bot_of(rows: &Rows, number: u32) -> Option<&BotRow>
@@ -39,23 +39,7 @@ fn runner_of<'a>(rows: &'a Rows, task: &TaskRow) -> Option<&'a BotRow>
     ensures value { option_copied result ≡ runner_of (state_of rows.now) task.now }
     ensures heard { IfSome (option_copied result) IsHeard }
 {
-    match &task.attempt {
-        Some(attempt) => bot_of(rows, attempt.bot),
-        None => None,
-    }
-}
-
-fn silence_end(rows: &Rows, task: &TaskRow) -> Option<Deadline>
-    requires { IsSound (state_of rows.now) }
-    ensures { result ≡ silence_end (state_of rows.now) task.now }
-{
-    if !task.has_state(TaskState::Running) {
-        return None;
-    }
-    match runner_of(rows, task) {
-        Some(bot) => Some(silence_limit(task, bot)),
-        None => None,
-    }
+    bot_of(rows, task.attempt.as_ref()?.bot)
 }
 
 fn task_deadline(rows: &Rows, task: &TaskRow) -> Option<Deadline>
@@ -66,7 +50,7 @@ fn task_deadline(rows: &Rows, task: &TaskRow) -> Option<Deadline>
     if task.has_state(TaskState::Pending) {
         slice_end(task)
     } else {
-        silence_end(rows, task)
+        silence_of(task, runner_of(rows, task))
     }
 }
 

@@ -11,6 +11,7 @@ use crate::{pages, sources};
 use content_store::{Filled, Held};
 use dimensions::{BotDims, DimSet, Text};
 use ghost_values::GhostValue;
+use pool_changes::{bring_bytes, lend_bytes};
 use pool_log::PoolRows;
 use pool_queries::PoolQueries;
 use std::alloc::{AllocError, Global};
@@ -246,15 +247,11 @@ impl PoolRows for IndexedRows {
 
     fn fill(&mut self, digest: &Digest, bytes: &[u8]) -> Filled {
         drop(self.ready.take());
-        // For the proof: the rows of the blobs are tied to the store.
-        let _count = self.rows.blobs.count();
-        self.rows.blobs.fill(digest, bytes)
+        bring_bytes(&mut self.rows.blobs, digest, bytes)
     }
 
     fn bytes(&self, digest: &Digest) -> Option<&[u8]> {
-        // For the proof: the rows of the blobs are tied to the store.
-        let _count = self.rows.blobs.count();
-        self.rows.blobs.bytes(digest)
+        lend_bytes(&self.rows.blobs, digest)
     }
 
     fn tally(&self) -> [u64; 9] {

@@ -11,8 +11,8 @@ ghost use Rattle.swarm_plain.specs.Inside.{state_of};
 use crate::rows::Rows;
 use content_store::Blobs;
 use pool_index::sooner_of;
-use row_changes::{blob_end, death_of, row_of, silence_limit, slice_end};
-use swarm_model::{BotRow, Deadline, TaskRow, TaskState};
+use row_changes::{blob_end, death_of, row_of, silence_of, slice_end};
+use swarm_model::{BotRow, Deadline, TaskRow};
 
 fn bot_of(rows: &Rows, number: u32) -> Option<&BotRow>
     requires { IsSound (state_of rows.now) }
@@ -28,23 +28,14 @@ fn runner_of<'a>(rows: &'a Rows, task: &TaskRow) -> Option<&'a BotRow>
     ensures value { option_copied result ≡ runner_of (state_of rows.now) task.now }
     ensures heard { IfSome (option_copied result) IsHeard }
 {
-    match &task.attempt {
-        Some(attempt) => bot_of(rows, attempt.bot),
-        None => None,
-    }
+    bot_of(rows, task.attempt.as_ref()?.bot)
 }
 
 fn silence_end(rows: &Rows, task: &TaskRow) -> Option<Deadline>
     requires { IsSound (state_of rows.now) }
     ensures { result ≡ silence_end (state_of rows.now) task.now }
 {
-    if !task.has_state(TaskState::Running) {
-        return None;
-    }
-    match runner_of(rows, task) {
-        Some(bot) => Some(silence_limit(task, bot)),
-        None => None,
-    }
+    silence_of(task, runner_of(rows, task))
 }
 
 fn bot_end(rows: &Rows, bot: &BotRow) -> Option<Deadline>

@@ -3,7 +3,7 @@ ghost use Rattle.std.specs.Prelude.{◌≡◌, ◌<◌, ◌≤◌, ◌+◌, ℕ,
 ghost use Rattle.std.specs.List.{All};
 ghost use Rattle.sw_base.specs.Listeners.{Shuts};
 ghost use Rattle.sw_base.specs.Told.{IsOut};
-ghost use Rattle.shared_doors.specs.Lasting.{lasting_of};
+ghost use Rattle.shared_doors.specs.Machines.{lasting_in};
 ghost use Rattle.shared_doors.specs.SharedDoors.{identities_of, pools_of, shared_door};
 ghost use Rattle.shared_doors.specs.Views.{AreOf, view_at, views};
 ghost use Rattle.swarm_workers.specs.Crews.{IsDoorTo, IsFirst, IsJoined, ShutsAll, graver, stop_of};
@@ -34,11 +34,11 @@ fn end_worker<'a, M: Machine + Drop, K: Keeper + Drop, T: Wait, C: Clock + Drop,
     listener: &mut N,
     worker: Worker<SharedDoor<'a, M, K, T>, C, N::Acceptor>,
 ) -> (WorkStop, Passes<M, K>)
-    requires door { IsDoorTo (record { store = server.now.store; pools = pools_of (λ k. lasting_of (M.kept k.machine)) server.now.turnstiles.items }) (identities_of server.now.turnstiles.items) (⟦<SharedDoor<'a, M, K, T> as Door>⟧.state worker.door) }
+    requires door { IsDoorTo (record { store = server.now.store; pools = pools_of (lasting_in M.kept) server.now.turnstiles.items }) (identities_of server.now.turnstiles.items) (⟦<SharedDoor<'a, M, K, T> as Door>⟧.state worker.door) }
     requires out { IsOut (N.state listener.old).out }
 
-    ensures own { AreOf (λ k. lasting_of (M.kept k.machine)) server.now.turnstiles.items result.1.passes.items }
-    ensures door { ⟦<SharedDoor<'a, M, K, T> as Door>⟧.state worker.entry.door ≡ shared_door server.now.store (pools_of (λ k. lasting_of (M.kept k.machine)) server.now.turnstiles.items) (identities_of server.now.turnstiles.items) (views result.1.passes.items) }
+    ensures own { AreOf (lasting_in M.kept) server.now.turnstiles.items result.1.passes.items }
+    ensures door { ⟦<SharedDoor<'a, M, K, T> as Door>⟧.state worker.entry.door ≡ shared_door server.now.store (pools_of (lasting_in M.kept) server.now.turnstiles.items) (identities_of server.now.turnstiles.items) (views result.1.passes.items) }
 
     ensures shuts { Shuts (N.Acceptor.state worker.entry.acceptor) (N.state listener.old) (N.state listener.new) }
     ensures stop { result.0 ≡ worker.entry.worked.stop }
@@ -68,10 +68,10 @@ pub(crate) fn end_workers<
     workers: Vec<Worker<SharedDoor<'a, M, K, T>, C, N::Acceptor>>,
 ) -> (WorkStop, Passes<M, K>)
     requires some { 0 < length workers.items }
-    requires doors { All (λ w. IsDoorTo (record { store = server.now.store; pools = pools_of (λ k. lasting_of (M.kept k.machine)) server.now.turnstiles.items }) (identities_of server.now.turnstiles.items) (⟦<SharedDoor<'a, M, K, T> as Door>⟧.state w.door)) workers.items }
+    requires doors { All (λ w. IsDoorTo (record { store = server.now.store; pools = pools_of (lasting_in M.kept) server.now.turnstiles.items }) (identities_of server.now.turnstiles.items) (⟦<SharedDoor<'a, M, K, T> as Door>⟧.state w.door)) workers.items }
     requires out { IfSome (N.state listener.old).out (λ n. length workers.items ≤ n) }
 
-    ensures own { AreOf (λ k. lasting_of (M.kept k.machine)) server.now.turnstiles.items result.1.passes.items }
+    ensures own { AreOf (lasting_in M.kept) server.now.turnstiles.items result.1.passes.items }
     ensures joined { (p : ℕ) → p < length server.now.turnstiles.items → IsJoined p (map (λ w. ⟦<SharedDoor<'a, M, K, T> as Door>⟧.state w.door) workers.entry.items) (view_at (views result.1.passes.items) p) }
     ensures first { (p : ℕ) → p < length server.now.turnstiles.items → IsFirst p (map (λ w. ⟦<SharedDoor<'a, M, K, T> as Door>⟧.state w.door) workers.entry.items) (view_at (views result.1.passes.items) p) }
 

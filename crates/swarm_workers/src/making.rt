@@ -1,7 +1,7 @@
 //! The workers of a server, as they are made.
 ghost use Rattle.std.specs.Prelude.{◌≡◌, ◌<◌, ◌≤◌, ◌+◌, ◌∷◌, ℕ, length, map, vec_len, vec_capacity, IfOk};
 ghost use Rattle.std.specs.List.{All};
-ghost use Rattle.shared_doors.specs.Lasting.{lasting_of};
+ghost use Rattle.shared_doors.specs.Machines.{lasting_in};
 ghost use Rattle.shared_doors.specs.SharedDoors.{pools_of, identities_of, shared_door};
 ghost use Rattle.shared_doors.specs.Views.{AreOf, first_view, view_at, views};
 ghost use Rattle.swarm_workers.specs.Crews.{AreNewDoors, KnowsMade};
@@ -24,12 +24,12 @@ pub(crate) fn split_all<M: Machine + Drop, K: Keeper + Drop>(
     passes: Passes<M, K>,
     workers: u32,
 ) -> Result<(Passes<M, K>, Vec<Passes<M, K>>), AllocError>
-    requires own { AreOf (λ k. lasting_of (M.kept k.machine)) server.now.turnstiles.items passes.passes.items }
+    requires own { AreOf (lasting_in M.kept) server.now.turnstiles.items passes.passes.items }
     requires first { (p : ℕ) → p < length server.now.turnstiles.items → view_at (views passes.passes.items) p ≡ first_view }
     requires number { (1 ≤ workers) × (workers ≤ 32) }
 
     ensures count { IfOk result (λ r. length r.1.items + 1 ≡ workers) }
-    ensures shares { IfOk result (λ r. AreShares (λ k. lasting_of (M.kept k.machine)) server.now.turnstiles.items 0 (map (λ s. s.passes.items) (r.0 ∷ r.1.items))) }
+    ensures shares { IfOk result (λ r. AreShares (lasting_in M.kept) server.now.turnstiles.items 0 (map (λ s. s.passes.items) (r.0 ∷ r.1.items))) }
     ensures made { IfOk result (λ r. (p : ℕ) → p < length server.now.turnstiles.items → (view_at (views r.0.passes.items) p).made ≡ workers) }
 {
     let mut others = Vec::with_capacity(alloc, workers as usize)?;
@@ -54,8 +54,8 @@ fn make_worker<'a, M: Machine + Drop, K: Keeper + Drop, T: Wait, C: Clock, A: Ac
     clock: &C,
     acceptor: A,
 ) -> Worker<SharedDoor<'a, M, K, T>, C, A>
-    requires own { AreOf (λ k. lasting_of (M.kept k.machine)) server.now.turnstiles.items passes.passes.items }
-    ensures door { ⟦<SharedDoor<'a, M, K, T> as Door>⟧.state result.door ≡ shared_door server.now.store (pools_of (λ k. lasting_of (M.kept k.machine)) server.now.turnstiles.items) (identities_of server.now.turnstiles.items) (views passes.passes.items) }
+    requires own { AreOf (lasting_in M.kept) server.now.turnstiles.items passes.passes.items }
+    ensures door { ⟦<SharedDoor<'a, M, K, T> as Door>⟧.state result.door ≡ shared_door server.now.store (pools_of (lasting_in M.kept) server.now.turnstiles.items) (identities_of server.now.turnstiles.items) (views passes.passes.items) }
     ensures clock { C.ahead result.clock ≡ C.ahead clock.now }
     ensures acceptor { A.state result.acceptor ≡ A.state acceptor }
 {
@@ -87,15 +87,15 @@ pub(crate) fn make_workers<
     acceptors: Vec<A>,
     room: Vec<Worker<SharedDoor<'a, M, K, T>, C, A>>,
 ) -> Vec<Worker<SharedDoor<'a, M, K, T>, C, A>>
-    requires shares { AreShares (λ k. lasting_of (M.kept k.machine)) server.now.turnstiles.items 0 (map (λ s. s.passes.items) (first ∷ others.items)) }
+    requires shares { AreShares (lasting_in M.kept) server.now.turnstiles.items 0 (map (λ s. s.passes.items) (first ∷ others.items)) }
     requires count { length acceptors.items ≡ length others.items + 1 }
     requires empty { vec_len room ≡ 0 }
     requires room { length acceptors.items ≤ vec_capacity room }
 
-    ensures doors { AreNewDoors (record { store = server.now.store; pools = pools_of (λ k. lasting_of (M.kept k.machine)) server.now.turnstiles.items }) (identities_of server.now.turnstiles.items) 0
+    ensures doors { AreNewDoors (record { store = server.now.store; pools = pools_of (lasting_in M.kept) server.now.turnstiles.items }) (identities_of server.now.turnstiles.items) 0
         (map (λ w. ⟦<SharedDoor<'a, M, K, T> as Door>⟧.state w.door) result.items) }
     ensures made { (made : ℕ) → ((p : ℕ) → p < length server.now.turnstiles.items → (view_at (views first.passes.items) p).made ≡ made)
-        → KnowsMade (record { store = server.now.store; pools = pools_of (λ k. lasting_of (M.kept k.machine)) server.now.turnstiles.items }) made (map (λ w. ⟦<SharedDoor<'a, M, K, T> as Door>⟧.state w.door) result.items) }
+        → KnowsMade (record { store = server.now.store; pools = pools_of (lasting_in M.kept) server.now.turnstiles.items }) made (map (λ w. ⟦<SharedDoor<'a, M, K, T> as Door>⟧.state w.door) result.items) }
 
     ensures clocks { All (λ w. C.ahead w.clock ≡ C.ahead clock.now) result.items }
     ensures acceptors { map (λ w. A.state w.acceptor) result.items ≡ map A.state acceptors.items }

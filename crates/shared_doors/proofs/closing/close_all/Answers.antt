@@ -1,7 +1,7 @@
 -- The last of the pools that are left is closed.
 use Rattle.std.proofs.Common.{◌≡◌, ◌∷◌, [], length, refl, arith, sym, ap, ◌∙◌, append-nil, IsTrue, is_some, Some}
 use Rattle.std.proofs.lemmas.List.{length_push}
-use Rattle.shared_doors.specs.Lasting.{lasting_of}
+use Rattle.shared_doors.specs.Machines.{lasting_in, log_in}
 use Rattle.shared_doors.proofs.ByPlace.{all_front}
 use Rattle.shared_doors.proofs.LastPools.{behind, closed_more, last_alone, last_own, no_items, one_less, turned}
 use Rattle.shared_doors.proofs.closing.close_all.Goals as goal
@@ -24,8 +24,8 @@ close_one-machine-requires g c =
     let less_p = ap length c.take_last-pass.ensures ∙ length_push ys (Some p) in
     let even : length ys ≡ length xs = omega (arith, less_t, less_p, i.count) in
     record {
-      own = last_own (λ k. lasting_of (g.M.Machine.kept k.machine)) c.args.turnstiles.items xs i.closed.0 c.args.passes.items ys i.closed.1 t (Some p) p c.requires.own is_t is_p refl even;
-      alone = last_alone (λ k. lasting_of (g.M.Machine.kept k.machine)) c.args.turnstiles.items xs i.closed.0 c.args.passes.items ys i.closed.1 t (Some p) p c.requires.own is_t is_p refl even c.requires.alone;
+      own = last_own (lasting_in g.M.Machine.kept) c.args.turnstiles.items xs i.closed.0 c.args.passes.items ys i.closed.1 t (Some p) p c.requires.own is_t is_p refl even;
+      alone = last_alone (lasting_in g.M.Machine.kept) c.args.turnstiles.items xs i.closed.0 c.args.passes.items ys i.closed.1 t (Some p) p c.requires.own is_t is_p refl even c.requires.alone;
     }
 
 pub loop-turnstile-preserved : goal.loop-turnstile-preserved
@@ -48,7 +48,7 @@ loop-turnstile-preserved g c =
         Some p ∷ i.closed.1,
         behind xs i.closed.0 t c.args.turnstiles.items is_t,
         behind ys i.closed.1 (Some p) c.args.passes.items is_p,
-        closed_more (λ k. lasting_of (g.M.Machine.kept k.machine)) (λ k. (g.M.Machine.kept k.machine).log) i.closed.0 i.closed.1 t (Some p) p
+        closed_more (lasting_in g.M.Machine.kept) (log_in g.M.Machine.kept) i.closed.0 i.closed.1 t (Some p) p
             (g.M.Machine.kept c.close_one-machine.result) _ _ refl
             (turned g.M.Machine.kept c.loop-turnstile.machines.items c.push_reserved.new.self.items c.close_one-machine.result c.push_reserved.ensures.items)
             c.close_one-machine.ensures i.closed.4,

@@ -7,7 +7,7 @@ use Rattle.turnstile.specs.declared.turnstile.Turnstile.{Turnstile}
 use Rattle.shared_doors.specs.declared.kept.Kept.{Kept}
 use Rattle.shared_doors.specs.declared.view.Lasting.{Lasting}
 use Rattle.shared_doors.specs.Joined.{AreClosed}
-use Rattle.shared_doors.specs.Lasting.{lasting_of}
+use Rattle.shared_doors.specs.Machines.{lasting_in, log_in}
 use Rattle.shared_doors.specs.Views.{views}
 use Rattle.shared_doors.proofs.closing.close_all.Given as goal
 
@@ -20,7 +20,7 @@ invariant-loop-turnstile g l = record {
       × (ps : List (Option (Pass (Kept g.row.M.Denot g.row.K.Denot) Entry Lasting)))
       × (l.initial.turnstiles.items ≡ l.turnstiles.items ++ ts)
       × (l.initial.passes.items ≡ l.passes.items ++ ps)
-      × AreClosed (λ k. lasting_of (g.M.Machine.kept k.machine)) (λ k. (g.M.Machine.kept k.machine).log) ts (views ps) (map g.M.Machine.kept (reverse l.machines.items));
+      × AreClosed (lasting_in g.M.Machine.kept) (log_in g.M.Machine.kept) ts (views ps) (map g.M.Machine.kept (reverse l.machines.items));
 }
 
 abbrev pub decreases-loop-turnstile : goal.decreases-loop-turnstile

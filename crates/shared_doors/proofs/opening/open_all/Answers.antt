@@ -1,6 +1,6 @@
 -- One pool more is open.
 use Rattle.std.proofs.Common.{length, refl, arith, ap}
-use Rattle.shared_doors.specs.Lasting.{lasting_of}
+use Rattle.shared_doors.specs.Machines.{lasting_in, log_in}
 use Rattle.shared_doors.proofs.OpenPools.{opened_all, opened_more, opened_none, rules_at}
 use Rattle.shared_doors.proofs.opening.open_all.Goals as goal
 
@@ -12,7 +12,7 @@ loop-pool-init g c = record {
   turnstiles_room = c.in_ok-turnstiles.ensures.capacity;
   passes_room = c.in_ok-passes.ensures.capacity;
   opened =
-      opened_none (λ k. lasting_of (g.M.Machine.kept k.machine)) (λ k. (g.M.Machine.kept k.machine).log) _ _ _ refl
+      opened_none (lasting_in g.M.Machine.kept) (log_in g.M.Machine.kept) _ _ _ refl
       c.in_ok-turnstiles.ensures.items c.in_ok-passes.ensures.items;
 }
 
@@ -29,7 +29,7 @@ loop-pool-preserved g c =
       turnstiles_room = omega (arith, i.turnstiles_room, c.push_reserved.ensures.capacity);
       passes_room = omega (arith, i.passes_room, c.push_reserved-in-loop-pool.ensures.capacity);
       opened =
-          opened_more (λ k. lasting_of (g.M.Machine.kept k.machine)) (λ k. (g.M.Machine.kept k.machine).log) c.as_slice-pools.result.now c.loop-pool.pool-index c.pool-item.result
+          opened_more (lasting_in g.M.Machine.kept) (log_in g.M.Machine.kept) c.as_slice-pools.result.now c.loop-pool.pool-index c.pool-item.result
           c.loop-pool.turnstiles.items c.push_reserved.new.self.items c.loop-pool.passes.items c.push_reserved-in-loop-pool.new.self.items _ _
           c.loop-pool-test.true c.pool-item.is rules c.push_reserved.ensures.items c.push_reserved-in-loop-pool.ensures.items
           o.own o.lasting o.empty o.fresh i.opened;
@@ -37,5 +37,5 @@ loop-pool-preserved g c =
 
 pub returns : goal.returns
 returns g c =
-    opened_all (λ k. lasting_of (g.M.Machine.kept k.machine)) (λ k. (g.M.Machine.kept k.machine).log) c.as_slice-pools.result.now c.args.settings.now.pools c.loop-pool.pool-index
+    opened_all (lasting_in g.M.Machine.kept) (log_in g.M.Machine.kept) c.as_slice-pools.result.now c.args.settings.now.pools c.loop-pool.pool-index
     c.loop-pool.turnstiles.items c.loop-pool.passes.items c.as_slice-pools.ensures c.loop-pool-test.false c.loop-pool.invariant.opened

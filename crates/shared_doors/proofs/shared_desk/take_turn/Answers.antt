@@ -6,7 +6,7 @@ use Rattle.swarm_model.specs.Points.{Call}
 use Rattle.swarm_history.specs.Calls.{call_of}
 use Rattle.turnstile.specs.Passes.{IsPassOf, fixed_of, number, of_value, pass_of, raised, seen, told}
 use Rattle.shared_doors.specs.Desks.{no_state}
-use Rattle.shared_doors.specs.Lasting.{lasting_of}
+use Rattle.shared_doors.specs.Machines.{lasting_in}
 use Rattle.shared_doors.proofs.Desks.{lock_after, log_now, ready_first, settings_at, view_after}
 use Rattle.shared_doors.proofs.SharedPoints.{never_fails, turn_call}
 use Rattle.shared_doors.proofs.shared_desk.take_turn.Goals as goal
@@ -28,7 +28,7 @@ leave-requires g c = record { turn = c.serve-result.ensures.ready.turn; raised =
 
 pub returns-clause-own : goal.returns-clause-own
 returns-clause-own g c =
-    subst (λ l. IsPassOf (λ k. lasting_of (g.M.Machine.kept k.machine)) l c.leave.result)
+    subst (λ l. IsPassOf (lasting_in g.M.Machine.kept) l c.leave.result)
     (lock_after c.enter-turn.result c.serve-result.new.desk.turn c.serve-result.ensures.rest ∙ c.enter-turn.ensures.lock) c.leave.ensures.own
 
 pub returns-clause-done : goal.returns-clause-done
@@ -40,7 +40,7 @@ returns-clause-done g c =
     let ready = ready_first (λ k. g.M.Machine.kept k.machine) g.K.Keeper.SURE t lock e.lock c.requires.sure e.turn c.requires.standing e.value in
     let the_call : ℕ → Call = λ n. call_of n c.args.call.now in
     let there = of_value (λ k. g.M.Machine.kept k.machine) no_state t in
-    turn_call (fixed_of (λ k. lasting_of (g.M.Machine.kept k.machine)) lock).settings there.pool.settings
+    turn_call (fixed_of (lasting_in g.M.Machine.kept) lock).settings there.pool.settings
     (the_call (number c.args.pass)) (the_call (number (pass_of t))) (seen c.args.pass) (raised t) there.log (seen c.leave.result)
     (of_value (λ k. g.M.Machine.kept k.machine) no_state next) (told c.args.pass) c.serve-result.result
     e.found e.fresh (settings_at (λ k. g.M.Machine.kept k.machine) g.K.Keeper.SURE t ready lock e.lock) (ap the_call e.same.0.0)

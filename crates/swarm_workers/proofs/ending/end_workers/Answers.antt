@@ -2,7 +2,7 @@
 use Rattle.std.proofs.Common.{◌≡◌, ◌+◌, ◌∷◌, ◌∙◌, length, ap, arith, rules, sym}
 use Rattle.std.specs.Vec.Iter.{into_iter_items, into_iter_len}
 use Rattle.shared_doors.specs.contracts.shared_door.SharedDoorDoor.TheImpl.{ghosts}
-use Rattle.shared_doors.specs.Lasting.{lasting_of}
+use Rattle.shared_doors.specs.Machines.{lasting_in}
 use Rattle.shared_doors.specs.SharedDoors.{identities_of, pools_of}
 use Rattle.shared_doors.specs.Views.{views}
 use Rattle.swarm_workers.specs.Crews.{IsDoorTo}
@@ -13,14 +13,14 @@ use Rattle.swarm_workers.proofs.ending.end_workers.Goals as goal
 pub end_worker-stop-requires-clause-door : goal.end_worker-stop-requires-clause-door
 end_worker-stop-requires-clause-door g c =
     let state = (ghosts g.row.M g.row.K g.row.T g.M.Machine g.M.Machine-dict g.K.Keeper g.K.Keeper-dict g.T.Wait g.T.Wait-dict g.M.Destruct-dict g.K.Destruct-dict).state in
-    let door = first_of_all c.args.workers.items (into_iter_items c.next.new.self) c.in-Some.worker (λ w. IsDoorTo (record { store = c.args.server.now.store; pools = pools_of (λ k. lasting_of (g.M.Machine.kept k.machine)) c.args.server.now.turnstiles.items }) (identities_of c.args.server.now.turnstiles.items) (state w.door))
+    let door = first_of_all c.args.workers.items (into_iter_items c.next.new.self) c.in-Some.worker (λ w. IsDoorTo (record { store = c.args.server.now.store; pools = pools_of (lasting_in g.M.Machine.kept) c.args.server.now.turnstiles.items }) (identities_of c.args.server.now.turnstiles.items) (state w.door))
     (sym c.into_iter-rest.ensures.rest ∙ c.in-Some.ensures.items) c.requires.doors in
     search (rules, door)
 
 pub end_worker-next-requires-clause-door : goal.end_worker-next-requires-clause-door
 end_worker-next-requires-clause-door g c =
     let state = (ghosts g.row.M g.row.K g.row.T g.M.Machine g.M.Machine-dict g.K.Keeper g.K.Keeper-dict g.T.Wait g.T.Wait-dict g.M.Destruct-dict g.K.Destruct-dict).state in
-    let door = first_of_all (into_iter_items c.loop-worker.rest) (into_iter_items c.next-in-loop-worker.new.self) c.in-Some-next.worker (λ w. IsDoorTo (record { store = c.args.server.now.store; pools = pools_of (λ k. lasting_of (g.M.Machine.kept k.machine)) c.args.server.now.turnstiles.items }) (identities_of c.args.server.now.turnstiles.items) (state w.door))
+    let door = first_of_all (into_iter_items c.loop-worker.rest) (into_iter_items c.next-in-loop-worker.new.self) c.in-Some-next.worker (λ w. IsDoorTo (record { store = c.args.server.now.store; pools = pools_of (lasting_in g.M.Machine.kept) c.args.server.now.turnstiles.items }) (identities_of c.args.server.now.turnstiles.items) (state w.door))
     c.in-Some-next.ensures.items c.loop-worker.invariant.doors in
     search (rules, door)
 
@@ -42,7 +42,7 @@ loop-worker-init g c =
     let counted : length c.args.workers.items ≡ into_iter_len c.next.new.self + 1 = omega (arith, c.into_iter-rest.ensures.len, c.args.workers.ok.0, c.in-Some.ensures.len) in
     record {
       own = e.own;
-      doors = others_of_all c.args.workers.items left c.in-Some.worker (λ w. IsDoorTo (record { store = c.args.server.now.store; pools = pools_of (λ k. lasting_of (g.M.Machine.kept k.machine)) c.args.server.now.turnstiles.items }) (identities_of c.args.server.now.turnstiles.items) (state w.door)) parts c.requires.doors;
+      doors = others_of_all c.args.workers.items left c.in-Some.worker (λ w. IsDoorTo (record { store = c.args.server.now.store; pools = pools_of (lasting_in g.M.Machine.kept) c.args.server.now.turnstiles.items }) (identities_of c.args.server.now.turnstiles.items) (state w.door)) parts c.requires.doors;
       left = omega (arith, counted, ap length parts);
       out = out_less (g.N.Listener.state c.args.listener.now).out (g.N.Listener.state c.end_worker-stop.new.listener).out (length c.args.workers.items) (into_iter_len c.next.new.self) counted e.shuts.out c.requires.out;
       ended = ended_one c.args.workers.items left c.in-Some.worker _ _ _ (length ts) _ _ _ _ parts (tells _ _ _ _ _ e.door) e.shuts e.stop;
@@ -61,7 +61,7 @@ loop-worker-preserved g c =
     let counted : into_iter_len c.loop-worker.rest ≡ into_iter_len c.next-in-loop-worker.new.self + 1 = omega (arith, c.in-Some-next.ensures.len) in
     record {
       own = c.join-passes.ensures.own;
-      doors = others_of_all old left w (λ w. IsDoorTo (record { store = c.args.server.now.store; pools = pools_of (λ k. lasting_of (g.M.Machine.kept k.machine)) c.args.server.now.turnstiles.items }) (identities_of c.args.server.now.turnstiles.items) (state w.door)) parts i.doors;
+      doors = others_of_all old left w (λ w. IsDoorTo (record { store = c.args.server.now.store; pools = pools_of (lasting_in g.M.Machine.kept) c.args.server.now.turnstiles.items }) (identities_of c.args.server.now.turnstiles.items) (state w.door)) parts i.doors;
       left = omega (arith, i.left, counted, ap length parts);
       out = out_less (g.N.Listener.state c.loop-worker.listener).out (g.N.Listener.state c.end_worker-next.new.listener).out (into_iter_len c.loop-worker.rest) (into_iter_len c.next-in-loop-worker.new.self) counted e.shuts.out i.out;
       ended = ended_more c.args.workers.items old left w _ _ _ (length ts) _ _ _ _ _ _ (views c.loop-worker.passes.passes.items) _ _

@@ -1,6 +1,6 @@
 -- One number more is split off.
 use Rattle.std.proofs.Common.{◌≡◌, ◌+◌, ◌∙◌, length, ap, arith}
-use Rattle.shared_doors.specs.Lasting.{lasting_of}
+use Rattle.shared_doors.specs.Machines.{lasting_in}
 use Rattle.shared_doors.specs.Views.{view_at, views}
 use Rattle.swarm_workers.proofs.NewDoors.{first_share, may_split, new_share, shares_push, split_first}
 use Rattle.swarm_workers.proofs.making.split_all.Goals as goal
@@ -35,8 +35,8 @@ loop-number-preserved g c =
       count = omega (arith, i.count, c.push_reserved.ensures.len);
       room = omega (arith, i.room, c.push_reserved.ensures.capacity);
       first = λ p low. split_first n (view_at (views c.loop-number.first.passes.items) p) (view_at (views kept.passes.items) p) (view_at (views given.passes.items) p) (i.first p low) (s.split p low);
-      shares = shares_push (λ k. lasting_of (g.M.Machine.kept k.machine)) ts (λ s. s.passes.items) 1 n old c.push_reserved.new.self.items given c.push_reserved.ensures.items counted i.shares
-          (new_share (λ k. lasting_of (g.M.Machine.kept k.machine)) ts n c.loop-number.first.passes.items kept.passes.items given.passes.items i.first s.split s.given);
+      shares = shares_push (lasting_in g.M.Machine.kept) ts (λ s. s.passes.items) 1 n old c.push_reserved.new.self.items given c.push_reserved.ensures.items counted i.shares
+          (new_share (lasting_in g.M.Machine.kept) ts n c.loop-number.first.passes.items kept.passes.items given.passes.items i.first s.split s.given);
     }
 
 pub returns : goal.returns
@@ -45,6 +45,6 @@ returns g c =
     let done : c.loop-number.number ≡ c.args.workers = omega (arith, c.loop-number-test.false, c.requires.number) in
     record {
       count = omega (arith, done, i.count, c.loop-number.others.ok.0);
-      shares = (first_share (λ k. lasting_of (g.M.Machine.kept k.machine)) c.args.server.now.turnstiles.items c.loop-number.number c.loop-number.first.passes.items i.first i.own, i.shares);
+      shares = (first_share (lasting_in g.M.Machine.kept) c.args.server.now.turnstiles.items c.loop-number.number c.loop-number.first.passes.items i.first i.own, i.shares);
       made = λ p low. ap (λ v. v.made) (i.first p low) ∙ done;
     }

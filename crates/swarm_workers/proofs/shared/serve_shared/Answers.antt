@@ -1,6 +1,6 @@
 use Rattle.std.proofs.Common.{arith, sym, ◌∙◌}
 use Rattle.std.proofs.lemmas.List.{length-map}
-use Rattle.shared_doors.specs.Lasting.{lasting_of}
+use Rattle.shared_doors.specs.Machines.{lasting_in}
 use Rattle.swarm_workers.specs.Crews.{HasWorked}
 use Rattle.swarm_workers.proofs.Crewing.{same_settings, new_settings, new_calls, as_many, some_of, out_enough, above_map, below_map, written, count_written, doors_after, alone_after, served_all}
 use Rattle.swarm_workers.proofs.Closing.{kept_at, none_past, count_closed}
@@ -55,9 +55,9 @@ returns-clause-serves g c =
     (written _ (HasWorked c.args.connections) c.deref_mut.result.now c.run_workers.new.workers c.make_workers-crew.result.items c.make_workers-crew.result.len c.deref_mut.ensures.len c.run_workers.ensures)
     c.in_ok-acceptors.ensures c.make_workers-crew.ensures.acceptors c.make_workers-crew.ensures.doors c.make_workers-crew.ensures.clocks c.run_workers.ensures
     (λ p lt. c.end_workers-stop.ensures.joined p (above_map _ _ p lt))
-    (kept_at (λ k. lasting_of (g.M.Machine.kept k.machine)) _ _ _ _ c.in-Ok.ensures.closed c.in_ok-server.ensures.opening)
-    (none_past (λ k. lasting_of (g.M.Machine.kept k.machine)) _ _ _ _ c.in-Ok.ensures.closed)
+    (kept_at (lasting_in g.M.Machine.kept) _ _ _ _ c.in-Ok.ensures.closed c.in_ok-server.ensures.opening)
+    (none_past (lasting_in g.M.Machine.kept) _ _ _ _ c.in-Ok.ensures.closed)
     c.end_workers-stop.ensures.shuts c.end_workers-stop.ensures.stop
 
 pub returns-clause-count : goal.returns-clause-count
-returns-clause-count g c = sym (length-map c.in-Ok.machines.items _) ∙ count_closed (λ k. lasting_of (g.M.Machine.kept k.machine)) _ _ _ _ c.in-Ok.ensures.closed ∙ c.in_ok-server.ensures.count
+returns-clause-count g c = sym (length-map c.in-Ok.machines.items _) ∙ count_closed (lasting_in g.M.Machine.kept) _ _ _ _ c.in-Ok.ensures.closed ∙ c.in_ok-server.ensures.count

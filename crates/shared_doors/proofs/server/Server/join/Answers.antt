@@ -2,7 +2,7 @@
 use Rattle.std.proofs.Common.{◌<◌, length, get_or, arith, sym, subst, ap, ◌∙◌, IsTrue, is_some, None}
 use Rattle.std.proofs.lemmas.List.{length-map, length-set, get_or-set_other}
 use Rattle.shared_doors.specs.Joined.{Joins}
-use Rattle.shared_doors.specs.Lasting.{lasting_of}
+use Rattle.shared_doors.specs.Machines.{lasting_in}
 use Rattle.shared_doors.specs.Views.{look, view_at, view_or, views}
 use Rattle.shared_doors.proofs.ByPlace.{more_places, one_of, rest_stays, seen_at, there}
 use Rattle.shared_doors.proofs.server.Server.join.Goals as goal
@@ -14,7 +14,7 @@ take_at-other-requires g c =
     let i = c.loop-place.invariant in
     record {
       place = omega (arith, low, i.count, c.requires.two.count);
-      there = subst (λ o. IsTrue (is_some o)) (sym (i.others place (omega arith))) (there (λ k. lasting_of (g.M.Machine.kept k.machine)) c.args.self.now.turnstiles.items c.args.two.passes.items place c.requires.two low);
+      there = subst (λ o. IsTrue (is_some o)) (sym (i.others place (omega arith))) (there (lasting_in g.M.Machine.kept) c.args.self.now.turnstiles.items c.args.two.passes.items place c.requires.two low);
     }
 
 pub join_at-requires : goal.join_at-requires
@@ -25,7 +25,7 @@ join_at-requires g c =
     record {
       own = i.own;
       place = low;
-      other = one_of (λ k. lasting_of (g.M.Machine.kept k.machine)) c.args.self.now.turnstiles.items c.args.two.passes.items place c.take_at-other.result c.requires.two low
+      other = one_of (lasting_in g.M.Machine.kept) c.args.self.now.turnstiles.items c.args.two.passes.items place c.take_at-other.result c.requires.two low
           (sym (i.others place (omega arith)) ∙ c.take_at-other.ensures.pass);
     }
 
@@ -42,7 +42,7 @@ loop-place-preserved g c =
     let cur = views c.loop-place.joined.passes.items in
     let next = views c.join_at.new.passes.passes.items in
     let low_view : place < length cur = omega (arith, low, i.own.count, length-map c.loop-place.joined.passes.items view_or) in
-    let seen = seen_at (λ k. lasting_of (g.M.Machine.kept k.machine)) c.args.self.now.turnstiles.items c.args.two.passes.items place c.take_at-other.result c.requires.two low
+    let seen = seen_at (lasting_in g.M.Machine.kept) c.args.self.now.turnstiles.items c.args.two.passes.items place c.take_at-other.result c.requires.two low
     (sym (i.others place (omega arith)) ∙ c.take_at-other.ensures.pass) in
     record {
       own = j.own;

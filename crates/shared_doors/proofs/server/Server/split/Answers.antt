@@ -4,7 +4,7 @@ use Rattle.std.proofs.lemmas.List.{length-map}
 use Rattle.std.proofs.lemmas.List.Elements.{All-push}
 use Rattle.std.specs.List.{All}
 use Rattle.shared_doors.specs.Joined.{MaySplit}
-use Rattle.shared_doors.specs.Lasting.{lasting_of}
+use Rattle.shared_doors.specs.Machines.{lasting_in}
 use Rattle.shared_doors.specs.Views.{EachBelow, look, view_or, views}
 use Rattle.shared_doors.proofs.ByPlace.{each_push, push_views, rest_stays, split_more}
 use Rattle.shared_doors.proofs.server.Server.split.Goals as goal
@@ -39,7 +39,7 @@ loop-place-preserved g c =
       count = omega (arith, i.count, c.push_reserved.ensures.len);
       room = omega (arith, i.room, c.push_reserved.ensures.capacity);
       whole = subst (All (λ o. IsTrue (is_some o))) (sym pushed) (All-push (λ o. IsTrue (is_some o)) given (Some q) i.whole refl);
-      each = each_push (λ k. lasting_of (g.M.Machine.kept k.machine)) ts given more q place pushed counted i.each s.given;
+      each = each_push (lasting_in g.M.Machine.kept) ts given more q place pushed counted i.each s.given;
       split = split_more (views c.args.passes.passes.items) cur (views c.split_at-pass.new.passes.passes.items) (views given) (views more) place s.split.0 (look q)
           low_given low_view s.split.1 (push_views given more q pushed) (i.rest place (omega arith)) s.split.2 i.split;
       rest = rest_stays (views c.args.passes.passes.items) cur (views c.split_at-pass.new.passes.passes.items) place s.split.0 s.split.1 i.rest;
@@ -52,5 +52,5 @@ returns-clause-given g c =
     record {
       count = omega (arith, full, c.loop-place.invariant.count, c.loop-place.given.ok.0);
       whole = c.loop-place.invariant.whole;
-      each = subst (λ n. EachBelow n (λ k. lasting_of (g.M.Machine.kept k.machine)) ts c.loop-place.given.items) full c.loop-place.invariant.each;
+      each = subst (λ n. EachBelow n (lasting_in g.M.Machine.kept) ts c.loop-place.given.items) full c.loop-place.invariant.each;
     }

@@ -8,7 +8,7 @@ use Rattle.swarm_history.specs.Settling.{IsUnchanged}
 use Rattle.turnstile.specs.Passes.{of_value}
 use Rattle.turnstile.proofs.Lending.{IsTurn-turn_with}
 use Rattle.shared_doors.specs.Desks.{no_state}
-use Rattle.shared_doors.specs.Lasting.{lasting_of}
+use Rattle.shared_doors.specs.Machines.{lasting_in}
 use Rattle.shared_doors.proofs.Desks.{adds_along, grown, kept_is, kept_raised, ready_raised, ready_still, rest_is, short_is, standing_is}
 use Rattle.shared_doors.proofs.shared_desk.SharedDeskDesk.add.Goals as goal
 
@@ -46,7 +46,7 @@ raise-requires g c =
     let v = c.value.result.now in
     let w = c.add.new.self in
     record {
-      turn = IsTurn-turn_with (λ k. lasting_of (g.M.Machine.kept k.machine)) t w c.requires.ready.turn;
+      turn = IsTurn-turn_with (lasting_in g.M.Machine.kept) t w c.requires.ready.turn;
       grown = grown (λ k. g.M.Machine.kept k.machine) g.K.Keeper.SURE t c.requires.ready v c.value.ensures.value w c.args.entry c.in_ok-add.ensures.added c.requires.number;
       short = short_is (λ k. g.M.Machine.kept k.machine) g.K.Keeper.SURE t c.requires.ready v c.value.ensures.value c.in_ok-add.ensures.short;
     }

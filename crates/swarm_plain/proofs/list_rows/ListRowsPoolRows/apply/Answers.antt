@@ -5,10 +5,10 @@ use Rattle.swarm_model.specs.declared.entry.Entry.{Entry}
 use Rattle.content_store.specs.Contents.{bytes_of}
 use Rattle.swarm_model.specs.Bytes.{held_after}
 use Rattle.swarm_model.specs.Effects.{after}
-use Rattle.pool_changes.proofs.Growing.{placed_below, brought_is}
+use Rattle.pool_changes.proofs.Growing.{brought_is}
 use Rattle.pool_log.specs.Reached.{MayComeNext}
 use Rattle.pool_log.specs.Plain.{RowsState}
-use Rattle.pool_log.proofs.Reached.{room_before, reached_after}
+use Rattle.pool_log.proofs.Reached.{few_placed, reached_after}
 use Rattle.swarm_plain.specs.Inside.{state_of}
 use Rattle.swarm_plain.specs.Invariant.{IsMadeReady}
 use Rattle.swarm_plain.proofs.Holding.{kept_sound}
@@ -24,10 +24,7 @@ pub apply-requires-clause-of_pool : goal.apply-requires-clause-of_pool
 apply-requires-clause-of_pool c = c.self.invariant.of_pool
 
 pub apply-requires-clause-few : goal.apply-requires-clause-few
-apply-requires-clause-few c =
-    let s = state_of c.self.inside.rows in
-    let next : MayComeNext s c.args.entry.now = rw (← c.self.view_is) at c.requires.next in
-    placed_below s.settings s next.log next.replay_of.replayed (room_before s c.args.entry.now next).few
+apply-requires-clause-few c = few_placed (state_of c.self.inside.rows) c.args.entry.now (rw (← c.self.view_is) at c.requires.next)
 
 pub apply-requires-clause-bytes : goal.apply-requires-clause-bytes
 apply-requires-clause-bytes c = brought_is c.args.entry.now.kind c.args.bytes c.requires.bytes

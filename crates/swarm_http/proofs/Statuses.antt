@@ -1,0 +1,68 @@
+-- The bytes of a reply begin with its status.
+use Rattle.std.proofs.Common.{◌≡◌, ℕ, List, [], ◌++◌, length, Bool, true, false, Option, Some, None, get_or, refl, sym, ap, ◌∙◌, append_assoc}
+use Rattle.std.specs.Prelude.{◌==◌, ◌↔◌, IsTrue, codes, decimal}
+use Rattle.std.specs.Fmt.{digits}
+use Rattle.swarm_model.specs.declared.reply.Reply.{Reply}
+use Rattle.swarm_model.specs.declared.reply.Reply.TheVariants as reply
+use Rattle.swarm_model.specs.declared.rule.Rule.{Rule}
+use Rattle.swarm_model.specs.declared.rule.Rule.TheVariants as rule
+use Rattle.reply_bodies.specs.Bodies.{body_of, content_type_of, status_of}
+use Rattle.swarm_http.specs.Replies.{phrase_of, front_line, head_with, reply_text, shown, refusal}
+use Rattle.swarm_http.specs.Outcomes.{Outcome, rejected, answered, aborted, no_body_memory, no_reply_memory, stop_rule, answer_of, bytes_of, called_place}
+use Rattle.swarm_http.specs.Exchange.{Exchange, reply_of, is_accepted}
+use Rattle.swarm_http.specs.Statuses.{start_of, Begins, ShowsStatus}
+
+text_begins : (status : ℕ) (media_type : List ℕ) (front : Option ℕ) (body : List ℕ) → Begins (start_of status) (reply_text status media_type front body)
+unfolding reply_text head_with
+text_begins status media_type front body = (
+  (phrase_of status ++ (codes "\r\nContent-Length: " ++ (decimal (length body) ++ (codes "\r\nContent-Type: " ++ (media_type ++ (codes "\r\n" ++ front_line front (codes "\r\n"))))))) ++ body,
+  simp append_assoc,
+)
+
+shown_begins : (place : ℕ) (front : Option ℕ) (r : Reply) (pieces : List (List ℕ)) → Begins (start_of (status_of r)) (shown place front r pieces)
+unfolding shown
+shown_begins place front r pieces = text_begins (status_of r) (content_type_of r) front (body_of place r pieces)
+
+refusal_begins : (front : Option ℕ) (why : Rule) → Begins (start_of (status_of (reply.No why))) (refusal front why)
+unfolding refusal
+refusal_begins front why = shown_begins 0 front (reply.No why) []
+
+outcome_begins : (outcome : Outcome) → Begins (start_of (status_of (answer_of outcome))) (bytes_of outcome)
+outcome_begins (rejected why) = refusal_begins None why
+outcome_begins (answered call result) = shown_begins (called_place call) (Some result.front) result.reply result.pieces
+outcome_begins (aborted call why) = refusal_begins None (stop_rule why)
+outcome_begins no_body_memory = refusal_begins None rule.WantOfMemory
+outcome_begins (no_reply_memory call result) = refusal_begins (Some result.front) rule.WantOfMemory
+
+pub shows_status : (x : Exchange) → ShowsStatus x
+shows_status x = outcome_begins x.outcome
+
+-- ---- a refusal has another status than 200
+
+refused : (why : Rule) → (status_of (reply.No why) == 200) ≡ false
+refused rule.BadHead = refl
+refused why = refl
+
+-- the first digit of the status is a 2
+abbrev has_two : List ℕ → Bool
+has_two text = get_or text 9 0 == 50
+
+refused_two : (why : Rule) (rest : List ℕ) → has_two (start_of (status_of (reply.No why)) ++ rest) ≡ false
+unfolding digits
+refused_two rule.BadHead rest = refl
+refused_two why rest = refl
+
+accepted_two : (rest : List ℕ) → has_two (start_of 200 ++ rest) ≡ true
+unfolding digits
+accepted_two rest = refl
+
+begins_otherwise : (why : Rule) (rest more : List ℕ) → start_of (status_of (reply.No why)) ++ rest ≡ start_of 200 ++ more → ⊥
+begins_otherwise why rest more e = let same : false ≡ true = sym (refused_two why rest) ∙ ap has_two e ∙ accepted_two more in cc (same)
+
+accepted_reply : (r : Reply) (text : List ℕ) → Begins (start_of (status_of r)) text → IsTrue (status_of r == 200) ↔ Begins (start_of 200) text
+accepted_reply (reply.No why) text begins =
+    (λ is. absurd (cc (is, refused why)), λ other. absurd (begins_otherwise why begins.0 other.0 (sym begins.1 ∙ other.1)))
+accepted_reply r text begins = (λ is. begins, λ other. refl)
+
+pub accepted_is : (x : Exchange) → IsTrue (is_accepted x) ↔ Begins (start_of 200) (reply_of x)
+accepted_is x = accepted_reply (answer_of x.outcome) (reply_of x) (shows_status x)
