@@ -2,18 +2,19 @@
 #![tactic(auto, unfolding(clap::specs::Walk::walked, clap::specs::Walk::bundle_met, clap::specs::Faults::walk_fault, clap::specs::Faults::defaults_fault, clap::specs::Faults::flags_fault))]
 
 ghost use Rattle.std.specs.Prelude.{◌≡◌, ◌++◌, ◌∷◌, [], Some, None, true, false, codes};
-ghost use Rattle.command_words.specs.Commands.{bot, bots, cancel, command_of};
+ghost use Rattle.command_words.specs.ClientWork.{bots, cancel};
+ghost use Rattle.command_words.specs.Commands.{bot, client, command_of};
 ghost use Rattle.base_examples.specs.WordExamples.{asked_of, small_bot};
 
 /// A run is to stop only where the flag `--kill` asks for it.
 pub fn a_kill_is_asked_for_by_its_flag()
-    ensures asked { command_of (asked_of (codes "cancel") ++ codes "--kill" ∷ codes "1a0" ∷ []) ≡ Some (cancel (codes "http://h") (codes "ana") true (codes "1a0")) }
-    ensures left_out { command_of (asked_of (codes "cancel") ++ codes "1a0" ∷ []) ≡ Some (cancel (codes "http://h") (codes "ana") false (codes "1a0")) }
+    ensures asked { command_of (asked_of (codes "cancel") ++ codes "--kill" ∷ codes "1a0" ∷ []) ≡ Some (client (codes "http://h") (codes "ana") (cancel true (codes "1a0"))) }
+    ensures left_out { command_of (asked_of (codes "cancel") ++ codes "1a0" ∷ []) ≡ Some (client (codes "http://h") (codes "ana") (cancel false (codes "1a0"))) }
 {}
 
 /// At most 200 bots are listed.
 pub fn at_most_200_bots_are_listed()
-    ensures most { command_of (asked_of (codes "bots") ++ codes "--pool" ∷ codes "lab" ∷ codes "--limit" ∷ codes "200" ∷ []) ≡ Some (bots (codes "http://h") (codes "ana") (codes "lab") 200) }
+    ensures most { command_of (asked_of (codes "bots") ++ codes "--pool" ∷ codes "lab" ∷ codes "--limit" ∷ codes "200" ∷ []) ≡ Some (client (codes "http://h") (codes "ana") (bots (codes "lab") 200)) }
     ensures more { command_of (asked_of (codes "bots") ++ codes "--pool" ∷ codes "lab" ∷ codes "--limit" ∷ codes "201" ∷ []) ≡ None }
 {}
 

@@ -105,7 +105,7 @@ listing_tasks pool state limit = once (tasks_call pool state limit) task_lines
 abbrev pub listing_bots : List ℕ → ℕ → Plan
 listing_bots pool limit = once (bots_call pool limit) bot_lines
 
--- the line for a file that is refused
+-- the line for a setting, an option or a file that is refused: its place, and the rule
 abbrev pub settings_line : List ℕ → List ℕ → List ℕ
 settings_line place rule = codes "settings " ++ (place ++ (codes " " ++ (rule ++ codes "\n")))
 

@@ -27,6 +27,7 @@ mod triggering;
 pub use bots::list_bots;
 pub use canceling::cancel;
 pub use collecting::collect;
+pub use printing::settings_line;
 pub use server::Server;
 pub use tasks::list_tasks;
 pub use triggering::trigger;

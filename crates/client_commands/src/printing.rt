@@ -49,7 +49,12 @@ pub(crate) fn print_code<L: Link>(alloc: Global, console: &mut L, code: &str) ->
     }
 }
 
-fn settings_line(alloc: Global, place: &str, rule: &str) -> Result<String, AllocError>
+/// The line for a setting, an option or a file that is refused, and the rule that it breaks.
+///
+/// # Errors
+///
+/// Want of memory.
+pub fn settings_line(alloc: Global, place: &str, rule: &str) -> Result<String, AllocError>
     ensures { IfOk result (λ line. string_bytes line ≡ spec_settings_line place.now rule.now) }
 {
     format!(in alloc; "settings {place} {rule}\n")

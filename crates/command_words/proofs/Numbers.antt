@@ -6,7 +6,7 @@ use Rattle.clap.specs.ValueTests.{is_numeral, is_unsigned_in}
 use Rattle.clap.specs.declared.builder.value_parser.ValueParser.TheVariants as vp
 use Rattle.clap.proofs.ValueTestLemmas.{Accepts-accepts, accepts-Accepts}
 use Rattle.clap.proofs.WalkLemmas.{both}
-use Rattle.command_words.specs.Commands.{number_in, number_within}
+use Rattle.command_words.specs.Values.{number_in, number_within}
 
 pub number_of_ok : {E : Type 0} (least most n : ℕ) (text : List ℕ) (r : Result ℕ E) → ParsesUnsigned 64 10 text r → r ≡ Ok n
     → number_within least most n ≡ number_in least most text

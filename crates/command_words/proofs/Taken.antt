@@ -12,9 +12,11 @@ use Rattle.clap.specs.Simple.{App, Shape, built, built_leaf, entered, inherited,
 use Rattle.clap.specs.Takes.{values_pass}
 use Rattle.clap.specs.Faults.{defaults_fault, entered_fault, fault_of, level_fault, settle_fault, walk_fault}
 use Rattle.clap.specs.declared.builder.value_parser.ValueParser.TheVariants as vp
-use Rattle.command_words.specs.Grammar.{bot_app, bots_app, cancel_app, collect_app, drill_app, serve_app, swarm_app, tasks_app, trigger_app}
+use Rattle.command_words.specs.Values.{both_of, client_in, number_at, number_in}
+use Rattle.command_words.specs.ClientWork.{WorkValue, bots_app, bots_in, cancel_app, cancel_in, collect_app, collect_in, tasks_app, tasks_in, trigger_app, trigger_in}
+use Rattle.command_words.specs.Grammar.{bot_app, drill_app, serve_app, swarm_app}
 use Rattle.command_words.specs.declared.command.Command.{Command}
-use Rattle.command_words.specs.Commands.{value_of, both_of, bot_in, bots_in, cancel_in, client_in, collect_in, command_in, drill_in, number_at, number_in, serve_in, tasks_in, trigger_in}
+use Rattle.command_words.specs.Commands.{value_of, bot_in, client_with, command_in, drill_in, serve_in}
 use Rattle.command_words.proofs.Rows.{Each, Gives, Goods, Own, value_at}
 use Rattle.command_words.proofs.Walks.{Leaves, NotHelp, level_leaves, check_parts, no_kinds, walk-stops}
 
@@ -100,51 +102,56 @@ bot_own = (
   ),
 )
 
-trigger_some : (rows : List Row) → Leaves (leaf trigger_app).rules rows → is_some (trigger_in rows) ≡ true
+-- a client's command is there where what it does is
+client_command_some : (c : List Rule) (rows : List Row) → Goods c rows → (a b : Rule) → arg_by_id c (codes "server") ≡ Some a → arg_by_id c (codes "caller") ≡ Some b
+    → has_row (codes "server") rows ≡ true → has_row (codes "caller") rows ≡ true → (work : Option WorkValue) → is_some work ≡ true → is_some (client_with rows work) ≡ true
+client_command_some c rows goods a b fa fb ra rb work some = map_some _ _ (both_some _ _ (client_some c rows goods a b fa fb ra rb) some)
+
+trigger_some : (rows : List Row) → Leaves (leaf trigger_app).rules rows → is_some (client_with rows (trigger_in rows)) ≡ true
 trigger_some rows l =
     let c = (leaf trigger_app).rules in
-    map_some _ _ (both_some _ _ (client_some c rows l.goods _ _ refl refl (l.required.0 refl) (l.required.1.0 refl))
-    (text_some c rows l.goods (codes "FILE") _ refl (l.required.1.1.0 refl)))
+    client_command_some c rows l.goods _ _ refl refl (l.required.0 refl) (l.required.1.0 refl) (trigger_in rows)
+    (map_some _ _ (text_some c rows l.goods (codes "FILE") _ refl (l.required.1.1.0 refl)))
 
 trigger_own : Each (Own (leaf trigger_app).rules) (leaf trigger_app).rules
 trigger_own = (own _ _ refl refl refl, (own _ _ refl refl refl, (own _ _ refl refl refl, (own _ _ refl refl refl, tt))))
 
-collect_some : (rows : List Row) → Leaves (leaf collect_app).rules rows → is_some (collect_in rows) ≡ true
+collect_some : (rows : List Row) → Leaves (leaf collect_app).rules rows → is_some (client_with rows (collect_in rows)) ≡ true
 collect_some rows l =
     let c = (leaf collect_app).rules in
-    map_some _ _ (both_some _ _ (client_some c rows l.goods _ _ refl refl (l.required.0 refl) (l.required.1.0 refl))
-    (both_some _ _ (both_some _ _ (number_some c rows l.goods (codes "polls") _ 1 100000 refl refl (l.defaults.1.1.0 refl))
+    client_command_some c rows l.goods _ _ refl refl (l.required.0 refl) (l.required.1.0 refl) (collect_in rows)
+    (map_some _ _ (both_some _ _ (both_some _ _ (number_some c rows l.goods (codes "polls") _ 1 100000 refl refl (l.defaults.1.1.0 refl))
     (number_some c rows l.goods (codes "every") _ 0 60 refl refl (l.defaults.1.1.1.0 refl)))
     (text_some c rows l.goods (codes "ID") _ refl (l.required.1.1.1.1.0 refl))))
 
 collect_own : Each (Own (leaf collect_app).rules) (leaf collect_app).rules
 collect_own = (own _ _ refl refl refl, (own _ _ refl refl refl, (own _ _ refl refl refl, (own _ _ refl refl refl, (own _ _ refl refl refl, (own _ _ refl refl refl, tt))))))
 
-cancel_some : (rows : List Row) → Leaves (leaf cancel_app).rules rows → is_some (cancel_in rows) ≡ true
+cancel_some : (rows : List Row) → Leaves (leaf cancel_app).rules rows → is_some (client_with rows (cancel_in rows)) ≡ true
 cancel_some rows l =
     let c = (leaf cancel_app).rules in
-    map_some _ _ (both_some _ _ (client_some c rows l.goods _ _ refl refl (l.required.0 refl) (l.required.1.0 refl))
-    (text_some c rows l.goods (codes "ID") _ refl (l.required.1.1.1.0 refl)))
+    client_command_some c rows l.goods _ _ refl refl (l.required.0 refl) (l.required.1.0 refl) (cancel_in rows)
+    (map_some _ _ (text_some c rows l.goods (codes "ID") _ refl (l.required.1.1.1.0 refl)))
 
 cancel_own : Each (Own (leaf cancel_app).rules) (leaf cancel_app).rules
 cancel_own = (own _ _ refl refl refl, (own _ _ refl refl refl, (own _ _ refl refl refl, (own _ _ refl refl refl, (own _ _ refl refl refl, tt)))))
 
-tasks_some : (rows : List Row) → Leaves (leaf tasks_app).rules rows → is_some (tasks_in rows) ≡ true
+tasks_some : (rows : List Row) → Leaves (leaf tasks_app).rules rows → is_some (client_with rows (tasks_in rows)) ≡ true
 tasks_some rows l =
     let c = (leaf tasks_app).rules in
-    map_some _ _ (both_some _ _ (client_some c rows l.goods _ _ refl refl (l.required.0 refl) (l.required.1.0 refl))
-    (both_some _ _ (both_some _ _ (text_some c rows l.goods (codes "pool") _ refl (l.required.1.1.0 refl))
+    client_command_some c rows l.goods _ _ refl refl (l.required.0 refl) (l.required.1.0 refl) (tasks_in rows)
+    (map_some _ _ (both_some _ _ (both_some _ _ (text_some c rows l.goods (codes "pool") _ refl (l.required.1.1.0 refl))
     (text_some c rows l.goods (codes "state") _ refl (l.defaults.1.1.1.0 refl)))
     (number_some c rows l.goods (codes "limit") _ 1 200 refl refl (l.defaults.1.1.1.1.0 refl))))
 
 tasks_own : Each (Own (leaf tasks_app).rules) (leaf tasks_app).rules
 tasks_own = (own _ _ refl refl refl, (own _ _ refl refl refl, (own _ _ refl refl refl, (own _ _ refl refl refl, (own _ _ refl refl refl, (own _ _ refl refl refl, tt))))))
 
-bots_some : (rows : List Row) → Leaves (leaf bots_app).rules rows → is_some (bots_in rows) ≡ true
+bots_some : (rows : List Row) → Leaves (leaf bots_app).rules rows → is_some (client_with rows (bots_in rows)) ≡ true
 bots_some rows l =
     let c = (leaf bots_app).rules in
-    map_some _ _ (both_some _ _ (client_some c rows l.goods _ _ refl refl (l.required.0 refl) (l.required.1.0 refl))
-    (both_some _ _ (text_some c rows l.goods (codes "pool") _ refl (l.required.1.1.0 refl))
+    client_command_some c rows l.goods _ _ refl refl (l.required.0 refl) (l.required.1.0 refl) (bots_in rows)
+    (map_some _ _ (both_some _ _ (text_some c rows l.goods (codes "pool") _ refl (l.required.1.1.0 refl))
     (number_some c rows l.goods (codes "limit") _ 1 200 refl refl (l.defaults.1.1.1.0 refl))))
 
 bots_own : Each (Own (leaf bots_app).rules) (leaf bots_app).rules

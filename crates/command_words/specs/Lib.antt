@@ -1,2 +1,5 @@
+pub mod Rules
+pub mod Values
+pub mod ClientWork
 pub mod Grammar
 pub mod Commands

@@ -3,7 +3,7 @@
 ghost use Rattle.std.specs.Prelude.{◌≡◌, IfOk, codes, false};
 ghost use Rattle.clap.specs.Words.{app_of, new_app, rule_of, with_rule, with_subcommand};
 ghost use Rattle.clap.specs.declared.builder.command.Command.TheViews.{out-Command as fields_of};
-ghost use Rattle.command_words.specs.Grammar.{default_rule, flag_rule, number_rule, place_rule, required_rule, text_rule, with_server};
+ghost use Rattle.command_words.specs.Rules.{default_rule, flag_rule, number_rule, place_rule, required_rule, text_rule, with_server};
 
 use clap::builder::ValueParser;
 use clap::{Arg, ArgAction, Command};

@@ -1,5 +1,7 @@
 //! The commands, with the values of their options.
 
+use crate::client_work::ClientWork;
+
 /// `swarm session`: serves one connection over standard input and output.
 #[derive(Drop)]
 pub struct Session {
@@ -42,59 +44,13 @@ pub struct Bot {
     pub cache_bytes: u64,
 }
 
-/// `swarm trigger`: posts a new task.
+/// A command of a client.
 #[derive(Drop)]
-pub struct Trigger {
+pub struct Client {
     pub server: String,
     pub caller: String,
-    /// The path of the file that holds the body of the request.
-    pub file: String,
-}
-
-/// `swarm collect`: waits for the result of a task, and prints it.
-#[derive(Drop)]
-pub struct Collect {
-    pub server: String,
-    pub caller: String,
-    /// How often the result is asked for: 1 to 100000.
-    pub polls: u32,
-    /// The seconds between two polls: 0 to 60.
-    pub every: u32,
-    /// The id of the task.
-    pub id: String,
-}
-
-/// `swarm cancel`: cancels a task.
-#[derive(Drop)]
-pub struct Cancel {
-    pub server: String,
-    pub caller: String,
-    /// Whether a task that runs is killed.
-    pub kill: bool,
-    /// The id of the task.
-    pub id: String,
-}
-
-/// `swarm tasks`: lists tasks of a pool.
-#[derive(Drop)]
-pub struct Tasks {
-    pub server: String,
-    pub caller: String,
-    pub pool: String,
-    /// The name of a state, or `ALL`.
-    pub state: String,
-    /// How many tasks are listed at most: 1 to 200.
-    pub limit: u32,
-}
-
-/// `swarm bots`: lists bots of a pool.
-#[derive(Drop)]
-pub struct Bots {
-    pub server: String,
-    pub caller: String,
-    pub pool: String,
-    /// How many bots are listed at most: 1 to 200.
-    pub limit: u32,
+    /// What is done at the server.
+    pub work: ClientWork,
 }
 
 /// `swarm drill`: runs a large session, made from a number.
@@ -113,10 +69,6 @@ pub enum Command {
     Session(Session),
     Serve(Serve),
     Bot(Bot),
-    Trigger(Trigger),
-    Collect(Collect),
-    Cancel(Cancel),
-    Tasks(Tasks),
-    Bots(Bots),
+    Client(Client),
     Drill(Drill),
 }

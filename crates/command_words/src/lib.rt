@@ -13,7 +13,7 @@
 mod arguments;
 mod bot_command;
 mod bot_reading;
-mod client_commands;
+mod client_work;
 mod command;
 mod command_reading;
 mod program;
@@ -21,5 +21,6 @@ mod server_commands;
 mod values;
 mod words;
 
-pub use command::{Bot, Bots, Cancel, Collect, Command, Drill, Serve, Session, Tasks, Trigger};
+pub use client_work::ClientWork;
+pub use command::{Bot, Client, Command, Drill, Serve, Session};
 pub use words::{Words, read_words};

@@ -5,11 +5,11 @@ ghost use Rattle.clap.specs.Values.{kind_of};
 ghost use Rattle.clap.specs.Words.{app_of, fault_of, subcommand_of, subcommand_rows_of};
 ghost use Rattle.clap.specs.declared.builder.command.Command.TheViews.{out-Command as fields_of};
 ghost use Rattle.clap.specs.declared.error.kind.ErrorKind.TheVariants.{OutOfMemory};
-ghost use Rattle.command_words.specs.Grammar.{program_app, server_app, swarm_app, task_app};
+ghost use Rattle.command_words.specs.Grammar.{program_app, server_app, swarm_app};
 
 use crate::arguments::{command, enter};
 use crate::bot_command::bot;
-use crate::client_commands::{bots, cancel, collect, tasks, trigger};
+use crate::client_work::with_clients;
 use crate::server_commands::{drill, serve, session};
 use clap::{ArgMatches, Command, Error};
 use std::alloc::{AllocError, Global};
@@ -40,23 +40,11 @@ fn with_servers<'a>(alloc: Global) -> Result<Command<'a>, AllocError>
     enter(command, bot(alloc)?)
 }
 
-fn with_tasks<'a>(alloc: Global) -> Result<Command<'a>, AllocError>
-    ensures app { IfOk result (λ c. app_of c ≡ task_app) }
-    ensures plain { IfOk result (λ c. (fields_of c).has_globals ≡ false) }
-{
-    let command = with_servers(alloc)?;
-    let command = enter(command, trigger(alloc)?)?;
-    let command = enter(command, collect(alloc)?)?;
-    enter(command, cancel(alloc)?)
-}
-
 fn swarm<'a>(alloc: Global) -> Result<Command<'a>, AllocError>
     ensures app { IfOk result (λ c. app_of c ≡ swarm_app) }
     ensures plain { IfOk result (λ c. (fields_of c).has_globals ≡ false) }
 {
-    let command = with_tasks(alloc)?;
-    let command = enter(command, tasks(alloc)?)?;
-    let command = enter(command, bots(alloc)?)?;
+    let command = with_clients(with_servers(alloc)?, alloc)?;
     enter(command, drill(alloc)?)
 }
 

@@ -3,7 +3,8 @@
 ghost use Rattle.std.specs.Prelude.{◌≡◌, IfOk, codes, false};
 ghost use Rattle.clap.specs.Words.{app_of, rule_of};
 ghost use Rattle.clap.specs.declared.builder.command.Command.TheViews.{out-Command as fields_of};
-ghost use Rattle.command_words.specs.Grammar.{drill_app, serve_app, session_app, text_rule};
+ghost use Rattle.command_words.specs.Grammar.{drill_app, serve_app, session_app};
+ghost use Rattle.command_words.specs.Rules.{text_rule};
 
 use crate::arguments::{add, command, defaulted, number, text};
 use clap::{Arg, Command};

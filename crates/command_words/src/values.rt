@@ -2,7 +2,7 @@
 
 ghost use Rattle.std.specs.Prelude.{◌≡◌, ◌≤◌, IfOk, IfSome, codes, option_map, string_bytes};
 ghost use Rattle.clap.specs.Words.{first_of, found_of, rows_of, subcommand_rows_of};
-ghost use Rattle.command_words.specs.Commands.{client_in, flag_at, number_at, number_in, number_within};
+ghost use Rattle.command_words.specs.Values.{client_in, flag_at, number_at, number_in, number_within};
 
 use clap::ArgMatches;
 use std::alloc::{AllocError, Global};

@@ -14,7 +14,7 @@ use Rattle.swarm_cli.specs.declared.door_command.DoorCommand.{DoorCommand}
 use Rattle.swarm_cli.specs.declared.door_command.DoorCommand.TheVariants as command
 use Rattle.swarm_cli.specs.declared.serving.DoorResult.{DoorResult}
 use Rattle.swarm_cli.specs.declared.serving.DoorResult.TheVariants as used
-use Rattle.swarm_cli.specs.Streams.{Streams, PrintsMade}
+use Rattle.remote_commands.specs.Streams.{Streams, PrintsMade}
 use Rattle.swarm_cli.specs.ServerWork.{CarriesOutWork, ServesConsole, ServesNothing, served, not_served, work_status}
 use Rattle.swarm_cli.specs.Handling.{IsUsed, IsFinished, work_of}
 use Rattle.swarm_cli.specs.KeptRecords.{TellsFault}

@@ -14,7 +14,7 @@ use Rattle.swarm_http.specs.Answered.{KeepsDoor}
 use Rattle.swarm_http.specs.Counting.{IsCounted}
 use Rattle.swarm_history.specs.Machines.{logs_of}
 use Rattle.pool_summaries.specs.Summaries.{summary_of}
-use Rattle.swarm_cli.specs.Streams.{PrintsMade}
+use Rattle.remote_commands.specs.Streams.{PrintsMade}
 use Rattle.swarm_cli.specs.Drills.{Drills, drilled, drill_settings, drill_status, drill_text}
 use Rattle.swarm_cli.proofs.Doing.{summary_is}
 use Rattle.swarm_cli.proofs.Sessions.{fresh_of_nothing}

@@ -25,7 +25,7 @@ use Rattle.swarm_cli.specs.SettingsFile.{RunsNew, done}
 use Rattle.swarm_cli.proofs.Sessions.{fresh_of_nothing}
 use Rattle.swarm_history.specs.declared.load_fault.LoadFault.{LoadFault}
 use Rattle.swarm_history.specs.declared.load_fault.LoadFault.TheVariants as load
-use Rattle.swarm_cli.specs.Streams.{Streams}
+use Rattle.remote_commands.specs.Streams.{Streams}
 use Rattle.swarm_cli.specs.ServerWork.{ServerWork, start_status}
 use Rattle.swarm_cli.specs.Attaching.{Kept, KeepsOthers, CountsKeepers, AttachesAll, AttachesNone, DetachesAll}
 use Rattle.swarm_cli.specs.KeptRecords.{DoesOver, NoDoor, no_memory, failed, bad_store, TellsFault, RunsOver, with_door, without_door, RunsUnserved, RunsKept, served, unserved}

@@ -1,4 +1,3 @@
-pub mod BotOptionFaults
 pub mod Names
 pub mod Places
 pub mod Counts
@@ -7,5 +6,4 @@ pub mod Refusals
 pub mod Sessions
 pub mod Doing
 pub mod KeptSessions
-pub mod OptionFaults
 pub mod Drilling

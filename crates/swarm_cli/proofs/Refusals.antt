@@ -4,7 +4,7 @@ use Rattle.swarm_keeper.specs.Stores.{StoreState}
 use Rattle.swarm_policy.specs.declared.settings_fault.SettingsFault.{SettingsFault}
 use Rattle.swarm_policy.specs.declared.settings_fault.SettingsFault.TheVariants as fault
 use Rattle.swarm_policy.specs.Documents.{settings_of}
-use Rattle.swarm_cli.specs.Streams.{Streams}
+use Rattle.remote_commands.specs.Streams.{Streams}
 use Rattle.swarm_cli.specs.ServerWork.{Service}
 use Rattle.swarm_cli.specs.SettingsFile.{PrintsFault, RunsText}
 

@@ -12,7 +12,7 @@ use Rattle.swarm_http.specs.declared.ended.Ended.TheVariants.{Closed, LastAsked,
 use Rattle.swarm_http.specs.Exchange.{is_accepted}
 use Rattle.swarm_http.specs.Answered.{IsAnswered}
 use Rattle.pool_summaries.specs.Summaries.{summary_of}
-use Rattle.swarm_cli.specs.Streams.{PrintsMade}
+use Rattle.remote_commands.specs.Streams.{PrintsMade}
 
 -- the open settings, under which no bot is silent for too long in a drill
 abbrev pub drill_settings : Settings

@@ -8,7 +8,7 @@ use Rattle.swarm_cli.specs.declared.door_command.Service.{Service}
 use Rattle.swarm_cli.specs.declared.door_command.Service.TheVariants as service
 use Rattle.swarm_cli.specs.declared.serving.DoorResult.{DoorResult}
 use Rattle.swarm_cli.specs.declared.serving.DoorResult.TheVariants as used
-use Rattle.swarm_cli.specs.Streams.{Streams, PrintsMade}
+use Rattle.remote_commands.specs.Streams.{Streams, PrintsMade}
 use Rattle.swarm_cli.specs.ServerWork as deeds
 use Rattle.swarm_cli.specs.ServerWork.{ServerWork, session, serve, by_one, by_several, ServesListener, ServesConsole, ServesNothing, work_status}
 

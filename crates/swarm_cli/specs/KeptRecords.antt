@@ -10,7 +10,7 @@ use Rattle.pool_doors.specs.Doors.{DoorState, IsFreshDoor, HasNoOthersAt}
 use Rattle.swarm_history.specs.Records.{AreKept, IsBadStore}
 use Rattle.swarm_history.specs.declared.load_fault.LoadFault.{LoadFault}
 use Rattle.swarm_history.specs.declared.load_fault.LoadFault.TheVariants as load
-use Rattle.swarm_cli.specs.Streams.{Streams, SameButConsole}
+use Rattle.remote_commands.specs.Streams.{Streams, SameButConsole}
 use Rattle.swarm_cli.specs.ServerWork.{ServerWork, CarriesOutWork}
 use Rattle.swarm_cli.specs.Attaching.{told_records, KeepsOthers, CountsKeepers}
 

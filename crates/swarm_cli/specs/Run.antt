@@ -2,14 +2,14 @@
 use Rattle.std.specs.Prelude.{◌≡◌, ◌⊎◌, ℕ, List, Option, Some, None}
 use Rattle.link_writer.specs.Printing.{Prints}
 use Rattle.swarm_policy.specs.Open.{open_settings}
-use Rattle.command_words.specs.Commands.{CommandValue, session, serve, bot, trigger, collect, cancel, tasks, bots, drill}
-use Rattle.swarm_cli.specs.BotCommands.{RunsBotCommand}
-use Rattle.swarm_cli.specs.Clients.{RunsTrigger, RunsCollect, RunsCancel, RunsTasks, RunsBots}
+use Rattle.command_words.specs.Commands.{CommandValue, session, serve, bot, client, drill}
+use Rattle.remote_commands.specs.BotCommands.{RunsBotCommand}
+use Rattle.remote_commands.specs.Clients.{RunsClient}
 use Rattle.swarm_cli.specs.ServerWork.{Service, by_one, serving}
 use Rattle.swarm_cli.specs.ServerWork as work
 use Rattle.swarm_cli.specs.Drills.{Drills}
 use Rattle.swarm_cli.specs.SettingsFile.{RunsUnder, RunsFile}
-use Rattle.swarm_cli.specs.Environment.{Environment, OnlyConsole}
+use Rattle.remote_commands.specs.Environment.{Environment, OnlyConsole}
 
 -- a command over the pools, under the settings of a file, or the open ones where no file is named
 abbrev pub RunsBy : Service → Option (List ℕ) → Environment → Environment → ℕ → Type 0
@@ -22,11 +22,7 @@ CarriesOut (session settings) x y status = RunsBy (by_one work.session) settings
 CarriesOut (serve settings address workers connections) x y status = RunsBy (serving address workers connections) settings x y status
 CarriesOut (bot options) x y status = RunsBotCommand options x y status
 CarriesOut (drill cycles start) x y status = Drills start cycles x.streams.console y.streams.console status × OnlyConsole x y
-CarriesOut (trigger server caller file) x y status = RunsTrigger server caller file x y status
-CarriesOut (collect server caller polls every id) x y status = RunsCollect server caller polls every id x y status
-CarriesOut (cancel server caller kill id) x y status = RunsCancel server caller kill id x y status
-CarriesOut (tasks server caller pool state limit) x y status = RunsTasks server caller pool state limit x y status
-CarriesOut (bots server caller pool limit) x y status = RunsBots server caller pool limit x y status
+CarriesOut (client server caller work) x y status = RunsClient server caller work x y status
 
 -- the words are no command, and a text is printed that says so
 pub record PrintsRefusal (x y : Environment) (status : ℕ) : Type 0 where

@@ -14,7 +14,7 @@ use Rattle.pool_summaries.specs.Summaries.{summary_of}
 use Rattle.swarm_workers.specs.declared.worked.Worked.{Worked}
 use Rattle.swarm_workers.specs.declared.worked.WorkStop.{WorkStop}
 use Rattle.swarm_workers.specs.declared.worked.WorkStop.TheVariants as stop
-use Rattle.swarm_cli.specs.Streams.{Streams, PrintsMade}
+use Rattle.remote_commands.specs.Streams.{Streams, PrintsMade}
 use Rattle.swarm_workers.specs.Works.{IsWorked}
 
 -- one connection over the console is served, or those that come at an address, at most so many

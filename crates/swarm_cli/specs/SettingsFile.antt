@@ -1,5 +1,5 @@
 -- A command with the settings of a file.
-use Rattle.std.specs.Prelude.{◌≡◌, ◌⊎◌, ℕ, List, [], ◌++◌, codes, Option, Some, None, Result, Ok, Err, Vec, vec_items}
+use Rattle.std.specs.Prelude.{◌≡◌, ◌⊎◌, ℕ, List, [], codes, Option, Some, None, Result, Ok, Err, Vec, vec_items}
 use Rattle.std.specs.declared.alloc.Global.{Global}
 use Rattle.sw_base.specs.Files.{FilesState, Loads}
 use Rattle.sw_base.specs.declared.file_fault.FileFault.{FileFault}
@@ -12,14 +12,11 @@ use Rattle.swarm_policy.specs.Rules.{rule_name}
 use Rattle.swarm_policy.specs.Documents.{settings_of}
 use Rattle.link_writer.specs.Printing.{Prints}
 use Rattle.pool_doors.specs.Doors.{DoorState, IsFreshDoor}
-use Rattle.swarm_cli.specs.Streams.{Streams, SameButConsole}
+use Rattle.client_commands.specs.Commands.{settings_line}
+use Rattle.remote_commands.specs.Streams.{Streams, SameButConsole}
 use Rattle.swarm_cli.specs.ServerWork.{ServerWork, CarriesOutWork, Service, by_one, by_several}
 use Rattle.swarm_cli.specs.Sharing.{RunsShared}
 use Rattle.swarm_cli.specs.KeptRecords.{RunsKept}
-
--- the line for settings that are refused
-abbrev pub settings_line : List ℕ → List ℕ → List ℕ
-settings_line place rule = codes "settings " ++ (place ++ (codes " " ++ (rule ++ codes "\n")))
 
 -- the line for the first broken rule of a text
 abbrev pub fault_line : SettingsFault → List ℕ

@@ -7,7 +7,7 @@ use Rattle.pool_doors.specs.Doors.{Logs}
 use Rattle.pool_summaries.specs.Summaries.{summary_of}
 use Rattle.swarm_workers.specs.declared.worked.WorkStop.{WorkStop}
 use Rattle.swarm_workers.specs.Shared.{ServesShared}
-use Rattle.swarm_cli.specs.Streams.{Streams, PrintsMade}
+use Rattle.remote_commands.specs.Streams.{Streams, PrintsMade}
 use Rattle.swarm_cli.specs.ServerWork.{start_status, work_status}
 
 -- the links that came were served over new logs, whose summary was printed; each worker had a clock of its own

@@ -4,7 +4,7 @@ ghost use Rattle.drill_requests.specs.Texts.{drill_bytes};
 ghost use Rattle.swarm_model.specs.Settings.{are_settings};
 ghost use Rattle.swarm_history.specs.Machines.{logs_of};
 ghost use Rattle.pool_summaries.specs.Summaries.{summary_of};
-ghost use Rattle.swarm_cli.specs.Streams.{PrintsMade};
+ghost use Rattle.remote_commands.specs.Streams.{PrintsMade};
 ghost use Rattle.swarm_cli.specs.Drills.{Drills, drill_settings as spec_drill_settings, drill_status, drill_text};
 
 use crate::serving::no_keepers;

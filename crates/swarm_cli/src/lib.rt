@@ -12,22 +12,15 @@
 //! pool there, and the records grow with the logs; `RunsKept` of `specs/KeptRecords.antt` is that
 //! contract, and `RunsBy` of `specs/Run.antt` holds them together. The word `drill` serves a
 //! session that is made from a number over a link in memory; `Drills` of `specs/Drills.antt` is its
-//! contract. The commands of a client are those of `client_commands`, once their options are in their
-//! grammars; `RunsClient` of `specs/Clients.antt` says so. `bot` is that of `bot_turns`, over a
-//! runner of children, once its options are in their grammars; `RunsBotCommand` of
-//! `specs/BotCommands.antt` says so. `serve` and `drill` end with the summary of the pools, which
-//! `pool_summaries` writes.
+//! contract. The commands that ask a server are those of `remote_commands`. `serve` and `drill` end
+//! with the summary of the pools, which `pool_summaries` writes.
 #![tactic(auto)]
 
 mod attaching;
-mod bot_command;
-mod clients;
 mod door_command;
 mod drill;
 mod kept_records;
 mod listening;
-mod option_fault;
-mod options;
 mod printing;
 mod program;
 mod serving;

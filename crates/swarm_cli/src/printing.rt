@@ -1,23 +1,18 @@
 //! The lines that the program prints.
-ghost use Rattle.std.specs.Prelude.{◌≡◌, ℕ, IfOk, List, Option, codes, string_bytes};
+ghost use Rattle.std.specs.Prelude.{◌≡◌, ℕ, List, Option};
 ghost use Rattle.sw_base.specs.Listeners.{ListenerState};
 ghost use Rattle.swarm_keeper.specs.Stores.{StoreState};
 ghost use Rattle.link_writer.specs.Printing.{Prints};
-ghost use Rattle.swarm_cli.specs.Streams.{PrintsMade};
 ghost use Rattle.swarm_cli.specs.KeptRecords.{store_line as spec_store_line};
-ghost use Rattle.swarm_cli.specs.SettingsFile.{Refuses, settings_line as spec_settings_line};
+ghost use Rattle.client_commands.specs.Commands.{settings_line as spec_settings_line};
+ghost use Rattle.swarm_cli.specs.SettingsFile.{Refuses};
 
 use arrayvec::ArrayString;
+use client_commands::settings_line;
 use itoa::Buffer;
 use link_writer::print;
-use std::alloc::{AllocError, Global};
+use std::alloc::Global;
 use swarm_http::Link;
-
-fn settings_line(alloc: Global, place: &str, rule: &str) -> Result<String, AllocError>
-    ensures { IfOk result (λ line. string_bytes line ≡ spec_settings_line place.now rule.now) }
-{
-    format!(in alloc; "settings {place} {rule}\n")
-}
 
 /// Prints what is wrong with the settings, and where.
 pub(crate) fn print_refusal<L: Link>(alloc: Global, console: &mut L, place: &str, rule: &str) -> u8
@@ -26,16 +21,6 @@ pub(crate) fn print_refusal<L: Link>(alloc: Global, console: &mut L, place: &str
         (record { console = L.state console.new; clock = clock; listener = listener }) result }
 {
     match settings_line(alloc, place, rule) {
-        Ok(line) => print(console, line.as_bytes(), 3),
-        Err(_) => 5,
-    }
-}
-
-/// Prints that an option is out of its grammar.
-pub(crate) fn print_grammar<L: Link>(alloc: Global, console: &mut L, option: &str) -> u8
-    ensures { PrintsMade (spec_settings_line option.now (codes "grammar")) 3 (L.state console.old) (L.state console.new) result }
-{
-    match settings_line(alloc, option, "grammar") {
         Ok(line) => print(console, line.as_bytes(), 3),
         Err(_) => 5,
     }

@@ -7,15 +7,15 @@ ghost use Rattle.command_words.specs.Commands.{command_of, value_of};
 ghost use Rattle.command_words.specs.Commands as words;
 ghost use Rattle.swarm_cli.specs.ServerWork.{serving};
 ghost use Rattle.swarm_cli.specs.Handling.{HasRanges, service_of};
+ghost use Rattle.remote_commands.specs.Environment.{environment};
 ghost use Rattle.swarm_cli.specs.Run.{CarriesOut, Runs, RunsBy};
 
-use crate::bot_command::run_bot_command;
-use crate::clients::{run_bots, run_cancel, run_collect, run_tasks, run_trigger};
 use crate::door_command::{DoorCommand, Service};
 use crate::drill::run_drill;
 use crate::settings_file::{run_file, run_unkept};
 use command_words::{Command, Words, read_words};
 use link_writer::print;
+use remote_commands::{run_bot_command, run_client};
 use runners::Runner;
 use std::alloc::Global;
 use std::marker::Send;
@@ -49,8 +49,8 @@ fn run_service<
     requires clean { IsClean (L.state console.old) }
     requires range { HasRanges service.now }
     ensures { (dialer : DialerState) (runner : RunnerState) → RunsBy (service_of service.now) (option_map string_bytes settings.now)
-        (record { files = F.state files.old; store = P.state store.old; streams = record { console = L.state console.old; clock = C.ahead clock.old; listener = N.state listener.old }; dialer = dialer; waited = C.waited clock.old; runner = runner })
-        (record { files = F.state files.new; store = P.state store.new; streams = record { console = L.state console.new; clock = C.ahead clock.new; listener = N.state listener.new }; dialer = dialer; waited = C.waited clock.new; runner = runner }) result }
+        (environment (F.state files.old) (P.state store.old) (L.state console.old) (C.ahead clock.old) (N.state listener.old) dialer (C.waited clock.old) runner)
+        (environment (F.state files.new) (P.state store.new) (L.state console.new) (C.ahead clock.new) (N.state listener.new) dialer (C.waited clock.new) runner) result }
 {
     match settings {
         None => match open_settings(alloc) {
@@ -115,8 +115,8 @@ fn carry_out<
     requires clean { IsClean (L.state console.old) }
     requires ranges { words.HasRanges (value_of command) }
     ensures { CarriesOut (value_of command)
-        (record { files = F.state files.old; store = P.state store.old; streams = record { console = L.state console.old; clock = C.ahead clock.old; listener = N.state listener.old }; dialer = W.state dialer.old; waited = C.waited clock.old; runner = R.state runner.old })
-        (record { files = F.state files.new; store = P.state store.new; streams = record { console = L.state console.new; clock = C.ahead clock.new; listener = N.state listener.new }; dialer = W.state dialer.new; waited = C.waited clock.new; runner = R.state runner.new }) result }
+        (environment (F.state files.old) (P.state store.old) (L.state console.old) (C.ahead clock.old) (N.state listener.old) (W.state dialer.old) (C.waited clock.old) (R.state runner.old))
+        (environment (F.state files.new) (P.state store.new) (L.state console.new) (C.ahead clock.new) (N.state listener.new) (W.state dialer.new) (C.waited clock.new) (R.state runner.new)) result }
 {
     match command {
         Command::Session(session) => run_service(
@@ -146,11 +146,7 @@ fn carry_out<
         }
         Command::Bot(words) => run_bot_command(alloc, &words, console, clock, dialer, runner),
         Command::Drill(drill) => run_drill(alloc, drill.start, drill.cycles, console),
-        Command::Trigger(words) => run_trigger(alloc, &words, console, files, dialer),
-        Command::Collect(words) => run_collect(alloc, &words, console, clock, dialer),
-        Command::Cancel(words) => run_cancel(alloc, &words, console, dialer),
-        Command::Tasks(words) => run_tasks(alloc, &words, console, dialer),
-        Command::Bots(words) => run_bots(alloc, &words, console, dialer),
+        Command::Client(words) => run_client(alloc, &words, console, clock, files, dialer),
     }
 }
 
@@ -194,8 +190,8 @@ pub fn run<
 ) -> u8
     requires { IsClean (L.state console.old) }
     ensures { Runs (command_of (map string_bytes words.now))
-        (record { files = F.state files.old; store = P.state store.old; streams = record { console = L.state console.old; clock = C.ahead clock.old; listener = N.state listener.old }; dialer = W.state dialer.old; waited = C.waited clock.old; runner = R.state runner.old })
-        (record { files = F.state files.new; store = P.state store.new; streams = record { console = L.state console.new; clock = C.ahead clock.new; listener = N.state listener.new }; dialer = W.state dialer.new; waited = C.waited clock.new; runner = R.state runner.new }) result }
+        (environment (F.state files.old) (P.state store.old) (L.state console.old) (C.ahead clock.old) (N.state listener.old) (W.state dialer.old) (C.waited clock.old) (R.state runner.old))
+        (environment (F.state files.new) (P.state store.new) (L.state console.new) (C.ahead clock.new) (N.state listener.new) (W.state dialer.new) (C.waited clock.new) (R.state runner.new)) result }
 {
     match read_words(alloc, words) {
         Ok(Words::Command(command)) => carry_out(

@@ -6,7 +6,7 @@ ghost use Rattle.swarm_model.specs.Settings.{are_settings};
 ghost use Rattle.swarm_http.specs.Answered.{KeepsDoor};
 ghost use Rattle.swarm_history.specs.Machines.{logs_of};
 ghost use Rattle.pool_summaries.specs.Summaries.{summary_of};
-ghost use Rattle.swarm_cli.specs.Streams.{PrintsMade};
+ghost use Rattle.remote_commands.specs.Streams.{PrintsMade};
 ghost use Rattle.swarm_cli.specs.ServerWork.{exit_status, work_status, start_status};
 ghost use Rattle.swarm_cli.specs.Handling.{IsUsed, IsFinished, work_of, HasRange};
 ghost use Rattle.swarm_cli.specs.KeptRecords.{RunsOver, TellsFault};

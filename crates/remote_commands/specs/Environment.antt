@@ -1,10 +1,12 @@
 -- All that the program works on.
-use Rattle.std.specs.Prelude.{◌≡◌, ℕ, Option}
+use Rattle.std.specs.Prelude.{◌≡◌, ℕ, List, Option}
 use Rattle.sw_base.specs.Files.{FilesState}
 use Rattle.sw_base.specs.Dialers.{DialerState}
+use Rattle.sw_base.specs.Link.{LinkState}
+use Rattle.sw_base.specs.Listeners.{ListenerState}
 use Rattle.runners.specs.Calls.{RunnerState}
 use Rattle.swarm_keeper.specs.Stores.{StoreState}
-use Rattle.swarm_cli.specs.Streams.{Streams, SameButConsole}
+use Rattle.remote_commands.specs.Streams.{Streams, SameButConsole}
 
 -- `waited` are the seconds that the clock waited, where it tells them
 pub record Environment : Type 0 where
@@ -14,6 +16,17 @@ pub record Environment : Type 0 where
   pub dialer : DialerState
   pub waited : Option ℕ
   pub runner : RunnerState
+
+-- the environment of these parts
+abbrev pub environment : FilesState → StoreState → LinkState → (ℕ → Option (List ℕ)) → ListenerState → DialerState → Option ℕ → RunnerState → Environment
+environment files store console clock listener dialer waited runner = record {
+  files = files;
+  store = store;
+  streams = record { console = console; clock = clock; listener = listener };
+  dialer = dialer;
+  waited = waited;
+  runner = runner;
+}
 
 -- nothing changed but the console
 pub record OnlyConsole (x y : Environment) : Type 0 where

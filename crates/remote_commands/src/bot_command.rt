@@ -1,12 +1,15 @@
 //! The command of a bot.
 ghost use Rattle.std.specs.Prelude.{◌≡◌, ◌∷◌, [], None, Some, IfOk, codes, string_bytes};
+ghost use Rattle.sw_base.specs.Files.{FilesState};
+ghost use Rattle.sw_base.specs.Listeners.{ListenerState};
+ghost use Rattle.swarm_keeper.specs.Stores.{StoreState};
 ghost use Rattle.client_requests.specs.Addresses.{address_of};
 ghost use Rattle.bot_dimensions.specs.Pairs.{fitting_pairs};
 ghost use Rattle.command_words.specs.Commands.{BotOptions, options_of};
-ghost use Rattle.swarm_cli.specs.Clients.{Fits, first_unfit};
-ghost use Rattle.swarm_cli.specs.BotCommands.{IsNewBot, RunsBotCommand, bot_side, bot_tests, dimensions_test, limits_of, name_test, stop_line as spec_stop_line, stop_status as spec_stop_status, why_word as spec_why_word};
-ghost use Rattle.swarm_cli.specs.Streams.{PrintsMade};
-ghost use Rattle.swarm_cli.specs.Environment.{Environment};
+ghost use Rattle.remote_commands.specs.Clients.{Fits, first_unfit};
+ghost use Rattle.remote_commands.specs.BotCommands.{IsNewBot, RunsBotCommand, bot_tests, dimensions_test, limits_of, name_test, stop_line as spec_stop_line, stop_status as spec_stop_status, why_word as spec_why_word};
+ghost use Rattle.remote_commands.specs.Streams.{PrintsMade};
+ghost use Rattle.remote_commands.specs.Environment.{environment};
 
 use crate::option_fault::OptionFault;
 use crate::options::{print_option_fault, server_of};
@@ -21,8 +24,7 @@ use link_writer::print;
 use named_caches::CacheTable;
 use runners::Runner;
 use std::alloc::{AllocError, Global};
-use sw_base::{Dialer, StartFault};
-use swarm_http::{Clock, Link};
+use sw_base::{Clock, Dialer, Link, StartFault};
 use swarm_model::is_name;
 
 fn pairs_of(alloc: Global, words: &Bot) -> Result<Seq<(Text, Text)>, OptionFault>
@@ -156,9 +158,9 @@ fn run_hands<L: Link, C: Clock, W: Dialer, R: Runner>(
     dialer: &mut W,
     runner: &mut R,
 ) -> u8
-    ensures { (rest : Environment) (o : BotOptions) → first_unfit (bot_tests o) ≡ None → limits ≡ limits_of o → IsNewBot o hands.old → RunsBotCommand o
-        (bot_side rest (L.state console.old) (C.ahead clock.old) (W.state dialer.old) (C.waited clock.old) (R.state runner.old))
-        (bot_side rest (L.state console.new) (C.ahead clock.new) (W.state dialer.new) (C.waited clock.new) (R.state runner.new)) result }
+    ensures { (files : FilesState) (store : StoreState) (listener : ListenerState) (o : BotOptions) → first_unfit (bot_tests o) ≡ None → limits ≡ limits_of o → IsNewBot o hands.old → RunsBotCommand o
+        (environment files store (L.state console.old) (C.ahead clock.old) listener (W.state dialer.old) (C.waited clock.old) (R.state runner.old))
+        (environment files store (L.state console.new) (C.ahead clock.new) listener (W.state dialer.new) (C.waited clock.new) (R.state runner.new)) result }
 {
     match runner.open(&hands.id) {
         Ok(()) => match run_bot(alloc, hands, clock, dialer, runner, limits) {
@@ -170,8 +172,8 @@ fn run_hands<L: Link, C: Clock, W: Dialer, R: Runner>(
     }
 }
 
-/// Runs a bot.
-pub(crate) fn run_bot_command<L: Link, C: Clock, W: Dialer, R: Runner>(
+/// Runs a bot, and answers the status with which the program ends.
+pub fn run_bot_command<L: Link, C: Clock, W: Dialer, R: Runner>(
     alloc: Global,
     words: &Bot,
     console: &mut L,
@@ -179,9 +181,9 @@ pub(crate) fn run_bot_command<L: Link, C: Clock, W: Dialer, R: Runner>(
     dialer: &mut W,
     runner: &mut R,
 ) -> u8
-    ensures { (rest : Environment) → RunsBotCommand (options_of words.now)
-        (bot_side rest (L.state console.old) (C.ahead clock.old) (W.state dialer.old) (C.waited clock.old) (R.state runner.old))
-        (bot_side rest (L.state console.new) (C.ahead clock.new) (W.state dialer.new) (C.waited clock.new) (R.state runner.new)) result }
+    ensures { (files : FilesState) (store : StoreState) (listener : ListenerState) → RunsBotCommand (options_of words.now)
+        (environment files store (L.state console.old) (C.ahead clock.old) listener (W.state dialer.old) (C.waited clock.old) (R.state runner.old))
+        (environment files store (L.state console.new) (C.ahead clock.new) listener (W.state dialer.new) (C.waited clock.new) (R.state runner.new)) result }
 {
     match server_and_pairs(alloc, words) {
         Ok((server, pairs)) => match new_hands(alloc, words, server, pairs) {

@@ -1,8 +1,6 @@
 -- The command of a bot.
 use Rattle.std.specs.Prelude.{◌≡◌, ℕ, List, [], ◌∷◌, ◌++◌, codes, decimal, Option, Some, None, is_some, Ok, Err}
 use Rattle.sw_base.specs.declared.start_fault.StartFault.TheVariants as fault
-use Rattle.sw_base.specs.Dialers.{DialerState}
-use Rattle.sw_base.specs.Link.{LinkState}
 use Rattle.link_writer.specs.Printing.{Prints}
 use Rattle.client_requests.specs.Addresses.{address_of}
 use Rattle.command_words.specs.Commands.{BotOptions}
@@ -17,10 +15,10 @@ use Rattle.bot_requests.specs.declared.hands.Hands.{Hands}
 use Rattle.bot_turns.specs.declared.stopped.Stopped.{Stopped}
 use Rattle.bot_turns.specs.Turns.{bot_world}
 use Rattle.bot_turns.specs.Runs.{RunsBot}
-use Rattle.swarm_cli.specs.Clients.{OptionTest, server_test, caller_test, first_unfit}
-use Rattle.swarm_cli.specs.Streams.{PrintsMade}
-use Rattle.swarm_cli.specs.SettingsFile.{settings_line}
-use Rattle.swarm_cli.specs.Environment.{Environment, OnlyConsole}
+use Rattle.remote_commands.specs.Clients.{OptionTest, server_test, caller_test, first_unfit}
+use Rattle.remote_commands.specs.Streams.{PrintsMade}
+use Rattle.client_commands.specs.Commands.{settings_line}
+use Rattle.remote_commands.specs.Environment.{Environment, OnlyConsole}
 
 abbrev pub name_test : List ℕ → OptionTest
 name_test name = (codes "id", is_name name)
@@ -99,16 +97,3 @@ pub data RunsBotCommand (o : BotOptions) (x y : Environment) (status : ℕ) : Ty
   refused : (option : List ℕ) → first_unfit (bot_tests o) ≡ Some option → Prints (settings_line option (codes "grammar")) 3 x.streams.console y.streams.console status → OnlyConsole x y
       → RunsBotCommand o x y status
   no_memory : status ≡ 5 → y.streams.console ≡ x.streams.console → AsideFromBot x y → RunsBotCommand o x y status
-
--- ---- the parts
-
--- what a bot works with, and the rest of the surroundings
-abbrev pub bot_side : Environment → LinkState → (ℕ → Option (List ℕ)) → DialerState → Option ℕ → RunnerState → Environment
-bot_side rest console clock dialer waited runner = record {
-  files = rest.files;
-  store = rest.store;
-  streams = record { console = console; clock = clock; listener = rest.streams.listener };
-  dialer = dialer;
-  waited = waited;
-  runner = runner;
-}

@@ -4,11 +4,11 @@ use Rattle.runners.specs.declared.call.RunnerCall.TheVariants as call
 use Rattle.runners.specs.Calls.{Performs}
 use Rattle.bot_turns.specs.Turns.{bot_world}
 use Rattle.bot_turns.specs.Runs.{RunsBot}
-use Rattle.swarm_cli.specs.BotCommands.{ran}
-use Rattle.swarm_cli.proofs.bot_command.run_hands.Goals as goal
+use Rattle.remote_commands.specs.BotCommands.{ran}
+use Rattle.remote_commands.proofs.bot_command.run_hands.Goals as goal
 
 pub returns-in-Ok-run_bot : goal.returns-in-Ok-run_bot
-returns-in-Ok-run_bot g c = λ rest o fit limits new. ran fit (record {
+returns-in-Ok-run_bot g c = λ files store listener o fit limits new. ran fit (record {
   hands = c.args.hands.now;
   left = c.run_bot.new.hands;
   opened = g.R.Runner.state c.open.new.self;

@@ -1,15 +1,18 @@
-//! The options of a client's command, and their grammars.
+//! The options whose grammars are looked at here.
 ghost use Rattle.std.specs.Prelude.{◌≡◌, ◌∷◌, [], None, Some, Err, IfOk, codes, string_bytes};
 ghost use Rattle.client_requests.specs.Addresses.{address_of};
-ghost use Rattle.swarm_cli.specs.Clients.{Fits, PrintsOptionFault, server_test, caller_test, id_test, state_test, wanted_state};
+ghost use Rattle.client_commands.specs.Commands.{settings_line as spec_settings_line};
+ghost use Rattle.remote_commands.specs.Streams.{PrintsMade};
+ghost use Rattle.remote_commands.specs.Clients.{Fits, PrintsOptionFault, server_test, caller_test, id_test, state_test, wanted_state};
 
 use crate::option_fault::OptionFault;
-use crate::printing::print_grammar;
+use client_commands::settings_line;
 use client_requests::{AddressFault, ServerAddress, read_address};
 use json_fields::read_id;
+use link_writer::print;
 use request_head::is_caller;
 use std::alloc::Global;
-use swarm_http::Link;
+use sw_base::Link;
 use swarm_model::TaskState;
 use task_props::PropFault;
 
@@ -45,7 +48,8 @@ pub(crate) fn server_of(
     }
 }
 
-fn check_id(alloc: Global, id: &str) -> Result<(), OptionFault>
+/// Whether an id is in its grammar.
+pub(crate) fn check_id(alloc: Global, id: &str) -> Result<(), OptionFault>
     ensures { Fits (id_test id.now ∷ []) result }
 {
     match read_id(alloc, id) {
@@ -55,55 +59,37 @@ fn check_id(alloc: Global, id: &str) -> Result<(), OptionFault>
     }
 }
 
-/// The address of the server, where the caller and the task's id are in their grammars too.
-pub(crate) fn server_for_id(
-    alloc: Global,
-    server: &str,
-    caller: &str,
-    id: &str,
-) -> Result<ServerAddress, OptionFault>
-    ensures address { IfOk result (λ a. address_of server.now ≡ Some (string_bytes a.dial, string_bytes a.host)) }
-    ensures fits { Fits (server_test server.now ∷ caller_test caller.now ∷ id_test id.now ∷ []) result }
-{
-    match server_of(alloc, server, caller) {
-        Ok(address) => match check_id(alloc, id) {
-            Ok(()) => Ok(address),
-            Err(why) => Err(why),
-        },
-        Err(why) => Err(why),
-    }
-}
-
-fn state_of(state: &str) -> Result<Option<TaskState>, OptionFault>
-    ensures wanted { IfOk result (λ wanted. wanted ≡ wanted_state state.now) }
-    ensures fits { Fits (state_test state.now ∷ []) result }
+/// Whether a state is in its grammar.
+pub(crate) fn check_state(state: &str) -> Result<(), OptionFault>
+    ensures { Fits (state_test state.now ∷ []) result }
 {
     if state == "ALL" {
-        return Ok(None);
+        return Ok(());
     }
     match TaskState::from_name(state) {
-        Some(wanted) => Ok(Some(wanted)),
+        Some(_) => Ok(()),
         None => Err(OptionFault::State),
     }
 }
 
-/// The address of the server and the wanted state, where the caller is in its grammar too.
-pub(crate) fn server_for_state(
-    alloc: Global,
-    server: &str,
-    caller: &str,
-    state: &str,
-) -> Result<(ServerAddress, Option<TaskState>), OptionFault>
-    ensures address { IfOk result (λ a. address_of server.now ≡ Some (string_bytes a.0.dial, string_bytes a.0.host)) }
-    ensures wanted { IfOk result (λ a. a.1 ≡ wanted_state state.now) }
-    ensures fits { Fits (server_test server.now ∷ caller_test caller.now ∷ state_test state.now ∷ []) result }
+/// The state of the tasks that are listed, where it is not all of them.
+pub(crate) fn wanted_state(state: &str) -> Option<TaskState>
+    ensures { result ≡ wanted_state state.now }
 {
-    match server_of(alloc, server, caller) {
-        Ok(address) => match state_of(state) {
-            Ok(wanted) => Ok((address, wanted)),
-            Err(why) => Err(why),
-        },
-        Err(why) => Err(why),
+    if state == "ALL" {
+        None
+    } else {
+        TaskState::from_name(state)
+    }
+}
+
+/// Prints that an option is out of its grammar.
+fn print_grammar<L: Link>(alloc: Global, console: &mut L, option: &str) -> u8
+    ensures { PrintsMade (spec_settings_line option.now (codes "grammar")) 3 (L.state console.old) (L.state console.new) result }
+{
+    match settings_line(alloc, option, "grammar") {
+        Ok(line) => print(console, line.as_bytes(), 3),
+        Err(_) => 5,
     }
 }
 

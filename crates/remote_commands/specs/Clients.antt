@@ -2,7 +2,6 @@
 use Rattle.std.specs.Prelude.{◌≡◌, ⊤, ℕ, Bool, true, false, ◌||◌, List, [], ◌∷◌, codes, Option, Some, None, is_some, Result, Ok, Err, if◌then◌else◌}
 use Rattle.dimensions.specs.Alike.{same}
 use Rattle.sw_base.specs.Files.{FilesState}
-use Rattle.sw_base.specs.Dialers.{DialerState}
 use Rattle.sw_base.specs.Link.{LinkState}
 use Rattle.link_writer.specs.Printing.{Prints}
 use Rattle.json_fields.specs.Ids.{id_of}
@@ -11,13 +10,13 @@ use Rattle.client_requests.specs.Addresses.{address_of}
 use Rattle.swarm_model.specs.declared.task_state.TaskState.{TaskState}
 use Rattle.swarm_model.specs.States.{state_named}
 use Rattle.client_commands.specs.declared.server.Server.{Server}
-use Rattle.client_commands.specs.Commands.{Triggers, Cancels, Collects, ListsTasks, ListsBots}
+use Rattle.client_commands.specs.Commands.{Triggers, Cancels, Collects, ListsTasks, ListsBots, settings_line}
 use Rattle.client_commands.specs.Plans.{World}
-use Rattle.swarm_cli.specs.declared.option_fault.OptionFault.{OptionFault}
-use Rattle.swarm_cli.specs.declared.option_fault.OptionFault.TheVariants as option_fault
-use Rattle.swarm_cli.specs.Streams.{PrintsMade}
-use Rattle.swarm_cli.specs.SettingsFile.{settings_line}
-use Rattle.swarm_cli.specs.Environment.{Environment, OnlyConsole}
+use Rattle.command_words.specs.ClientWork.{WorkValue, trigger, collect, cancel, tasks, bots}
+use Rattle.remote_commands.specs.declared.option_fault.OptionFault.{OptionFault}
+use Rattle.remote_commands.specs.declared.option_fault.OptionFault.TheVariants as option_fault
+use Rattle.remote_commands.specs.Streams.{PrintsMade}
+use Rattle.remote_commands.specs.Environment.{Environment, OnlyConsole}
 
 -- the name of an option, and whether its value is in its grammar
 abbrev pub OptionTest : Type 0
@@ -48,19 +47,38 @@ abbrev pub first_unfit : List OptionTest → Option (List ℕ)
 first_unfit [] = None
 first_unfit (test ∷ tests) = if test.1 then first_unfit tests else Some test.0
 
+-- the options of a command of a client that have a grammar
+abbrev pub work_tests : WorkValue → List OptionTest
+work_tests (trigger file) = []
+work_tests (collect polls every id) = id_test id ∷ []
+work_tests (cancel kill id) = id_test id ∷ []
+work_tests (tasks pool state limit) = state_test state ∷ []
+work_tests (bots pool limit) = []
+
+abbrev pub client_tests : List ℕ → List ℕ → WorkValue → List OptionTest
+client_tests server caller work = server_test server ∷ caller_test caller ∷ work_tests work
+
+-- what a command of a client does at a server
+abbrev pub DoesWork : WorkValue → Server → FilesState → FilesState → World → World → ℕ → Type 0
+DoesWork (trigger file) by f g w v status = Triggers by file f g w v status
+DoesWork (collect polls every id) by f g w v status = Collects by id polls every w v status
+DoesWork (cancel kill id) by f g w v status = Cancels by id kill w v status
+DoesWork (tasks pool state limit) by f g w v status = ListsTasks by pool (wanted_state state) limit w v status
+DoesWork (bots pool limit) by f g w v status = ListsBots by pool limit w v status
+
 -- what a client works with
 abbrev pub world_of : Environment → World
 world_of x = record { dialer = x.dialer; console = x.streams.console; waited = x.waited }
 
--- it was done with the server that the words name, for their caller
-pub record DoneAt (server caller : List ℕ) (does : Server → Type 0) : Type 0 where
+-- it was done at the server that the words name, for their caller
+pub record DoneAt (server caller : List ℕ) (work : WorkValue) (x y : Environment) (status : ℕ) : Type 0 where
   pub address : List ℕ × List ℕ
   pub address_is : address_of server ≡ Some address
   pub by : Server
   pub dials : by.address.now ≡ address.0
   pub host_is : by.host.now ≡ address.1
   pub caller_is : by.caller.now ≡ caller
-  pub done : does by
+  pub done : DoesWork work by x.files y.files (world_of x) (world_of y) status
 
 -- the store, the listener and the runner are as before
 pub record AsideFromClient (x y : Environment) : Type 0 where
@@ -69,45 +87,13 @@ pub record AsideFromClient (x y : Environment) : Type 0 where
   pub runner : y.runner ≡ x.runner
 
 -- a client's command was carried out, or the first of its options that is out of its grammar is told
-pub data RunsClient (tests : List OptionTest) (server caller : List ℕ) (does : Server → Type 0) (x y : Environment) (status : ℕ) : Type 0 where
-  carried_out : first_unfit tests ≡ None → DoneAt server caller does → AsideFromClient x y → RunsClient tests server caller does x y status
-  refused : (option : List ℕ) → first_unfit tests ≡ Some option → Prints (settings_line option (codes "grammar")) 3 x.streams.console y.streams.console status → OnlyConsole x y
-      → RunsClient tests server caller does x y status
-  no_memory : status ≡ 5 → y ≡ x → RunsClient tests server caller does x y status
-
-abbrev pub RunsTrigger : List ℕ → List ℕ → List ℕ → Environment → Environment → ℕ → Type 0
-RunsTrigger server caller file x y status =
-    RunsClient (server_test server ∷ caller_test caller ∷ []) server caller (λ by. Triggers by file x.files y.files (world_of x) (world_of y) status) x y status
-
-abbrev pub RunsCollect : List ℕ → List ℕ → ℕ → ℕ → List ℕ → Environment → Environment → ℕ → Type 0
-RunsCollect server caller polls every id x y status =
-    RunsClient (server_test server ∷ caller_test caller ∷ id_test id ∷ []) server caller (λ by. Collects by id polls every (world_of x) (world_of y) status) x y status
-
-abbrev pub RunsCancel : List ℕ → List ℕ → Bool → List ℕ → Environment → Environment → ℕ → Type 0
-RunsCancel server caller kill id x y status =
-    RunsClient (server_test server ∷ caller_test caller ∷ id_test id ∷ []) server caller (λ by. Cancels by id kill (world_of x) (world_of y) status) x y status
-
-abbrev pub RunsTasks : List ℕ → List ℕ → List ℕ → List ℕ → ℕ → Environment → Environment → ℕ → Type 0
-RunsTasks server caller pool state limit x y status =
-    RunsClient (server_test server ∷ caller_test caller ∷ state_test state ∷ []) server caller
-    (λ by. ListsTasks by pool (wanted_state state) limit (world_of x) (world_of y) status) x y status
-
-abbrev pub RunsBots : List ℕ → List ℕ → List ℕ → ℕ → Environment → Environment → ℕ → Type 0
-RunsBots server caller pool limit x y status =
-    RunsClient (server_test server ∷ caller_test caller ∷ []) server caller (λ by. ListsBots by pool limit (world_of x) (world_of y) status) x y status
+pub data RunsClient (server caller : List ℕ) (work : WorkValue) (x y : Environment) (status : ℕ) : Type 0 where
+  carried_out : first_unfit (client_tests server caller work) ≡ None → DoneAt server caller work x y status → AsideFromClient x y → RunsClient server caller work x y status
+  refused : (option : List ℕ) → first_unfit (client_tests server caller work) ≡ Some option → Prints (settings_line option (codes "grammar")) 3 x.streams.console y.streams.console status → OnlyConsole x y
+      → RunsClient server caller work x y status
+  no_memory : status ≡ 5 → y ≡ x → RunsClient server caller work x y status
 
 -- ---- the parts
-
--- what a client works with, and the rest of the surroundings
-abbrev pub client_side : Environment → FilesState → LinkState → (ℕ → Option (List ℕ)) → DialerState → Option ℕ → Environment
-client_side rest files console clock dialer waited = record {
-  files = files;
-  store = rest.store;
-  streams = record { console = console; clock = clock; listener = rest.streams.listener };
-  dialer = dialer;
-  waited = waited;
-  runner = rest.runner;
-}
 
 -- the option of a fault
 abbrev pub option_name : OptionFault → List ℕ

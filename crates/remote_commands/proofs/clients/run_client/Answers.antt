@@ -1,0 +1,10 @@
+use Rattle.std.specs.Prelude.{string_bytes}
+use Rattle.command_words.specs.ClientWork.{work_of}
+use Rattle.remote_commands.proofs.OptionFaults.{client_told}
+use Rattle.remote_commands.proofs.clients.run_client.Goals as goal
+
+pub returns-in-Err : goal.returns-in-Err
+returns-in-Err g c = λ store listener runner.
+    client_told (g.F.Files.state c.args.files.now) store (g.L.Link.state c.args.console.now) (g.L.Link.state c.print_option_fault.new.console) (g.C.Clock.ahead c.args.clock.now) listener
+    (g.W.Dialer.state c.args.dialer.now) (g.C.Clock.waited c.args.clock.now) runner c.print_option_fault.result (string_bytes c.args.words.now.server) (string_bytes c.args.words.now.caller)
+    (work_of c.args.words.now.work) c.in-Err.why c.in-Err.ensures.fits c.print_option_fault.ensures

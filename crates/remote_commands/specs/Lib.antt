@@ -1,0 +1,4 @@
+pub mod Streams
+pub mod Environment
+pub mod Clients
+pub mod BotCommands
