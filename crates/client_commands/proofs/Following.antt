@@ -26,11 +26,11 @@ pub exchanged : {server : Server} {call : Call} {s : DialerState} {c : LinkState
 exchanged {call = call} {s = s} {c = c} {waited = waited} x t next e = λ v status f. asks call next (world s c waited) v status t x e f
 
 -- the request that was exchanged is one of the call
-pub exchanges_of : {server : Server} {s t : DialerState} {x : Exchanged} {route : Route} (call : Call) (path body request : List ℕ) → call.route ≡ route → call.path ≡ path → IsBody route call.body body
+pub exchanges_of : {server : Server} {s t : DialerState} {x : Exchanged} {route : Route} (call : Call) (path body request : List ℕ) → call.route ≡ route → call.path ≡ path → IsBody call.route call.body body
     → request ≡ posted path server body → IsExchanged s t server.address.now request route x → Exchanges server call s t x
 exchanges_of {server = server} {s = s} {t = t} {x = x} {route = route} call path body request er ep is e k = record {
   body = body;
-  is_body = subst (λ r. IsBody r call.body body) (sym er) is;
+  is_body = is;
   exchanged = subst (λ r. IsExchanged s t server.address.now (posted call.path server body) r x) (sym er)
       (subst (λ p. IsExchanged s t server.address.now (posted p server body) route x) (sym ep) (subst (λ q. IsExchanged s t server.address.now q route x) e k));
 }

@@ -35,8 +35,7 @@ use Rattle.bot_bodies.specs.declared.pool_request.PoolRequest.{PoolRequest}
 use Rattle.swarm_wire.specs.declared.asked.Asked.{Asked}
 use Rattle.swarm_wire.specs.declared.asked.WireFault.{WireFault}
 use Rattle.swarm_wire.specs.Asking.{asked, asked_of, object_in, object_of, or_bad_field, pool_at, pool_named, below_of, cancel_of, result_of, stdout_of, list_of, named_of}
-use Rattle.client_commands.specs.Bodies.{id_data, cancel_data, stdout_data, tasks_data, bots_data, state_word}
-use Rattle.client_commands.specs.Requests.{IsBody, cancel_call, result_call, stdout_call, tasks_call, bots_call}
+use Rattle.client_commands.specs.Requests.{IsBody, id_data, cancel_data, stdout_data, tasks_data, bots_data, state_word, cancel_call, result_call, stdout_call, tasks_call, bots_call}
 
 -- a text that is written of a value is read back
 pub read_back : {Z E : Type 0} (d : Data) (r : Result (String Z) E) → depth d ≤ max_depth → IfOk r (λ s. depth d ≤ max_depth → read (string_bytes s) ≡ Some d)

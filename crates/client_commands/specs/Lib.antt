@@ -1,4 +1,3 @@
-pub mod Bodies
 pub mod Requests
 pub mod Plans
 pub mod Steps

@@ -1,10 +1,13 @@
--- The requests of a client, and what the server reads in their bodies.
-use Rattle.std.specs.Prelude.{◌≡◌, ℕ, Bool, List, [], Option, None, Result, Ok, codes}
+-- The requests of a client: the bodies that are sent, and what the server reads in them.
+use Rattle.std.specs.Prelude.{◌≡◌, ℕ, Bool, List, [], Option, Some, None, Result, Ok, codes, vec_items}
+use Rattle.serde_json.specs.Data.{Data, boolean, string, object, member, no_members}
+use Rattle.json_values.specs.Values.{whole}
 use Rattle.task_props.specs.declared.prop_fault.PropFault.{PropFault}
 use Rattle.swarm_model.specs.declared.pool_settings.Settings.{Settings}
 use Rattle.swarm_model.specs.declared.request.Request.{Request}
 use Rattle.swarm_model.specs.declared.request.Request.TheVariants as ask
 use Rattle.swarm_model.specs.declared.task_state.TaskState.{TaskState}
+use Rattle.swarm_model.specs.States.{state_name}
 use Rattle.json_fields.specs.Readings.{at, ◌>>=◌}
 use Rattle.json_fields.specs.Ids.{id_of, task_of_id, try_of_id}
 use Rattle.routes.specs.declared.route.Route.{Route}
@@ -14,6 +17,7 @@ use Rattle.swarm_wire.specs.declared.asked.WireFault.{WireFault}
 use Rattle.swarm_wire.specs.declared.parts.Parts.{Parts}
 use Rattle.swarm_wire.specs.Asking.{asked, asked_of, or_bad_field, pool_at, pool_named}
 use Rattle.client_requests.specs.Requests.{request_text}
+use Rattle.client_commands.specs.declared.post.Post.{Post}
 use Rattle.client_commands.specs.declared.server.Server.{Server}
 
 -- ---- texts
@@ -22,7 +26,33 @@ use Rattle.client_commands.specs.declared.server.Server.{Server}
 abbrev pub posted : List ℕ → Server → List ℕ → List ℕ
 posted path server body = request_text (codes "POST") path server.host.now server.caller.now body
 
--- ---- bodies
+-- ---- the JSON values of bodies
+
+unfoldable pub id_data : List ℕ → Data
+id_data id = object (member (codes "task_id") (string id) no_members)
+
+unfoldable pub cancel_data : List ℕ → Bool → Data
+cancel_data id kill = object (member (codes "kill_running") (boolean kill) (member (codes "task_id") (string id) no_members))
+
+unfoldable pub stdout_data : List ℕ → ℕ → Data
+stdout_data id offset = object (member (codes "offset") (whole offset) (member (codes "task_id") (string id) no_members))
+
+-- the name of a state, or `ALL` for any
+abbrev pub state_word : Option TaskState → List ℕ
+state_word None = codes "ALL"
+state_word (Some state) = state_name state
+
+unfoldable pub tasks_data : List ℕ → Option TaskState → ℕ → Data
+tasks_data pool state limit =
+    object
+    (member (codes "limit") (whole limit)
+    (member (codes "pool") (string pool)
+    (member (codes "state") (string (state_word state)) no_members)))
+
+unfoldable pub bots_data : List ℕ → ℕ → Data
+bots_data pool limit = object (member (codes "limit") (whole limit) (member (codes "pool") (string pool) no_members))
+
+-- ---- what is read in them
 
 -- what is known of a body: its bytes, or what the server reads it as, under any settings
 pub data Body : Type 0 where
@@ -53,6 +83,12 @@ pub record Call : Type 0 where
   pub route : Route
   pub path : List ℕ
   pub body : Body
+
+-- what is posted is a request of the call
+pub record Posts (call : Call) (post : Post) : Type 0 where
+  pub route : call.route ≡ post.route
+  pub path : call.path ≡ post.path.now
+  pub body : IsBody call.route call.body (vec_items post.body)
 
 -- a task is asked for as a text has it
 abbrev pub new_task_call : List ℕ → Call

@@ -1,13 +1,13 @@
 //! One exchange of a command.
-ghost use Rattle.std.specs.Prelude.{◌≡◌, ℕ, Option};
-ghost use Rattle.client_commands.specs.Requests.{Call, IsBody};
+ghost use Rattle.std.specs.Prelude.{ℕ, Option};
+ghost use Rattle.client_commands.specs.Requests.{Call, Posts};
 ghost use Rattle.client_commands.specs.Steps.{world, Asks};
 
+use crate::post::Post;
 use crate::printing::print_code;
 use crate::server::Server;
 use client_requests::request_text;
 use dimensions::Seq;
-use routes::Route;
 use server_calls::{Exchanged, Told, exchange};
 use std::alloc::Global;
 use sw_base::{Dialer, Link};
@@ -21,24 +21,24 @@ pub(crate) struct Answer {
     pub bytes: Seq<u8>,
 }
 
-/// Sends a request of the call of a route, and answers the reply to it. Where there is none, or a
+/// Sends a request of a call, and answers the reply to it. Where there is none, or a
 /// refusal, it tells that, and answers the status of the command.
 pub(crate) fn ask<W: Dialer, L: Link>(
     alloc: Global,
     dialer: &mut W,
     console: &mut L,
     server: &Server,
-    route: Route,
-    path: &str,
-    body: &[u8],
+    post: &Post,
 ) -> Result<Answer, u8>
-    ensures { (call : Call) (waited : Option ℕ) → call.route ≡ route → call.path ≡ path.now → IsBody route call.body body.now →
+    ensures { (call : Call) (waited : Option ℕ) → Posts call post.now →
         Asks server.now call (world (W.state dialer.old) (L.state console.old) waited) (world (W.state dialer.new) (L.state console.new) waited) result }
 {
-    let Ok(request) = request_text(alloc, "POST", path, server.host, server.caller, body) else {
+    let body = post.body.as_slice();
+    let Ok(request) = request_text(alloc, "POST", post.path, server.host, server.caller, body)
+    else {
         return Err(5);
     };
-    match exchange(alloc, dialer, server.address, &request, route) {
+    match exchange(alloc, dialer, server.address, &request, post.route) {
         Exchanged::Told(
             Told::Good {
                 place,

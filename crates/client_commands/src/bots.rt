@@ -1,15 +1,19 @@
 //! Listing bots.
-ghost use Rattle.std.specs.Prelude.{◌≡◌, ◌≤◌, ◌++◌, ℕ, IfOk, OnOk, Option, string_bytes};
-ghost use Rattle.std.specs.List.{flat_map};
+ghost use Rattle.std.specs.Prelude.{◌≡◌, ◌≤◌, ℕ, IfOk, Option, string_bytes};
+ghost use Rattle.serde_json.specs.View.{view};
 ghost use Rattle.client_commands.specs.Commands.{ListsBots, bot_line, bot_word as spec_bot_word, run_word as spec_run_word, bot_lines as spec_bot_lines};
+ghost use Rattle.client_commands.specs.Requests.{Posts, bots_call, bots_data};
 ghost use Rattle.client_commands.specs.Steps.{world};
 
-use crate::bodies::bots_body;
 use crate::columns::push_left;
 use crate::ids::run_id;
 use crate::once::{ShowReply, print_answer};
+use crate::post::{Post, post_of};
+use crate::rows::{ShowRow, row_lines};
 use crate::server::Server;
+use json_values::{with_text, with_whole};
 use routes::{Route, targets};
+use serde_json::{Map, Value};
 use std::alloc::{AllocError, Global};
 use sw_base::{Dialer, Link};
 use swarm_model::{BotView, Reply};
@@ -41,25 +45,16 @@ fn run_word(alloc: Global, place: u32, run: Option<(u32, u32)>) -> Result<String
     }
 }
 
-/// Appends the line of a bot.
 #[tactic(auto, unfolding(crate::specs::Commands::bot_line))]
-fn push_bot(alloc: Global, text: &mut Vec<u8>, place: u32, bot: &BotView) -> Result<(), AllocError>
-    ensures { OnOk result (text.new.items ≡ text.old.items ++ bot_line place bot.now) }
-{
-    push_left(text, bot.bot_id.as_str().as_bytes(), 24)?;
-    push_left(text, bot_word(bot).as_bytes(), 12)?;
-    text.extend_from_slice(run_word(alloc, place, bot.task_id)?.as_bytes())?;
-    text.extend_from_slice(b"\n")
-}
+impl ShowRow for BotView {
+    ghost line = { bot_line };
 
-fn bot_lines(alloc: Global, place: u32, bots: &[BotView]) -> Result<Vec<u8>, AllocError>
-    ensures { IfOk result (λ text. text.items ≡ flat_map (bot_line place) bots.now) }
-{
-    let mut text = Vec::new(alloc);
-    for bot in bots {
-        push_bot(alloc, &mut text, place, bot)?;
+    fn push_line(&self, alloc: Global, text: &mut Vec<u8>, place: u32) -> Result<(), AllocError> {
+        push_left(text, self.bot_id.as_str().as_bytes(), 24)?;
+        push_left(text, bot_word(self).as_bytes(), 12)?;
+        text.extend_from_slice(run_word(alloc, place, self.task_id)?.as_bytes())?;
+        text.extend_from_slice(b"\n")
     }
-    Ok(text)
 }
 
 impl ShowReply for BotLines {
@@ -72,10 +67,30 @@ impl ShowReply for BotLines {
         reply: &Reply,
     ) -> Result<Option<Vec<u8>>, AllocError> {
         match reply {
-            Reply::Bots { items, .. } => Ok(Some(bot_lines(alloc, place, items.as_slice())?)),
+            Reply::Bots { items, .. } => Ok(Some(row_lines(alloc, place, items.as_slice())?)),
             _ => Ok(None),
         }
     }
+}
+
+#[tactic(auto, unfolding(crate::specs::Requests::bots_data))]
+fn bots_value(alloc: Global, pool: &str, limit: u32) -> Result<Value, AllocError>
+    ensures { IfOk result (λ value. view value ≡ bots_data pool.now limit) }
+{
+    let members = with_text(alloc, Map::new(alloc), "pool", pool)?;
+    let members = with_whole(alloc, members, "limit", u64::from(limit))?;
+    Ok(Value::Object(members))
+}
+
+/// The request for the first page of the bots.
+#[tactic(auto, using(crate::proofs::Meanings::bots_is_meant), unfolding(crate::specs::Requests::bots_data))]
+fn bots_post(alloc: Global, pool: &str, limit: u32) -> Result<Post, AllocError>
+    requires some { 1 ≤ limit }
+    requires few { limit ≤ 200 }
+    ensures { IfOk result (Posts (bots_call pool.now limit)) }
+{
+    let value = bots_value(alloc, pool, limit)?;
+    post_of(alloc, Route::ListBots, targets::LIST_BOTS, &value)
 }
 
 /// Lists at most `limit` bots of a pool, by name. It prints a line for each, and answers the status
@@ -93,17 +108,6 @@ pub fn list_bots<W: Dialer, L: Link>(
     ensures { (waited : Option ℕ) → ListsBots server.now pool.now limit
         (world (W.state dialer.old) (L.state console.old) waited) (world (W.state dialer.new) (L.state console.new) waited) result }
 {
-    match bots_body(alloc, pool, limit) {
-        Ok(body) => print_answer(
-            alloc,
-            dialer,
-            console,
-            server,
-            Route::ListBots,
-            targets::LIST_BOTS,
-            body.as_bytes(),
-            &BotLines,
-        ),
-        Err(_) => 5,
-    }
+    let post = bots_post(alloc, pool, limit);
+    print_answer(alloc, dialer, console, server, post, &BotLines)
 }

@@ -1,12 +1,16 @@
 //! Ending a task.
 ghost use Rattle.std.specs.Prelude.{◌≡◌, ℕ, IfOk, Option, string_bytes};
+ghost use Rattle.serde_json.specs.View.{view};
 ghost use Rattle.client_commands.specs.Commands.{Cancels, cancel_line as spec_cancel_line, canceled_text, flag_word as spec_flag_word};
+ghost use Rattle.client_commands.specs.Requests.{Posts, cancel_call, cancel_data};
 ghost use Rattle.client_commands.specs.Steps.{world};
 
-use crate::bodies::cancel_body;
 use crate::once::{ShowReply, print_answer};
+use crate::post::{Post, post_of};
 use crate::server::Server;
+use json_values::{with_flag, with_text};
 use routes::{Route, targets};
+use serde_json::{Map, Value};
 use std::alloc::{AllocError, Global};
 use sw_base::{Dialer, Link};
 use swarm_model::Reply;
@@ -46,6 +50,24 @@ impl ShowReply for CancelLine {
     }
 }
 
+#[tactic(auto, unfolding(crate::specs::Requests::cancel_data))]
+fn cancel_value(alloc: Global, id: &str, kill: bool) -> Result<Value, AllocError>
+    ensures { IfOk result (λ value. view value ≡ cancel_data id.now kill) }
+{
+    let members = with_text(alloc, Map::new(alloc), "task_id", id)?;
+    let members = with_flag(alloc, members, "kill_running", kill)?;
+    Ok(Value::Object(members))
+}
+
+/// The request that cancels a task, and ends its run, too, where `kill` says so.
+#[tactic(auto, using(crate::proofs::Meanings::cancel_is_meant), unfolding(crate::specs::Requests::cancel_data))]
+fn cancel_post(alloc: Global, id: &str, kill: bool) -> Result<Post, AllocError>
+    ensures { IfOk result (Posts (cancel_call id.now kill)) }
+{
+    let value = cancel_value(alloc, id, kill)?;
+    post_of(alloc, Route::CancelTask, targets::CANCEL_TASK, &value)
+}
+
 /// Asks that a task come to an end, and its run, too, where `kill` says so. It prints
 /// `canceled B was_running B`, and answers the status of the command.
 pub fn cancel<W: Dialer, L: Link>(
@@ -59,17 +81,6 @@ pub fn cancel<W: Dialer, L: Link>(
     ensures { (waited : Option ℕ) → Cancels server.now id.now kill
         (world (W.state dialer.old) (L.state console.old) waited) (world (W.state dialer.new) (L.state console.new) waited) result }
 {
-    match cancel_body(alloc, id, kill) {
-        Ok(body) => print_answer(
-            alloc,
-            dialer,
-            console,
-            server,
-            Route::CancelTask,
-            targets::CANCEL_TASK,
-            body.as_bytes(),
-            &CancelLine,
-        ),
-        Err(_) => 5,
-    }
+    let post = cancel_post(alloc, id, kill);
+    print_answer(alloc, dialer, console, server, post, &CancelLine)
 }

@@ -4,9 +4,8 @@ ghost use Rattle.client_commands.specs.Commands.{Collects, delivering, exit_word
 ghost use Rattle.client_commands.specs.Plans.{Follows};
 ghost use Rattle.client_commands.specs.Steps.{world};
 
-use crate::bodies::result_body;
 use crate::output::{pieces_of, print_output};
-use crate::polls::await_end;
+use crate::polls::{await_end, result_post};
 use crate::printing::print_part;
 use crate::server::Server;
 use std::alloc::{AllocError, Global};
@@ -75,19 +74,10 @@ pub fn collect<W: Dialer, L: Link, C: Clock>(
     ensures { Collects server.now id.now polls every
         (world (W.state dialer.old) (L.state console.old) (C.waited clock.old)) (world (W.state dialer.new) (L.state console.new) (C.waited clock.new)) result }
 {
-    let Ok(body) = result_body(alloc, id) else {
+    let Ok(post) = result_post(alloc, id) else {
         return 5;
     };
-    match await_end(
-        alloc,
-        dialer,
-        console,
-        clock,
-        server,
-        body.as_bytes(),
-        polls,
-        every,
-    ) {
+    match await_end(alloc, dialer, console, clock, server, &post, polls, every) {
         Ok(task) => deliver(alloc, dialer, console, server, id, &task),
         Err(status) => status,
     }

@@ -10,7 +10,6 @@
 #![tactic(auto)]
 
 mod asking;
-mod bodies;
 mod bots;
 mod canceling;
 mod collecting;
@@ -19,7 +18,9 @@ mod ids;
 mod once;
 mod output;
 mod polls;
+mod post;
 mod printing;
+mod rows;
 mod server;
 mod tasks;
 mod triggering;

@@ -1,16 +1,16 @@
 //! Commands of one exchange, whose reply is printed.
-ghost use Rattle.std.specs.Prelude.{◌≡◌, ℕ, Option};
+ghost use Rattle.std.specs.Prelude.{ℕ, IfOk, Option};
 ghost use Rattle.sw_base.specs.Dialers.{DialerState};
 ghost use Rattle.client_commands.specs.declared.server.Server.{Server as SpecServer};
 ghost use Rattle.client_commands.specs.Commands.{printed, once as spec_once};
 ghost use Rattle.client_commands.specs.Plans.{Follows};
-ghost use Rattle.client_commands.specs.Requests.{Call, IsBody};
+ghost use Rattle.client_commands.specs.Requests.{Call, Posts};
 ghost use Rattle.client_commands.specs.Steps.{world};
 
 use crate::asking::ask;
+use crate::post::Post;
 use crate::printing::print_last;
 use crate::server::Server;
-use routes::Route;
 use std::alloc::{AllocError, Global};
 use sw_base::{Dialer, Link};
 use swarm_model::Reply;
@@ -50,15 +50,16 @@ pub(crate) fn print_answer<W: Dialer, L: Link, S: ShowReply>(
     dialer: &mut W,
     console: &mut L,
     server: &Server,
-    route: Route,
-    path: &str,
-    body: &[u8],
+    post: Result<Post, AllocError>,
     shown: &S,
 ) -> u8
-    ensures { (call : Call) (waited : Option ℕ) → call.route ≡ route → call.path ≡ path.now → IsBody route call.body body.now →
+    ensures { (call : Call) (waited : Option ℕ) → IfOk post (Posts call) →
         Follows server.now (spec_once call (S.text shown.now)) (world (W.state dialer.old) (L.state console.old) waited) (world (W.state dialer.new) (L.state console.new) waited) result }
 {
-    match ask(alloc, dialer, console, server, route, path, body) {
+    let Ok(post) = post else {
+        return 5;
+    };
+    match ask(alloc, dialer, console, server, &post) {
         Ok(answer) => print_reply(alloc, console, answer.place, &answer.reply, shown),
         Err(status) => status,
     }

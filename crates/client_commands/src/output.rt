@@ -1,18 +1,21 @@
 //! The output of a task, piece by piece.
-ghost use Rattle.std.specs.Prelude.{◌≡◌, ◌≤◌, ◌+◌, ◌*◌, ℕ, Option};
+ghost use Rattle.std.specs.Prelude.{◌≡◌, ◌≤◌, ◌+◌, ◌*◌, ℕ, IfOk, Option};
 ghost use Rattle.sw_base.specs.Dialers.{DialerState};
+ghost use Rattle.serde_json.specs.View.{view};
 ghost use Rattle.client_commands.specs.declared.server.Server.{Server as SpecServer};
 ghost use Rattle.client_commands.specs.Commands.{fetched, fetching, is_output as spec_is_output, pieces_of as spec_pieces_of};
 ghost use Rattle.client_commands.specs.Plans.{Plan, Follows, ask as plan_ask, after};
-ghost use Rattle.client_commands.specs.Requests.{stdout_call};
+ghost use Rattle.client_commands.specs.Requests.{Posts, stdout_call, stdout_data};
 ghost use Rattle.client_commands.specs.Steps.{world, Carries};
 
 use crate::asking::ask;
-use crate::bodies::stdout_body;
+use crate::post::{Post, post_of};
 use crate::printing::print_part;
 use crate::server::Server;
+use json_values::{with_text, with_whole};
 use routes::{Route, targets};
-use std::alloc::Global;
+use serde_json::{Map, Value};
+use std::alloc::{AllocError, Global};
 use sw_base::{Dialer, Link};
 use swarm_model::Reply;
 
@@ -52,6 +55,25 @@ fn print_bytes<L: Link>(console: &mut L, reply: &Reply, bytes: &[u8]) -> Result<
     }
 }
 
+#[tactic(auto, unfolding(crate::specs::Requests::stdout_data))]
+fn stdout_value(alloc: Global, id: &str, offset: u32) -> Result<Value, AllocError>
+    ensures { IfOk result (λ value. view value ≡ stdout_data id.now offset) }
+{
+    let members = with_text(alloc, Map::new(alloc), "task_id", id)?;
+    let members = with_whole(alloc, members, "offset", u64::from(offset))?;
+    Ok(Value::Object(members))
+}
+
+/// The request for a piece of the output.
+#[tactic(auto, using(crate::proofs::Meanings::stdout_is_meant), unfolding(crate::specs::Requests::stdout_data))]
+fn stdout_post(alloc: Global, id: &str, offset: u32) -> Result<Post, AllocError>
+    requires { offset ≤ 67108864 }
+    ensures { IfOk result (Posts (stdout_call id.now offset)) }
+{
+    let value = stdout_value(alloc, id, offset)?;
+    post_of(alloc, Route::GetStdout, targets::GET_STDOUT, &value)
+}
+
 /// Asks a piece of the output, and prints it.
 fn print_piece<W: Dialer, L: Link>(
     alloc: Global,
@@ -66,18 +88,10 @@ fn print_piece<W: Dialer, L: Link>(
         Carries server.now (plan_ask (stdout_call id.now offset) (after (fetched next))) (world (W.state dialer.old) (L.state console.old) waited) (λ _. next)
         (world (W.state dialer.new) (L.state console.new) waited) result }
 {
-    let Ok(body) = stdout_body(alloc, id, offset) else {
+    let Ok(post) = stdout_post(alloc, id, offset) else {
         return Err(5);
     };
-    match ask(
-        alloc,
-        dialer,
-        console,
-        server,
-        Route::GetStdout,
-        targets::GET_STDOUT,
-        body.as_bytes(),
-    ) {
+    match ask(alloc, dialer, console, server, &post) {
         Ok(answer) => print_bytes(console, &answer.reply, answer.bytes.as_slice()),
         Err(status) => Err(status),
     }

@@ -1,18 +1,22 @@
 //! Asking what a task has come to, until its state is final.
-ghost use Rattle.std.specs.Prelude.{◌≡◌, ℕ, List, Option};
+ghost use Rattle.std.specs.Prelude.{◌≡◌, ℕ, List, IfOk, Option};
+ghost use Rattle.serde_json.specs.View.{view};
 ghost use Rattle.sw_base.specs.Link.{LinkState};
 ghost use Rattle.sw_base.specs.Dialers.{DialerState};
 ghost use Rattle.client_commands.specs.declared.server.Server.{Server as SpecServer};
 ghost use Rattle.swarm_model.specs.declared.task_view.TaskView.{TaskView as SpecTaskView};
 ghost use Rattle.client_commands.specs.Commands.{polling, delivering, collecting, pause as spec_pause, task_in as spec_task_in};
 ghost use Rattle.client_commands.specs.Plans.{Plan};
-ghost use Rattle.client_commands.specs.Requests.{IsBody, result_call};
+ghost use Rattle.client_commands.specs.Requests.{Posts, id_data, result_call};
 ghost use Rattle.client_commands.specs.Steps.{world, Carries, Leads};
 
 use crate::asking::ask;
+use crate::post::{Post, post_of};
 use crate::server::Server;
+use json_values::with_text;
 use routes::{Route, targets};
-use std::alloc::Global;
+use serde_json::{Map, Value};
+use std::alloc::{AllocError, Global};
 use sw_base::{Clock, Dialer, Link};
 use swarm_model::{Reply, TaskView};
 
@@ -26,26 +30,35 @@ fn task_in(reply: Reply) -> Option<TaskView>
     }
 }
 
-/// Asks what the task of a body has come to.
+#[tactic(auto, unfolding(crate::specs::Requests::id_data))]
+fn id_value(alloc: Global, id: &str) -> Result<Value, AllocError>
+    ensures { IfOk result (λ value. view value ≡ id_data id.now) }
+{
+    let members = with_text(alloc, Map::new(alloc), "task_id", id)?;
+    Ok(Value::Object(members))
+}
+
+/// The request that asks what a task has come to.
+#[tactic(auto, using(crate::proofs::Meanings::result_is_meant), unfolding(crate::specs::Requests::id_data))]
+pub(crate) fn result_post(alloc: Global, id: &str) -> Result<Post, AllocError>
+    ensures { IfOk result (Posts (result_call id.now)) }
+{
+    let value = id_value(alloc, id)?;
+    post_of(alloc, Route::GetResult, targets::GET_RESULT, &value)
+}
+
+/// Asks what the task of a request has come to.
 fn poll<W: Dialer, L: Link>(
     alloc: Global,
     dialer: &mut W,
     console: &mut L,
     server: &Server,
-    body: &[u8],
+    post: &Post,
 ) -> Result<TaskView, u8>
-    ensures { (id : List ℕ) (waited : Option ℕ) (next : SpecTaskView → Plan) → IsBody (result_call id).route (result_call id).body body.now →
+    ensures { (id : List ℕ) (waited : Option ℕ) (next : SpecTaskView → Plan) → Posts (result_call id) post.now →
         Carries server.now (polling id next) (world (W.state dialer.old) (L.state console.old) waited) next (world (W.state dialer.new) (L.state console.new) waited) result }
 {
-    match ask(
-        alloc,
-        dialer,
-        console,
-        server,
-        Route::GetResult,
-        targets::GET_RESULT,
-        body,
-    ) {
+    match ask(alloc, dialer, console, server, post) {
         Ok(answer) => match task_in(answer.reply) {
             Some(task) => Ok(task),
             None => Err(9),
@@ -64,7 +77,7 @@ fn pause<C: Clock>(clock: &mut C, every: u32, left: u32)
     }
 }
 
-/// Asks what the task of a body has come to, at most so many times, and waits so many seconds
+/// Asks what the task of a request has come to, at most so many times, and waits so many seconds
 /// between two of them. Answers the task where its state is final, or the status of the command.
 pub(crate) fn await_end<W: Dialer, L: Link, C: Clock>(
     alloc: Global,
@@ -72,18 +85,18 @@ pub(crate) fn await_end<W: Dialer, L: Link, C: Clock>(
     console: &mut L,
     clock: &mut C,
     server: &Server,
-    body: &[u8],
+    post: &Post,
     polls: u32,
     every: u32,
 ) -> Result<TaskView, u8>
-    ensures { (id : List ℕ) → IsBody (result_call id).route (result_call id).body body.now →
+    ensures { (id : List ℕ) → Posts (result_call id) post.now →
         Carries server.now (collecting id every polls) (world (W.state dialer.old) (L.state console.old) (C.waited clock.old)) (delivering id)
         (world (W.state dialer.new) (L.state console.new) (C.waited clock.new)) result }
 {
     let mut left = polls;
     'polls: while left > 0 {
         left -= 1;
-        let task = match poll(alloc, dialer, console, server, body) {
+        let task = match poll(alloc, dialer, console, server, post) {
             Ok(task) => task,
             Err(status) => return Err(status),
         };

@@ -1,10 +1,12 @@
 //! Asking for a new task.
-ghost use Rattle.std.specs.Prelude.{◌≡◌, ℕ, IfOk, Option, string_bytes};
+ghost use Rattle.std.specs.Prelude.{◌≡◌, ℕ, IfOk, Option, string_bytes, vec_items};
 ghost use Rattle.client_commands.specs.Commands.{Triggers, new_line as spec_new_line, new_text};
+ghost use Rattle.client_commands.specs.Requests.{Posts, new_task_call};
 ghost use Rattle.client_commands.specs.Steps.{world};
 
 use crate::ids::task_id;
 use crate::once::{ShowReply, print_answer};
+use crate::post::Post;
 use crate::printing::print_refusal;
 use crate::server::Server;
 use routes::{Route, targets};
@@ -43,6 +45,17 @@ impl ShowReply for NewLine {
     }
 }
 
+/// The request for a new task, with this body.
+fn new_task_post(body: Vec<u8>) -> Post
+    ensures { Posts (new_task_call (vec_items body)) result }
+{
+    Post {
+        route: Route::NewTask,
+        path: targets::NEW_TASK,
+        body,
+    }
+}
+
 /// Posts the body of a NewTask that a file holds, of at most 65536 bytes, as it is. It prints
 /// `task ID STATE`, and answers the status of the command.
 pub fn trigger<W: Dialer, L: Link, F: Files>(
@@ -57,16 +70,10 @@ pub fn trigger<W: Dialer, L: Link, F: Files>(
         (world (W.state dialer.old) (L.state console.old) waited) (world (W.state dialer.new) (L.state console.new) waited) result }
 {
     match files.load(alloc, path, BODY_LIMIT) {
-        Ok(Some(body)) => print_answer(
-            alloc,
-            dialer,
-            console,
-            server,
-            Route::NewTask,
-            targets::NEW_TASK,
-            &body,
-            &NewLine,
-        ),
+        Ok(Some(body)) => {
+            let post = Ok(new_task_post(body));
+            print_answer(alloc, dialer, console, server, post, &NewLine)
+        }
         Ok(None) => print_refusal(alloc, console, path, "absent"),
         Err(FileFault::TooLong) => print_refusal(alloc, console, path, "count"),
         Err(FileFault::Failed) => 4,

@@ -1,4 +1,3 @@
-use Rattle.std.proofs.Common.{refl}
 use Rattle.client_commands.specs.Plans.{lacks_memory}
 use Rattle.client_commands.specs.Commands.{fetched}
 use Rattle.client_commands.specs.Requests.{stdout_call}
@@ -10,8 +9,8 @@ returns-in_default g c = λ waited next. lacks_memory _ _
 
 pub returns-in-Ok-ask : goal.returns-in-Ok-ask
 returns-in-Ok-ask g c = λ waited next.
-    carried (λ _. next) _ c.print_bytes.result (c.in-Ok-ask.ensures (stdout_call c.args.id.now c.args.offset) waited refl refl (rw c.as_bytes.ensures.value c.in-Ok.ensures) (fetched next))
+    carried (λ _. next) _ c.print_bytes.result (c.in-Ok-ask.ensures (stdout_call c.args.id.now c.args.offset) waited c.in-Ok.ensures (fetched next))
     (rw c.as_slice.ensures at c.print_bytes.ensures c.args.server.now c.in-Ok-ask.answer.place next (g.W.Dialer.state c.ask.new.dialer) waited)
 
 pub returns : goal.returns
-returns g c = λ waited next. c.in-Err.ensures (stdout_call c.args.id.now c.args.offset) waited refl refl (rw c.as_bytes.ensures.value c.in-Ok.ensures) (fetched next)
+returns g c = λ waited next. c.in-Err.ensures (stdout_call c.args.id.now c.args.offset) waited c.in-Ok.ensures (fetched next)

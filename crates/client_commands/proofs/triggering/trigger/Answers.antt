@@ -1,4 +1,4 @@
-use Rattle.std.proofs.Common.{refl, rules, Some, Ok, Err}
+use Rattle.std.proofs.Common.{Some, Ok, Err}
 use Rattle.sw_base.specs.declared.file_fault.FileFault.TheVariants.{Failed, Memory}
 use Rattle.client_commands.specs.Plans.{ends}
 use Rattle.client_commands.specs.Requests.{new_task_call}
@@ -8,7 +8,7 @@ pub returns-in-Ok-Some : goal.returns-in-Ok-Some
 returns-in-Ok-Some g c = λ waited. record {
   loaded = Ok (Some c.in-Ok-Some.body);
   loads = rw c.in-Ok-Some.field-0-is at c.in-Ok-Some.ensures;
-  follows = c.print_answer.ensures (new_task_call c.in-Ok-Some.body.items) waited refl refl (search rules);
+  follows = c.print_answer.ensures (new_task_call c.in-Ok-Some.body.items) waited c.new_task_post.ensures;
 }
 
 pub returns-in-Err-Failed : goal.returns-in-Err-Failed
