@@ -5,11 +5,11 @@ use Rattle.client_commands.proofs.once.print_answer.Goals as goal
 pub returns-in_default : goal.returns-in_default
 returns-in_default g c = λ call waited posts. lacks_memory _ _
 
-pub returns-in-Ok : goal.returns-in-Ok
-returns-in-Ok g c = λ call waited posts.
-    c.in-Ok.ensures call waited (rw c.in-Ok.is at posts) (λ place reply bytes. printed (g.S.ShowReply.text c.args.shown.now place reply)) _ _
+pub returns-in-Ok-ask : goal.returns-in-Ok-ask
+returns-in-Ok-ask g c = λ call waited posts.
+    c.in-Ok-ask.ensures call waited (rw c.in-Ok.is at posts) (λ place reply bytes. printed (g.S.ShowReply.text c.args.shown.now place reply)) _ _
     (c.print_reply.ensures c.args.server.now (g.W.Dialer.state c.ask.new.dialer) waited)
 
-pub returns-in-Err : goal.returns-in-Err
-returns-in-Err g c = λ call waited posts.
+pub returns : goal.returns
+returns g c = λ call waited posts.
     c.in-Err.ensures call waited (rw c.in-Ok.is at posts) (λ place reply bytes. printed (g.S.ShowReply.text c.args.shown.now place reply))
