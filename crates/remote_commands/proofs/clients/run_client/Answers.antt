@@ -1,7 +1,20 @@
+use Rattle.std.proofs.Common.{refl}
 use Rattle.std.specs.Prelude.{string_bytes}
 use Rattle.command_words.specs.ClientWork.{work_of}
+use Rattle.remote_commands.specs.Clients.{carried_out}
 use Rattle.remote_commands.proofs.OptionFaults.{client_told}
 use Rattle.remote_commands.proofs.clients.run_client.Goals as goal
+
+pub returns-in-Ok : goal.returns-in-Ok
+returns-in-Ok g c = λ store listener runner. carried_out c.in-Ok.ensures.fits (record {
+  address = (string_bytes c.in-Ok.found.dial, string_bytes c.in-Ok.found.host);
+  address_is = c.in-Ok.ensures.address;
+  by = record { address = c.as_str-server.result; host = c.as_str-server-2.result; caller = c.as_str-server-3.result };
+  dials = c.as_str-server.ensures.value;
+  host_is = c.as_str-server-2.ensures.value;
+  caller_is = c.as_str-server-3.ensures.value;
+  done = c.do_work.ensures;
+}) (record { store = refl; listener = refl; runner = refl })
 
 pub returns-in-Err : goal.returns-in-Err
 returns-in-Err g c = λ store listener runner.
