@@ -110,10 +110,13 @@ pub fn run_client<L: Link, C: Clock, F: Files, W: Dialer>(
 {
     match server_for(alloc, words) {
         Ok(found) => {
+            let address = found.dial.as_str();
+            let host = found.host.as_str();
+            let caller = words.caller.as_str();
             let server = Server {
-                address: found.dial.as_str(),
-                host: found.host.as_str(),
-                caller: words.caller.as_str(),
+                address,
+                host,
+                caller,
             };
             do_work(alloc, &words.work, &server, console, clock, files, dialer)
         }

@@ -9,10 +9,10 @@ pub returns-in-Ok : goal.returns-in-Ok
 returns-in-Ok g c = λ store listener runner. carried_out c.in-Ok.ensures.fits (record {
   address = (string_bytes c.in-Ok.found.dial, string_bytes c.in-Ok.found.host);
   address_is = c.in-Ok.ensures.address;
-  by = record { address = c.as_str-server.result; host = c.as_str-server-2.result; caller = c.as_str-server-3.result };
-  dials = c.as_str-server.ensures.value;
-  host_is = c.as_str-server-2.ensures.value;
-  caller_is = c.as_str-server-3.ensures.value;
+  by = record { address = c.as_str-address.result; host = c.as_str-host.result; caller = c.as_str-caller.result };
+  dials = c.as_str-address.ensures.value;
+  host_is = c.as_str-host.ensures.value;
+  caller_is = c.as_str-caller.ensures.value;
   done = c.do_work.ensures;
 }) (record { store = refl; listener = refl; runner = refl })
 
