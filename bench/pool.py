@@ -1,7 +1,7 @@
 #!/usr/bin/env python3
 """Figures of a pool among few and among many tasks, bots and blobs, and of claims beside PostgreSQL.
 
-Usage: bench/pool.py [--rounds N] [--most N] [--quick] [--part NAME].. [--write] [--program PATH]
+Usage: bench/pool.py [--rounds N] [--most N] [--quick] [--part NAME].. [--write] [--before OTHER] [--program PATH]
 
 Each figure is the best of so many rounds (5 by default), in which what is compared was measured in turn.
 The server runs on a processor of its own, and who asks has the others. All requests of a figure go over
@@ -35,10 +35,15 @@ and may be given several times. --write puts all parts into docs/performance.md,
 docs/claims.svg; without it the plot goes into the folder of temporary files. The part `claims` needs the
 package postgresql, which runs as the user postgres where the script runs as root.
 
+With --before OTHER the program OTHER is measured in turn with PROGRAM, a round of each at a time, and each
+line has the best of OTHER, the best of PROGRAM, and how many times as long PROGRAM takes. The parts are then
+`calls`, `connection` and `deadlines` where no --part is given; `memory` and `claims` are not compared so.
+
 The program is built by the first `./swarm session`.
 """
 import argparse
 import atexit
+import copy
 import glob
 import hashlib
 import heapq
@@ -789,6 +794,20 @@ def write_part(text):
         it.write(front + begin + text + end + back)
 
 
+def compare(bench, before, parts):
+    """The parts of both programs in turn, a round of each at a time: the best of each, and how many times as long it takes now."""
+    other, rounds = copy.copy(bench), bench.rounds
+    other.program, other.best = before, {}
+    for _ in range(rounds):
+        for it in (other, bench):
+            it.rounds = 1
+            for part in parts:
+                PARTS[part][1](it)
+    for name, now in bench.best.items():
+        old = other.best[name]
+        print("%-50s %9.2f us %9.2f us %6.2f times" % (" ".join(map(str, name)), old, now, now / old))
+
+
 PARTS = {
     "calls": ("Calls among few and many tasks", Bench.measure_calls),
     "connection": ("A long connection", Bench.measure_connection),
@@ -802,22 +821,28 @@ PARTS = {
 
 
 def main():
-    parser = argparse.ArgumentParser(usage="bench/pool.py [--rounds N] [--most N] [--quick] [--part NAME].. [--write] [--program PATH]")
+    parser = argparse.ArgumentParser(usage="bench/pool.py [--rounds N] [--most N] [--quick] [--part NAME].. [--write] [--before OTHER] [--program PATH]")
     parser.add_argument("--rounds", type=int, metavar="N")
     parser.add_argument("--most", type=int, metavar="N")
     parser.add_argument("--quick", action="store_true")
     parser.add_argument("--part", action="append", choices=PARTS)
     parser.add_argument("--write", action="store_true")
+    parser.add_argument("--before", metavar="OTHER")
     parser.add_argument("--program", default=os.path.join(HERE, "crates/swarm/out/swarm"))
     words = parser.parse_args()
-    if not os.access(words.program, os.X_OK):
-        sys.exit("%s is not there: build it by ./swarm session" % words.program)
-    if words.write and (words.quick or words.part or words.most or words.rounds):
-        sys.exit("--write is for all parts at their full size")
+    for it in (words.program, words.before):
+        if it and not os.access(it, os.X_OK):
+            sys.exit("%s is not there: build it by ./swarm session" % it)
+    if words.write and (words.quick or words.part or words.most or words.rounds or words.before):
+        sys.exit("--write is for all parts at their full size, of one program")
+    if words.before and {"memory", "claims"} & {*(words.part or [])}:
+        sys.exit("--before is not for the parts memory and claims")
     words.program = os.path.abspath(words.program)
     with tempfile.TemporaryDirectory() as folder:
         os.chmod(folder, 0o755)
         bench, text = Bench(words, folder), ""
+        if words.before:
+            return compare(bench, os.path.abspath(words.before), words.part or ["calls", "connection", "deadlines"])
         for part in words.part or PARTS:
             title, measure = PARTS[part]
             rows = measure(bench)
@@ -832,6 +857,7 @@ def main():
             print(f"the plot is in {plot}", file=sys.stderr)
         if words.write:
             write_part(text)
+    return None
 
 
 if __name__ == "__main__":

@@ -1,7 +1,7 @@
 #!/usr/bin/env python3
 """Figures of `swarm serve` beside Debian's nginx: requests per second, and how long a reply takes.
 
-Usage: bench/serve.py [--rounds N] [--seconds N] [--write] [--calls] [--profile] [PROGRAM]
+Usage: bench/serve.py [--rounds N] [--seconds N] [--write] [--calls] [--profile] [--before OTHER] [PROGRAM]
 
 nginx answers a constant whose body has the size of the reply that it is compared with, by one process.
 Each server has a processor for itself, and who asks has the others. Both are asked in turn, in each of
@@ -17,8 +17,10 @@ second, and the shortest times within which half and 99 in a hundred of the repl
 
 --write puts the table into docs/performance.md. --calls counts the system calls of a server for each
 request, by strace, in place of all this. --profile tells in what share of its time the server does
-what, by perf, in place of all this; with --write that goes into docs/performance.md too. It needs the
-packages nginx and wrk, or strace, or linux-perf.
+what, by perf, in place of all this; with --write that goes into docs/performance.md too. With
+--before OTHER the program OTHER takes the place of nginx, and each line has the best requests per
+second of OTHER and of PROGRAM, and how many times as fast PROGRAM is. It needs the packages nginx and
+wrk, or strace, or linux-perf.
 
 The program is built by the first `./swarm session`.
 """
@@ -150,15 +152,16 @@ class Server:
 
 class Bench:
     def __init__(self, words, folder):
-        self.program, self.rounds, self.seconds, self.folder = words.program, words.rounds, words.seconds, folder
+        self.program, self.before = words.program, words.before
+        self.rounds, self.seconds, self.folder = words.rounds, words.seconds, folder
         found = sorted(os.sched_getaffinity(0))
         # (with one processor alone they share it)
         self.of_server, self.of_client = {found[-1]}, set(found[:-1]) or set(found)
         self.best = {}
 
-    def swarm(self):
+    def swarm(self, program=None):
         port = free_port()
-        return Server([self.program, "serve", "--address", f"{HOST}:{port}"], port, self.of_server)
+        return Server([program or self.program, "serve", "--address", f"{HOST}:{port}"], port, self.of_server)
 
     def nginx(self):
         port, path = free_port(), os.path.join(self.folder, "nginx.conf")
@@ -210,7 +213,8 @@ class Bench:
         return len(requests) / seconds, took[len(took) // 2], took[len(took) * 99 // 100]
 
     def run(self):
-        kinds = {"swarm": self.swarm, "nginx": self.nginx}
+        other = {"before": lambda: self.swarm(self.before)} if self.before else {"nginx": self.nginx}
+        kinds = {"swarm": self.swarm, **other}
         os.sched_setaffinity(0, self.of_client)
         for place in range(self.rounds):
             for name, start in kinds.items():
@@ -222,7 +226,7 @@ class Bench:
                 server = start()
                 with socket.create_connection((HOST, server.port), 20) as link:
                     link.setsockopt(socket.IPPROTO_TCP, socket.TCP_NODELAY, 1)
-                    if name == "swarm":
+                    if name != "nginx":
                         self.ask(link, [handshake(bot) for bot in BOTS])
                     for call, (requests, _) in AMONG.items():
                         self.keep(f"{call} among at most {TASKS} tasks", name, self.ask(link, requests))
@@ -236,6 +240,12 @@ class Bench:
             cells = [name, *shown(own), *shown(other), f"{own[0] / other[0]:.2f}"]
             rows.append("| " + " | ".join(cells) + " |")
         return "\n".join(rows) + "\n"
+
+    def compared(self):
+        """A line for each kind of request: the best of the program before, of the program, and how many times as fast it is."""
+        for name in dict.fromkeys(name for name, _ in self.best):
+            old, now = self.best[name, "before"][0], self.best[name, "swarm"][0]
+            print("%-45s %10.0f /s %10.0f /s %6.2f times" % (name, old, now, now / old))
 
 
 def shown(figures):
@@ -350,17 +360,22 @@ def write_table(table, begin_mark=BEGIN, end_mark=END):
 
 
 def main():
-    parser = argparse.ArgumentParser(usage="bench/serve.py [--rounds N] [--seconds N] [--write] [--calls] [--profile] [PROGRAM]")
+    parser = argparse.ArgumentParser(usage="bench/serve.py [--rounds N] [--seconds N] [--write] [--calls] [--profile] [--before OTHER] [PROGRAM]")
     parser.add_argument("--rounds", type=int, default=5, metavar="N")
     parser.add_argument("--seconds", type=int, default=3, metavar="N")
     parser.add_argument("--write", action="store_true")
     parser.add_argument("--calls", action="store_true")
     parser.add_argument("--profile", action="store_true")
+    parser.add_argument("--before", metavar="OTHER")
     parser.add_argument("program", nargs="?", default=os.path.join(HERE, "crates/swarm/out/swarm"))
     words = parser.parse_args()
-    if not os.access(words.program, os.X_OK):
-        sys.exit("%s is not there: build it by ./swarm session" % words.program)
-    for it in ["perf"] if words.profile else ["nginx", "strace" if words.calls else "wrk"]:
+    for it in (words.program, words.before):
+        if it and not os.access(it, os.X_OK):
+            sys.exit("%s is not there: build it by ./swarm session" % it)
+    if words.before and (words.write or words.calls or words.profile):
+        sys.exit("--before is for the figures alone")
+    others = [] if words.before else ["nginx"]
+    for it in ["perf"] if words.profile else [*others, "strace" if words.calls else "wrk"]:
         shutil.which(it) or sys.exit(f"{it} isn't installed")
     with tempfile.TemporaryDirectory() as folder:
         os.chmod(folder, 0o755)
@@ -373,6 +388,8 @@ def main():
             print(table, end="")
             return write_table(table, PROFILE, PROFILE_END) if words.write else None
         bench.run()
+        if words.before:
+            return bench.compared()
         print(bench.table(), end="")
         if words.write:
             write_table(bench.table())
