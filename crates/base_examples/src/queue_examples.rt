@@ -13,11 +13,13 @@ pub fn the_lower_priority_goes_first()
     ensures itself { goes_first (waiting 1 2) (waiting 1 2) ≡ false }
 {}
 
-/// A bot gets the first task of a queue only where it has what the queue's tasks ask for, and of
-/// two such tasks the one that goes first.
+/// A bot gets the first task of a queue only where it has what the queue's tasks ask for, and is not
+/// the one that is kept out; and of two such tasks the one that goes first.
 pub fn a_bot_gets_a_task_that_it_matches()
-    ensures fits { first_match linux_bot (on_linux (waiting 1 1 ∷ waiting 1 2 ∷ [])) ≡ Some (waiting 1 1) }
-    ensures other_bot { first_match mac_bot (on_linux (waiting 1 1 ∷ waiting 1 2 ∷ [])) ≡ None }
+    ensures fits { first_match linux_bot (on_linux None (waiting 1 1 ∷ waiting 1 2 ∷ [])) ≡ Some (waiting 1 1) }
+    ensures other_bot { first_match mac_bot (on_linux None (waiting 1 1 ∷ waiting 1 2 ∷ [])) ≡ None }
+    ensures kept_out { first_match linux_bot (on_linux (Some 1) (waiting 1 1 ∷ waiting 1 2 ∷ [])) ≡ None }
+    ensures another_kept_out { first_match linux_bot (on_linux (Some 2) (waiting 1 1 ∷ waiting 1 2 ∷ [])) ≡ Some (waiting 1 1) }
     ensures alone { earlier_of (Some (waiting 5 1)) None ≡ Some (waiting 5 1) }
     ensures behind { earlier_of (Some (waiting 1 1)) (Some (waiting 1 2)) ≡ Some (waiting 1 1) }
     ensures before { earlier_of (Some (waiting 1 2)) (Some (waiting 1 1)) ≡ Some (waiting 1 1) }

@@ -5,6 +5,7 @@ ghost use Rattle.std.specs.Option.{option_map_or};
 ghost use Rattle.sha2.specs.Sha256.{sha256};
 ghost use Rattle.serde_json.specs.View.{view};
 ghost use Rattle.json_fields.specs.Readings.{Reads, at};
+ghost use Rattle.json_fields.specs.Ids.{is_try};
 ghost use Rattle.swarm_model.specs.Fits.{is_name, fits_chunk, fits_last};
 ghost use Rattle.task_props.specs.Sorted.{is_file};
 ghost use Rattle.bot_bodies.specs.ExitCodes.{code_of as spec_code_of};
@@ -170,7 +171,7 @@ fn last_of(end: End) -> Option<Last>
 fn check_report(alloc: Global, raw: RawReport) -> Result<Report, PropFault>
     ensures exact { Reads result (report_of raw) }
     ensures named { IfOk result (λ report. is_name report.bot ≡ true) }
-    ensures try_no { IfOk result (λ report. report.run % 16 ≡ 1) }
+    ensures try_no { IfOk result (λ report. is_try (report.run % 16) ≡ true) }
     ensures chunk { IfOk result (λ report. option_map_or fits_chunk report.output.chunk true ≡ true) }
     ensures last { IfOk result (λ report. option_map_or fits_last report.last true ≡ true) }
     ensures digest { IfOk result (λ report. IfSome report.output.chunk (λ chunk. chunk.digest ≡ sha256 report.output.bytes)) }
@@ -193,7 +194,7 @@ fn check_report(alloc: Global, raw: RawReport) -> Result<Report, PropFault>
 pub fn read_report(alloc: Global, body: &Value) -> Result<Report, PropFault>
     ensures exact { Reads result (report_in (view body.now)) }
     ensures named { IfOk result (λ report. is_name report.bot ≡ true) }
-    ensures try_no { IfOk result (λ report. report.run % 16 ≡ 1) }
+    ensures try_no { IfOk result (λ report. is_try (report.run % 16) ≡ true) }
     ensures chunk { IfOk result (λ report. option_map_or fits_chunk report.output.chunk true ≡ true) }
     ensures last { IfOk result (λ report. option_map_or fits_last report.last true ≡ true) }
     ensures digest { IfOk result (λ report. IfSome report.output.chunk (λ chunk. chunk.digest ≡ sha256 report.output.bytes)) }

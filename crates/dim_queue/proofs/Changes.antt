@@ -3,7 +3,7 @@ use Rattle.std.proofs.Common.{◌≡◌, ◌≢◌, ℕ, ◌<◌, ◌≤◌, Lis
 use Rattle.std.specs.List.{Contains}
 use Rattle.std.proofs.lemmas.Bool.{cases_eq, cases_lt}
 use Rattle.std.proofs.lemmas.List.{get_or-map, map-set, get_or-set_same, get_or-set_other, length-map, get_or_past, set-get_or}
-use Rattle.dimensions.specs.declared.dim_set.DimSet.{DimSet}
+use Rattle.dim_queue.specs.declared.queue_set.QueueSet.{QueueSet}
 use Rattle.dim_queue.specs.declared.waiting.Waiting.{Waiting}
 use Rattle.dim_queue.specs.declared.queue.Queue.{Queue}
 use Rattle.dim_queue.specs.Order.{IsInOrder}
@@ -27,10 +27,10 @@ module _ (queues : List Queue) (at : ℕ) (low : at < length queues) where
     pub unchanged : (k : ℕ) → k ≢ at → queue_at (map state_of (set queues at q)) k ≡ queue_at (map state_of queues) k
     unchanged k ne = set_line k ∙ get_or-set_other (map state_of queues) at k (state_of q) no_queue ne
 
-    pub same_others : (d : Queue) → q.dims ≡ (get_or queues at d).dims → SameOthers at (map state_of queues) (map state_of (set queues at q))
+    pub same_others : (d : Queue) → q.set ≡ (get_or queues at d).set → SameOthers at (map state_of queues) (map state_of (set queues at q))
     same_others d e = record {
       other = unchanged;
-      dims = ap (λ (l : QueueState). l.dims) changed ∙ e ∙ sym (ap (λ (l : QueueState). l.dims) (here d));
+      set = ap (λ (l : QueueState). l.set) changed ∙ e ∙ sym (ap (λ (l : QueueState). l.set) (here d));
     }
 
     pub in_order : AreInOrder (map state_of queues) → IsInOrder q.tasks.items → AreInOrder (map state_of (set queues at q))
@@ -71,11 +71,11 @@ task_low queues at w there = elim (cases_lt at (length queues)) [
 ]
 
 module _ (queues : List Queue) (at : ℕ) (low : at < length queues) (q : Queue) where
-  -- a queue that has the same tasks and dimensions
-  pub as_before : (d : Queue) → q.dims ≡ (get_or queues at d).dims → q.tasks.items ≡ (get_or queues at d).tasks.items → map state_of (set queues at q) ≡ map state_of queues
+  -- a queue that has the same tasks and set
+  pub as_before : (d : Queue) → q.set ≡ (get_or queues at d).set → q.tasks.items ≡ (get_or queues at d).tasks.items → map state_of (set queues at q) ≡ map state_of queues
   as_before d e f =
       let same : state_of q ≡ queue_at (map state_of queues) at =
-      ap (λ (x : DimSet). record { dims = x; tasks = q.tasks.items }) e ∙ ap (λ (x : List Waiting). record { dims = (get_or queues at d).dims; tasks = x }) f ∙ sym (here queues at low d) in
+      ap (λ (x : QueueSet). record { set = x; tasks = q.tasks.items }) e ∙ ap (λ (x : List Waiting). record { set = (get_or queues at d).set; tasks = x }) f ∙ sym (here queues at low d) in
       map-set state_of queues at q ∙ ap (set (map state_of queues) at) same ∙ set-get_or (map state_of queues) at no_queue
 
   pub new_room : get_or (map room_of (set queues at q)) at 0 ≡ room_of q
@@ -88,11 +88,11 @@ module _ (queues : List Queue) (at : ℕ) (low : at < length queues) (q : Queue)
       | inl e ↦ subst (λ (i : ℕ). (queue_at (map state_of (set queues at q)) i).tasks ≡ (queue_at (map state_of queues) i).tasks) (sym e) tasks_at
       | inr ne ↦ ap (λ (l : QueueState). l.tasks) (unchanged queues at low q k ne)
     ];
-    dims = λ k w there. elim (cases_eq k at) [
+    set = λ k w there. elim (cases_eq k at) [
       | inl e ↦
           let c = subst (λ (l : List Waiting). Contains l w) none (subst (λ (i : ℕ). Contains (queue_at (map state_of queues) i).tasks w) e there) in
           let past : c.0 < 0 = c.1 in absurd (omega arith)
-      | inr ne ↦ ap (λ (l : QueueState). l.dims) (unchanged queues at low q k ne)
+      | inr ne ↦ ap (λ (l : QueueState). l.set) (unchanged queues at low q k ne)
     ];
   }
     where

@@ -3,7 +3,7 @@ use Rattle.std.proofs.Common.{◌≡◌, ◌≢◌, ℕ, List, ◌⊎◌, inl, i
 use Rattle.std.specs.List.{Contains}
 use Rattle.std.proofs.lemmas.Bool.{cases_eq}
 use Rattle.block_list.specs.Rising.{Adds, Removes}
-use Rattle.dimensions.specs.declared.dim_set.DimSet.{DimSet}
+use Rattle.dim_queue.specs.declared.queue_set.QueueSet.{QueueSet}
 use Rattle.dim_queue.specs.declared.waiting.Waiting.{Waiting}
 use Rattle.dim_queue.specs.declared.places.Place.{Place}
 use Rattle.dim_queue.specs.Order.{IsInOrder}
@@ -14,14 +14,14 @@ use Rattle.dim_queue.specs.Inside.{ArePlaced, AreKnown}
 abbrev pub one_at : ℕ → ℕ → Waiting
 one_at priority number = record { priority = priority; number = number }
 
-pub waits_at : {states : List QueueState} (k : ℕ) (w : Waiting) → Contains (queue_at states k).tasks w → Waits states w (queue_at states k).dims
+pub waits_at : {states : List QueueState} (k : ℕ) (w : Waiting) → Contains (queue_at states k).tasks w → Waits states w (queue_at states k).set
 waits_at k w there = record { place = k; alike = refl; stands = there }
 
 module _ (old new : List QueueState) (before after : ℕ → Option Place) (at priority number : ℕ) (placed : ArePlaced old before) (known : AreKnown old before)
     (own : after number ≡ Some (record { queue = at; priority = priority })) (others : (q : ℕ) → q ≢ number → after q ≡ before q) (same : SameOthers at old new)
     (adds : Adds (one_at priority number) (queue_at old at).tasks (queue_at new at).tasks) (absent : IsAbsent number old) where
   old_placed : (k : ℕ) (w : Waiting) → Contains (queue_at old k).tasks w → after w.number ≡ Some (record { queue = k; priority = w.priority })
-  old_placed k w there = others w.number (absent w (queue_at old k).dims (waits_at k w there)) ∙ placed k w there
+  old_placed k w there = others w.number (absent w (queue_at old k).set (waits_at k w there)) ∙ placed k w there
 
   -- a task of a queue is the new one, or was there before
   new_or_old : (k : ℕ) (w : Waiting) → Contains (queue_at new k).tasks w → ((k ≡ at) × (w ≡ one_at priority number)) ⊎ Contains (queue_at old k).tasks w
@@ -40,10 +40,10 @@ module _ (old new : List QueueState) (before after : ℕ → Option Place) (at p
     | inl e ↦ subst (λ (i : ℕ). Contains (queue_at new i).tasks w) (sym e) ((adds.each w).1 (inr (subst (λ (i : ℕ). Contains (queue_at old i).tasks w) e there)))
   ]
 
-  same_dims : (k : ℕ) → (queue_at new k).dims ≡ (queue_at old k).dims
-  same_dims k = elim (cases_eq k at) [
-    | inr ne ↦ ap (λ (l : QueueState). l.dims) (same.other k ne)
-    | inl e ↦ ap (λ (i : ℕ). (queue_at new i).dims) e ∙ same.dims ∙ ap (λ (i : ℕ). (queue_at old i).dims) (sym e)
+  same_set : (k : ℕ) → (queue_at new k).set ≡ (queue_at old k).set
+  same_set k = elim (cases_eq k at) [
+    | inr ne ↦ ap (λ (l : QueueState). l.set) (same.other k ne)
+    | inl e ↦ ap (λ (i : ℕ). (queue_at new i).set) e ∙ same.set ∙ ap (λ (i : ℕ). (queue_at old i).set) (sym e)
   ]
 
   pub enter_placed : ArePlaced new after
@@ -64,18 +64,18 @@ module _ (old new : List QueueState) (before after : ℕ → Option Place) (at p
         (subst (λ (i : ℕ). Contains (queue_at new at).tasks (one_at priority i)) (sym is) ((adds.each (one_at priority number)).1 (inl refl)))
   ]
 
-  pub enter_waits : (its : DimSet) → (queue_at old at).dims ≡ its → Enters (one_at priority number) its old new
-  enter_waits its is w dims = (there, back)
+  pub enter_waits : (its : QueueSet) → (queue_at old at).set ≡ its → Enters (one_at priority number) its old new
+  enter_waits its is w set = (there, back)
     where
-      there : Waits new w dims → ((w ≡ one_at priority number) × (dims ≡ its)) ⊎ Waits old w dims
+      there : Waits new w set → ((w ≡ one_at priority number) × (set ≡ its)) ⊎ Waits old w set
       there h = elim (new_or_old h.place w h.stands) [
-        | inr stood ↦ inr (record { place = h.place; alike = sym (same_dims h.place) ∙ h.alike; stands = stood })
-        | inl it ↦ inl (it.1, sym h.alike ∙ same_dims h.place ∙ ap (λ (i : ℕ). (queue_at old i).dims) it.0 ∙ is)
+        | inr stood ↦ inr (record { place = h.place; alike = sym (same_set h.place) ∙ h.alike; stands = stood })
+        | inl it ↦ inl (it.1, sym h.alike ∙ same_set h.place ∙ ap (λ (i : ℕ). (queue_at old i).set) it.0 ∙ is)
       ]
 
-      back : ((w ≡ one_at priority number) × (dims ≡ its)) ⊎ Waits old w dims → Waits new w dims
-      back (inl it) = record { place = at; alike = same_dims at ∙ is ∙ sym it.1; stands = (adds.each w).1 (inl it.0) }
-      back (inr h) = record { place = h.place; alike = same_dims h.place ∙ h.alike; stands = old_in_new h.place w h.stands }
+      back : ((w ≡ one_at priority number) × (set ≡ its)) ⊎ Waits old w set → Waits new w set
+      back (inl it) = record { place = at; alike = same_set at ∙ is ∙ sym it.1; stands = (adds.each w).1 (inl it.0) }
+      back (inr h) = record { place = h.place; alike = same_set h.place ∙ h.alike; stands = old_in_new h.place w h.stands }
 
 module _ (old new : List QueueState) (before after : ℕ → Option Place) (p : Place) (number : ℕ) (placed : ArePlaced old before) (known : AreKnown old before)
     (found : before number ≡ Some p) (own : after number ≡ None) (others : (q : ℕ) → q ≢ number → after q ≡ before q) (same : SameOthers p.queue old new)
@@ -108,10 +108,10 @@ module _ (old new : List QueueState) (before after : ℕ → Option Place) (p : 
         ((removes.each w).1 (subst (λ (i : ℕ). Contains (queue_at old i).tasks w) is there, λ e. other (ap (λ (v : Waiting). v.number) e)))
   ]
 
-  same_dims_left : (k : ℕ) → (queue_at new k).dims ≡ (queue_at old k).dims
-  same_dims_left k = elim (cases_eq k p.queue) [
-    | inr ne ↦ ap (λ (l : QueueState). l.dims) (same.other k ne)
-    | inl e ↦ ap (λ (i : ℕ). (queue_at new i).dims) e ∙ same.dims ∙ ap (λ (i : ℕ). (queue_at old i).dims) (sym e)
+  same_set_left : (k : ℕ) → (queue_at new k).set ≡ (queue_at old k).set
+  same_set_left k = elim (cases_eq k p.queue) [
+    | inr ne ↦ ap (λ (l : QueueState). l.set) (same.other k ne)
+    | inl e ↦ ap (λ (i : ℕ). (queue_at new i).set) e ∙ same.set ∙ ap (λ (i : ℕ). (queue_at old i).set) (sym e)
   ]
 
   pub leave_placed : ArePlaced new after
@@ -124,27 +124,27 @@ module _ (old new : List QueueState) (before after : ℕ → Option Place) (p : 
   ]
 
   pub leave_waits : Leaves number old new
-  leave_waits w dims = (there, λ both. back both.0 both.1)
+  leave_waits w set = (there, λ both. back both.0 both.1)
     where
-      there : Waits new w dims → Waits old w dims × (w.number ≢ number)
-      there h = let two = old_and_other h.place w h.stands in (record { place = h.place; alike = sym (same_dims_left h.place) ∙ h.alike; stands = two.0 }, two.1)
+      there : Waits new w set → Waits old w set × (w.number ≢ number)
+      there h = let two = old_and_other h.place w h.stands in (record { place = h.place; alike = sym (same_set_left h.place) ∙ h.alike; stands = two.0 }, two.1)
 
-      back : Waits old w dims → w.number ≢ number → Waits new w dims
-      back h other = record { place = h.place; alike = same_dims_left h.place ∙ h.alike; stands = other_in_new h.place w h.stands other }
+      back : Waits old w set → w.number ≢ number → Waits new w set
+      back h other = record { place = h.place; alike = same_set_left h.place ∙ h.alike; stands = other_in_new h.place w h.stands other }
 
 -- no task has a number that the map does not have
 pub leaves_nothing : (states : List QueueState) (before : ℕ → Option Place) (number : ℕ) → ArePlaced states before → before number ≡ None → Leaves number states states
-leaves_nothing states before number placed none w dims = (λ h. (h, λ e. absurd (let both : Some (record { queue = h.place; priority = w.priority }) ≡ None = sym (placed h.place w h.stands) ∙ ap before e ∙ none in cc (both))), λ two. two.0)
+leaves_nothing states before number placed none w set = (λ h. (h, λ e. absurd (let both : Some (record { queue = h.place; priority = w.priority }) ≡ None = sym (placed h.place w h.stands) ∙ ap before e ∙ none in cc (both))), λ two. two.0)
 
 module _ (old new : List QueueState) (same : SameTasks old new) where
   pub same_waits : SameWaits old new
-  same_waits w dims = (there, back)
+  same_waits w set = (there, back)
     where
-      there : Waits new w dims → Waits old w dims
-      there h = let stood = subst (λ (l : List Waiting). Contains l w) (same.tasks h.place) h.stands in record { place = h.place; alike = sym (same.dims h.place w stood) ∙ h.alike; stands = stood }
+      there : Waits new w set → Waits old w set
+      there h = let stood = subst (λ (l : List Waiting). Contains l w) (same.tasks h.place) h.stands in record { place = h.place; alike = sym (same.set h.place w stood) ∙ h.alike; stands = stood }
 
-      back : Waits old w dims → Waits new w dims
-      back h = record { place = h.place; alike = same.dims h.place w h.stands ∙ h.alike; stands = subst (λ (l : List Waiting). Contains l w) (sym (same.tasks h.place)) h.stands }
+      back : Waits old w set → Waits new w set
+      back h = record { place = h.place; alike = same.set h.place w h.stands ∙ h.alike; stands = subst (λ (l : List Waiting). Contains l w) (sym (same.tasks h.place)) h.stands }
 
   pub same_order : AreInOrder old → AreInOrder new
   same_order order k = subst IsInOrder (sym (same.tasks k)) (order k)
@@ -157,4 +157,4 @@ module _ (old new : List QueueState) (same : SameTasks old new) where
     same_known known n p e = subst (λ (l : List Waiting). Contains l (one_at p.priority n)) (sym (same.tasks p.queue)) (known n p (sym (alike n) ∙ e))
 
 pub same_tasks : (states : List QueueState) → SameTasks states states
-same_tasks states = record { tasks = λ k. refl; dims = λ k w there. refl }
+same_tasks states = record { tasks = λ k. refl; set = λ k w there. refl }

@@ -13,9 +13,9 @@ use Rattle.dim_queue.specs.QueueList.{state_of, room_of, AreInOrder}
 abbrev pub states_of : Inside → List QueueState
 states_of q = map state_of q.queues.items
 
--- the queues, and the dimensions of the one that is ready
+-- the queues, and the set of the one that is ready
 abbrev pub all_of : Inside → QueuesState
-all_of q = record { queues = states_of q; ready = option_map (λ at. (queue_at (states_of q) at).dims) q.ready }
+all_of q = record { queues = states_of q; ready = option_map (λ at. (queue_at (states_of q) at).set) q.ready }
 
 -- the map has the place of each waiting task
 abbrev pub ArePlaced : List QueueState → (ℕ → Option Place) → Type 0

@@ -1,10 +1,11 @@
-//! The tasks of a pool that wait for a bot, in one queue for each set of dimensions.
+//! The tasks of a pool that wait for a bot, in one queue for each set: the dimensions with which its
+//! tasks wait, and the bot that they are kept from, if any.
 //!
 //! [`Queues::first_for`] answers which task a bot gets: of the waiting tasks whose dimensions it
-//! matches, the one of the lowest priority, and at equal priorities the one of the lowest number.
-//! A task waits from `enter` to `leave`. `enter` takes no memory: `reserve` has made room before,
-//! and is the only call that can fail. Contracts say which task waits with which dimensions
-//! (`Waits` in `specs/Plain.antt`); which queue has which place is not promised.
+//! matches and that are not kept from it, the one of the lowest priority, and at equal priorities
+//! the one of the lowest number. A task waits from `enter` to `leave`. `enter` takes no memory:
+//! `reserve` has made room before, and is the only call that can fail. Contracts say which task
+//! waits with which set (`Waits` in `specs/Plain.antt`); which queue has which place is not promised.
 //!
 //! A queue keeps the priority of a task beside its number, so no row of a task is read here.
 //! `first_for` visits each queue once, and `reserve` compares its set with that of each queue.
@@ -21,9 +22,11 @@
 mod places;
 mod queue;
 mod queue_list;
+mod queue_set;
 mod queues;
 mod task_order;
 mod waiting;
 
+pub use queue_set::QueueSet;
 pub use queues::Queues;
 pub use waiting::Waiting;

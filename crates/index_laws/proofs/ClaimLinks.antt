@@ -1,30 +1,25 @@
 -- The claims that an index holds are those of the rows.
-use Rattle.std.proofs.Common.{◌≡◌, ◌↔◌, ℕ, ◌==◌, true, false, List, [], ◌∷◌, ◌++◌, refl, sym, ap, ◌∙◌, subst, Option, Some, None, IfSome, MatchOption, eqb-true}
-use Rattle.std.specs.Option.{option_map, option_map_or, option_and_then}
-use Rattle.std.proofs.lemmas.Bool.{and_parts}
-use Rattle.std.proofs.lemmas.Option.{same_Some}
-use Rattle.dimensions.specs.Alike.{same}
-use Rattle.swarm_model.specs.declared.attempt.Attempt.{Attempt}
+use Rattle.std.proofs.Common.{◌≡◌, ◌↔◌, ℕ, List, [], ◌∷◌, ◌++◌, refl, sym, ◌∙◌, subst, Option, Some, None, IfSome, MatchOption}
+use Rattle.std.specs.Option.{option_map, option_and_then}
 use Rattle.swarm_model.specs.declared.task_row.TaskRow.{TaskRow}
 use Rattle.swarm_model.specs.declared.pool_state.PoolState.{PoolState}
 use Rattle.swarm_model.specs.declared.entry.EntryKind.{EntryKind}
 use Rattle.swarm_model.specs.declared.entry.EntryKind.TheVariants as kind
 use Rattle.swarm_model.specs.Finding.{task_of}
-use Rattle.swarm_model.specs.Answers.{claimed, is_claim, is_claimed}
+use Rattle.swarm_model.specs.Answers.{claimed, has_claim}
 use Rattle.swarm_model.specs.Effects.{after}
-use Rattle.swarm_model.specs.Soundness.{IsSound, claim_key}
-use Rattle.pool_laws.proofs.Alike.{same_is}
+use Rattle.swarm_model.specs.Soundness.{IsSound}
 use Rattle.pool_laws.proofs.Lists.{Among, Found, find_is}
 use Rattle.pool_laws.proofs.Preconditions.{Finds}
 use Rattle.pool_laws.proofs.EntryPreconditions.{finds}
 use Rattle.pool_laws.proofs.Rows.{find_task}
-use Rattle.pool_laws.proofs.Claimed.{claim_found}
+use Rattle.pool_laws.proofs.Claimed.{claim_keys, claim_found}
 use Rattle.pool_index.specs.declared.claim_link.ClaimLink.{ClaimLink}
 use Rattle.pool_index.specs.Claims.{HasClaim, HasNone, key_of, links_with}
-use Rattle.index_laws.specs.Keys.{HasKey}
-use Rattle.index_laws.specs.TaskClaims.{Claimed, claimed_of, claim_to_come, claim_link, AreClaims, ClaimsFollow, ClaimsAreFresh, ClaimIsFound}
+use Rattle.index_laws.specs.Keys.{IsKnown}
+use Rattle.index_laws.specs.TaskClaims.{Claimed, IsClaimOf, claim_to_come, claim_link, AreClaims, ClaimsFollow, ClaimsAreFresh, ClaimIsFound}
 use Rattle.index_laws.proofs.Keys.{among_of, contains_of}
-use Rattle.index_laws.proofs.KeysGrow.{claims_grow, claim_in}
+use Rattle.index_laws.proofs.KeysGrow.{claims_grow}
 use Rattle.index_laws.proofs.KeyLinks.{links_follow}
 
 -- ---- links
@@ -61,47 +56,21 @@ claim_in_link link = (link.bot, link.claim, link.task)
 pub claims_follow : ClaimsFollow
 claims_follow s e o follows old new are is = record { each = λ b id n. (λ h. (each (b, id, n)).0 (to_link new b id n h), λ k. of_link new b id n ((each (b, id, n)).1 k)) }
   where
-    each : (c : Claimed) → Holds new c ↔ HasKey claimed_of (after s e).tasks c
+    each : (c : Claimed) → Holds new c ↔ IsKnown IsClaimOf (after s e).tasks c
     each =
-        links_follow claim_link claim_in_link (λ x. refl) (HasKey claimed_of s.tasks) (HasKey claimed_of (after s e).tasks) (claim_to_come e.kind) (claims_grow s e o follows) old new
+        links_follow claim_link claim_in_link (λ x. refl) (IsKnown IsClaimOf s.tasks) (IsKnown IsClaimOf (after s e).tasks) (claim_to_come e.kind) (claims_grow s e o follows) old new
         (λ c. (λ h. (are.each c.0 c.1 c.2).0 (of_link old c.0 c.1 c.2 h), λ k. to_link old c.0 c.1 c.2 ((are.each c.0 c.1 c.2).1 k)))
         (with_link (claim_to_come e.kind) old new is)
 
 -- ---- rows
 
--- the number and the key of a claim of a row
-record IsClaimOf (x : TaskRow) (b : ℕ) (id : List ℕ) (n : ℕ) : Type 0 where
-  number : x.no ≡ n
-  key : claim_key x ≡ Some (b, id)
-
-claim_tells : (x : TaskRow) (b : ℕ) (id : List ℕ) (n : ℕ) → claimed_of x ≡ Some (b, id, n) → IsClaimOf x b id n
-claim_tells x b id n e = by_attempt x.attempt refl e
-  where
-    by_attempt : (r : Option Attempt) → x.attempt ≡ r → claim_in r x.no ≡ Some (b, id, n) → IsClaimOf x b id n
-    by_attempt None h g = absurd (cc (g))
-    by_attempt (Some a) h g =
-        (let own : Claimed = (a.bot, a.claim, x.no) in
-        let its : Claimed = (b, id, n) in
-        let all : own ≡ its = same_Some _ _ g in
-        record { number = ap (λ (t : Claimed). t.2) all; key = ap (option_map (λ (z : Attempt). (z.bot, z.claim))) h ∙ ap (λ (t : Claimed). Some (t.0, t.1)) all })
-
--- a row that the bot claimed under the id has the claim
-claimed_has : (x : TaskRow) (b : ℕ) (id : List ℕ) → is_claimed b id x ≡ true → claimed_of x ≡ Some (b, id, x.no)
-claimed_has x b id e = by_attempt x.attempt e
-  where
-    by_attempt : (r : Option Attempt) → option_map_or (is_claim b id) r false ≡ true → claim_in r x.no ≡ Some (b, id, x.no)
-    by_attempt None g = absurd (cc (g))
-    by_attempt (Some a) g =
-        (let both = and_parts (a.bot == b) (same a.claim id) g in let first = eqb-true a.bot b both.0 in let second = same_is a.claim id both.1 in cc (first, second))
-
 module _ (s : PoolState) (o : IsSound s) (links : List ClaimLink) (are : AreClaims links s.tasks) (b : ℕ) (id : List ℕ) where
   -- a link is that of the row that the bot claimed
   row_of_link : (n : ℕ) → HasClaim links (b, id) n → task_of s n ≡ claimed s b id
   row_of_link n h =
-      let k : HasKey claimed_of s.tasks (b, id, n) = (are.each b id n).0 h in
+      let k : IsKnown IsClaimOf s.tasks (b, id, n) = (are.each b id n).0 h in
       let a : Among k.task s.tasks = among_of s.tasks k.task k.among in
-      let t : IsClaimOf k.task b id n = claim_tells k.task b id n k.keyed in
-      find_task s o k.task n a t.number ∙ sym (claim_found s o b id k.task a t.key)
+      find_task s o k.task n a k.keyed.1 ∙ sym (claim_found s o b id k.task a k.keyed.0)
 
   -- and where there is none, the bot claimed none
   none_claimed : HasNone links (b, id) → claimed s b id ≡ None
@@ -110,8 +79,8 @@ module _ (s : PoolState) (o : IsSound s) (links : List ClaimLink) (are : AreClai
       by_found : (r : Option TaskRow) → claimed s b id ≡ r → r ≡ None
       by_found None g = refl
       by_found (Some x) g =
-          (let f : Found (is_claimed b id) s.tasks x = find_is (is_claimed b id) s.tasks x g in
-          let h : HasClaim links (b, id) x.no = (are.each b id x.no).1 (record { task = x; among = contains_of s.tasks x f.among; keyed = claimed_has x b id f.passes }) in
+          (let f : Found (has_claim b id) s.tasks x = find_is (has_claim b id) s.tasks x g in
+          let h : HasClaim links (b, id) x.no = (are.each b id x.no).1 (record { task = x; among = contains_of s.tasks x f.among; keyed = (claim_keys b id x f.passes, refl) }) in
           absurd (none_holds links b id none x.no (to_link links b id x.no h)))
 
   found_is : (found : Option ℕ) → MatchOption found (HasNone links (b, id)) (HasClaim links (b, id)) → option_and_then (task_of s) found ≡ claimed s b id
@@ -122,9 +91,8 @@ module _ (s : PoolState) (o : IsSound s) (links : List ClaimLink) (are : AreClai
   fresh_claim : claimed s b id ≡ None → HasNone links (b, id)
   fresh_claim g = none_from links b id (λ n a.
       let h : HasClaim links (b, id) n = of_link links b id n a in
-      let k : HasKey claimed_of s.tasks (b, id, n) = (are.each b id n).0 h in
-      let t : IsClaimOf k.task b id n = claim_tells k.task b id n k.keyed in
-      cc (g, claim_found s o b id k.task (among_of s.tasks k.task k.among) t.key))
+      let k : IsKnown IsClaimOf s.tasks (b, id, n) = (are.each b id n).0 h in
+      cc (g, claim_found s o b id k.task (among_of s.tasks k.task k.among) k.keyed.0))
 
 pub claim_is_found : ClaimIsFound
 claim_is_found s o links are b id found h = found_is s o links are b id found h

@@ -1,32 +1,34 @@
 -- The task that comes next in the queues is the first of the rows that wait for the bot.
-use Rattle.std.proofs.Common.{◌≡◌, ℕ, ◌==◌, ◌&&◌, ◌||◌, Bool, true, false, cond, List, [], ◌∷◌, ◌⊎◌, inl, inr, filter, refl, sym, ap, ◌∙◌, subst, arith, Option, Some, None}
+use Rattle.std.proofs.Common.{◌≡◌, ℕ, ◌==◌, ◌&&◌, ◌||◌, not, Bool, true, false, cond, List, [], ◌∷◌, ◌⊎◌, inl, inr, filter, refl, sym, ap, ◌∙◌, subst, arith, Option, Some, None}
 use Rattle.std.specs.Prelude.{nat_lt}
 use Rattle.std.specs.List.{fold}
-use Rattle.std.specs.Option.{option_map, option_and_then}
+use Rattle.std.specs.Option.{option_map, option_map_or, option_and_then}
 use Rattle.std.proofs.lemmas.Bool.{cases_Bool, cond-true, cond-false, false≢true, and_parts, and_from}
 use Rattle.std.proofs.lemmas.Bool.Decides.{nat_tests}
 use Rattle.std.proofs.lemmas.Option.{same_Some}
-use Rattle.dimensions.specs.declared.dim_set.DimSet.{DimSet}
+use Rattle.dim_queue.specs.declared.queue_set.QueueSet.{QueueSet}
 use Rattle.dimensions.specs.declared.bot_dims.BotDims.{BotDims}
 use Rattle.dimensions.specs.Matching.{matches}
 use Rattle.task_props.specs.declared.slice.Slice.{Slice}
 use Rattle.swarm_model.specs.declared.task_state.TaskState.TheVariants.{Pending}
+use Rattle.swarm_model.specs.declared.retried.Retried.{Retried}
 use Rattle.swarm_model.specs.declared.task_row.TaskRow.{TaskRow}
 use Rattle.swarm_model.specs.declared.pool_state.PoolState.{PoolState}
 use Rattle.swarm_model.specs.Finding.{has_state, task_of}
-use Rattle.swarm_model.specs.Slices.{current_slice, takes_slice, waits_for, goes_before, foremost, first}
+use Rattle.swarm_model.specs.Slices.{current_slice, takes_slice, is_kept_from, waits_for, goes_before, foremost, first}
 use Rattle.swarm_model.specs.Soundness.{IsSound}
 use Rattle.pool_laws.proofs.Lists.{Among, here, later, filter_is, filter_has}
 use Rattle.pool_laws.proofs.Rows.{one_task, find_task}
 use Rattle.dim_queue.specs.declared.waiting.Waiting.{Waiting}
 use Rattle.dim_queue.specs.Order.{goes_first}
+use Rattle.dim_queue.specs.Taking.{taker, may_take}
 use Rattle.dim_queue.specs.Plain.{QueueState, Waits, IsNextOf}
 use Rattle.index_laws.specs.Keys.{HasKey}
-use Rattle.index_laws.specs.TaskQueues.{AreQueued, waiting_of, place_in, FirstIsNext}
+use Rattle.index_laws.specs.TaskQueues.{AreQueued, kept_from, waiting_of, place_in, FirstIsNext}
 use Rattle.index_laws.proofs.Keys.{among_of, contains_of}
 
 abbrev Place : Type 0
-Place = Waiting × DimSet
+Place = Waiting × QueueSet
 
 -- ---- the order of tasks
 
@@ -105,74 +107,86 @@ none_left (x ∷ xs) h = absurd (h x here)
 
 -- ---- the queues
 
--- a pending row of the number and the priority, whose current slice has the dimensions
-record IsPending (tasks : List TaskRow) (w : Waiting) (dims : DimSet) : Type 0 where
+-- a pending row of the number and the priority, which waits with the set
+record IsPending (tasks : List TaskRow) (w : Waiting) (set : QueueSet) : Type 0 where
   task : TaskRow
   among : Among task tasks
   pending : has_state Pending task ≡ true
   slice : Slice
   current : current_slice task ≡ Some slice
-  placed : place_in task slice ≡ (w, dims)
+  placed : place_in task slice ≡ (w, set)
 
 -- a row with a place in the queues is pending
-pending : (tasks : List TaskRow) (w : Waiting) (dims : DimSet) → HasKey waiting_of tasks (w, dims) → IsPending tasks w dims
-pending tasks w dims k = by_test (has_state Pending k.task) refl k.keyed
+pending : (tasks : List TaskRow) (w : Waiting) (set : QueueSet) → HasKey waiting_of tasks (w, set) → IsPending tasks w set
+pending tasks w set k = by_test (has_state Pending k.task) refl k.keyed
   where
-    by_slice : has_state Pending k.task ≡ true → (r : Option Slice) → current_slice k.task ≡ r → option_map (place_in k.task) r ≡ Some (w, dims) → IsPending tasks w dims
+    by_slice : has_state Pending k.task ≡ true → (r : Option Slice) → current_slice k.task ≡ r → option_map (place_in k.task) r ≡ Some (w, set) → IsPending tasks w set
     by_slice p None q h = absurd (cc (h))
     by_slice p (Some slice) q h = record { task = k.task; among = among_of tasks k.task k.among; pending = p; slice = slice; current = q; placed = same_Some _ _ h }
 
-    by_test : (c : Bool) → has_state Pending k.task ≡ c → cond c (option_map (place_in k.task) (current_slice k.task)) None ≡ Some (w, dims) → IsPending tasks w dims
+    by_test : (c : Bool) → has_state Pending k.task ≡ c → cond c (option_map (place_in k.task) (current_slice k.task)) None ≡ Some (w, set) → IsPending tasks w set
     by_test true p h = by_slice p (current_slice k.task) refl h
     by_test false p h = absurd (cc (h))
 
-module _ (s : PoolState) (o : IsSound s) (queues : List QueueState) (queued : AreQueued queues s.tasks) (bot : BotDims) where
+module _ (s : PoolState) (o : IsSound s) (queues : List QueueState) (queued : AreQueued queues s.tasks) (number : ℕ) (bot : BotDims) where
   abbrev waiting : TaskRow → Waiting
   waiting task = record { priority = task.request.priority; number = task.no }
 
   -- where a row waits that waits for the bot
   record IsIn (x : TaskRow) : Type 0 where
-    dims : DimSet
-    stands : Waits queues (waiting x) dims
-    fits : matches bot dims ≡ true
+    set : QueueSet
+    stands : Waits queues (waiting x) set
+    fits : may_take (taker number bot) set ≡ true
 
-  in_queue : (x : TaskRow) → Among x s.tasks → waits_for bot x ≡ true → IsIn x
-  in_queue x a w = by_slice (current_slice x) refl two.1
+  -- a task is kept from the bot just where its queue is
+  kept_alike : (x : TaskRow) → is_kept_from number x ≡ option_map_or (λ (but : ℕ). but == number) (kept_from x) false
+  kept_alike x = by_retried x.retried
     where
-      two : (has_state Pending x ≡ true) × (takes_slice bot (current_slice x) ≡ true)
-      two = and_parts (has_state Pending x) (takes_slice bot (current_slice x)) w
+      by_retried : (r : Option Retried) → option_map_or (λ (lost : Retried). lost.attempt.bot == number) r false ≡ option_map_or (λ (but : ℕ). but == number) (option_map (λ (lost : Retried). lost.attempt.bot) r) false
+      by_retried None = refl
+      by_retried (Some lost) = refl
+
+  in_queue : (x : TaskRow) → Among x s.tasks → waits_for number bot x ≡ true → IsIn x
+  in_queue x a w = by_slice (current_slice x) refl both.0
+    where
+      two : (has_state Pending x ≡ true) × ((takes_slice bot (current_slice x) && not (is_kept_from number x)) ≡ true)
+      two = and_parts (has_state Pending x) (takes_slice bot (current_slice x) && not (is_kept_from number x)) w
+
+      both : (takes_slice bot (current_slice x) ≡ true) × (not (is_kept_from number x) ≡ true)
+      both = and_parts (takes_slice bot (current_slice x)) (not (is_kept_from number x)) two.1
 
       by_slice : (r : Option Slice) → current_slice x ≡ r → takes_slice bot r ≡ true → IsIn x
       by_slice None e t = absurd (false≢true t)
       by_slice (Some slice) e t =
           (let keyed : waiting_of x ≡ Some (place_in x slice) = cond-true (has_state Pending x) (option_map (place_in x) (current_slice x)) None two.0 ∙ ap (option_map (place_in x)) e in
           record {
-            dims = slice.properties.dimensions;
-            stands = (queued.each (waiting x) slice.properties.dimensions).1 (record { task = x; among = contains_of s.tasks x a; keyed = keyed });
-            fits = t;
+            set = (place_in x slice).1;
+            stands = (queued.each (waiting x) (place_in x slice).1).1 (record { task = x; among = contains_of s.tasks x a; keyed = keyed });
+            fits = and_from (not (option_map_or (λ (but : ℕ). but == number) (kept_from x) false)) (matches bot slice.properties.dimensions) (ap not (sym (kept_alike x)) ∙ both.1) t;
           })
 
-  first_is : (next : Option Waiting) → IsNextOf queues bot next → option_and_then (λ (w : Waiting). task_of s w.number) next ≡ first s bot
+  first_is : (next : Option Waiting) → IsNextOf queues (taker number bot) next → option_and_then (λ (w : Waiting). task_of s w.number) next ≡ first s number bot
   first_is None none =
-      ap (fold foremost None) (sym (none_left (filter (waits_for bot) s.tasks) (λ x a.
-      let f = filter_is (waits_for bot) s.tasks x a in
+      ap (fold foremost None) (sym (none_left (filter (waits_for number bot) s.tasks) (λ x a.
+      let f = filter_is (waits_for number bot) s.tasks x a in
       let l = in_queue x f.among f.passes in
-      false≢true (sym (none (waiting x) l.dims l.stands) ∙ l.fits))))
+      false≢true (sym (none (waiting x) l.set l.stands) ∙ l.fits))))
   first_is (Some w) is =
-      let p = pending s.tasks w is.dims ((queued.each w is.dims).0 is.waits) in
+      let p = pending s.tasks w is.set ((queued.each w is.set).0 is.waits) in
       let task = p.task in
       let w_is : waiting task ≡ w = ap (λ (k : Place). k.0) p.placed in
-      let alike : p.slice.properties.dimensions ≡ is.dims = ap (λ (k : Place). k.1) p.placed in
-      let takes : takes_slice bot (current_slice task) ≡ true =
-      subst (λ (r : Option Slice). takes_slice bot r ≡ true) (sym p.current) (subst (λ (d : DimSet). matches bot d ≡ true) (sym alike) is.fits) in
-      let waits : waits_for bot task ≡ true = and_from (has_state Pending task) (takes_slice bot (current_slice task)) p.pending takes in
+      let alike : (place_in task p.slice).1 ≡ is.set = ap (λ (k : Place). k.1) p.placed in
+      let fits = and_parts (not (option_map_or (λ (but : ℕ). but == number) (kept_from task) false)) (matches bot p.slice.properties.dimensions) (subst (λ (d : QueueSet). may_take (taker number bot) d ≡ true) (sym alike) is.fits) in
+      let takes : takes_slice bot (current_slice task) ≡ true = subst (λ (r : Option Slice). takes_slice bot r ≡ true) (sym p.current) fits.1 in
+      let kept : not (is_kept_from number task) ≡ true = ap not (kept_alike task) ∙ fits.0 in
+      let waits : waits_for number bot task ≡ true = and_from (has_state Pending task) (takes_slice bot (current_slice task) && not (is_kept_from number task)) p.pending (and_from (takes_slice bot (current_slice task)) (not (is_kept_from number task)) takes kept) in
       let row : task_of s w.number ≡ Some task = find_task s o task w.number p.among (ap (λ (v : Waiting). v.number) w_is) in
-      let others : (x : TaskRow) → Among x (filter (waits_for bot) s.tasks) → (goes_before x task ≡ false) × Alone task x = λ x b.
-      let f = filter_is (waits_for bot) s.tasks x b in
+      let others : (x : TaskRow) → Among x (filter (waits_for number bot) s.tasks) → (goes_before x task ≡ false) × Alone task x = λ x b.
+      let f = filter_is (waits_for number bot) s.tasks x b in
       let l = in_queue x f.among f.passes in
-      let behind : goes_before x task ≡ false = subst (λ (v : Waiting). goes_first (waiting x) v ≡ false) (sym w_is) (is.first (waiting x) l.dims l.stands l.fits) in
+      let behind : goes_before x task ≡ false = subst (λ (v : Waiting). goes_first (waiting x) v ≡ false) (sym w_is) (is.first (waiting x) l.set l.stands l.fits) in
       (behind, λ g h. one_task s o x task f.among p.among (below_tie x.request.priority x.no task.request.priority task.no g h)) in
-      row ∙ sym (found task None (filter (waits_for bot) s.tasks) tt tt others (inr (filter_has (waits_for bot) s.tasks task p.among waits)))
+      row ∙ sym (found task None (filter (waits_for number bot) s.tasks) tt tt others (inr (filter_has (waits_for number bot) s.tasks task p.among waits)))
 
 pub first_is_next : FirstIsNext
-first_is_next s o queues queued bot next is = first_is s o queues queued bot next is
+first_is_next s o queues queued number bot next is = first_is s o queues queued number bot next is

@@ -15,7 +15,7 @@ use Rattle.pool_laws.proofs.Rows.{find_task}
 use Rattle.pool_laws.proofs.Numbers.{task_no}
 use Rattle.pool_laws.proofs.Sound.{sound_after}
 use Rattle.index_laws.specs.Touched.{touched_task}
-use Rattle.index_laws.specs.Keys.{HasKey, KeysGrow}
+use Rattle.index_laws.specs.Keys.{IsKnown, HasKey, KeysGrow}
 use Rattle.index_laws.proofs.Untouched.{same_task, added_touched}
 use Rattle.index_laws.proofs.NumberedRows.{is_touched}
 
@@ -85,26 +85,26 @@ module _ (s : PoolState) (e : Entry) (o : IsSound s) (follows : MayFollow s e) w
             record { task = h.task; among = contains_of new.tasks h.task (kept_row h.task (among_of s.tasks h.task h.among) (λ t. u (t ∙ ap (λ (n : ℕ). Some n) is))); keyed = h.keyed })
         back (inr h) = by_number (touched_task s e.kind) h
 
-  module _ {K : Type 0} (key : TaskRow → Option K) (come : Option K) (stays : (x : TaskRow) → Among x s.tasks → (k : K) → key x ≡ Some k → key (change x) ≡ Some k)
-      (from : (x : TaskRow) → Among x s.tasks → (k : K) → key (change x) ≡ Some k → (key x ≡ Some k) ⊎ (come ≡ Some k)) (adds : (y : TaskRow) → Among y (added_tasks e.moment e.kind) → (k : K) → key y ≡ Some k → come ≡ Some k)
-      (comes : (k : K) → come ≡ Some k → HasKey key new.tasks k) where
+  module _ {K : Type 0} (by : TaskRow → K → Type 0) (come : Option K) (stays : (x : TaskRow) → Among x s.tasks → (k : K) → by x k → by (change x) k)
+      (from : (x : TaskRow) → Among x s.tasks → (k : K) → by (change x) k → by x k ⊎ (come ≡ Some k)) (adds : (y : TaskRow) → Among y (added_tasks e.moment e.kind) → (k : K) → by y k → come ≡ Some k)
+      (comes : (k : K) → come ≡ Some k → IsKnown by new.tasks k) where
     -- no key is lost, and at most one comes
-    pub grows : KeysGrow key come s.tasks new.tasks
+    pub grows : KeysGrow by come s.tasks new.tasks
     grows k = (there, back)
       where
-        of_row : (y : TaskRow) → Among y new.tasks → key y ≡ Some k → HasKey key s.tasks k ⊎ (come ≡ Some k)
+        of_row : (y : TaskRow) → Among y new.tasks → by y k → IsKnown by s.tasks k ⊎ (come ≡ Some k)
         of_row =
-            each_append (λ (y : TaskRow). key y ≡ Some k → HasKey key s.tasks k ⊎ (come ≡ Some k)) (map change s.tasks) (added_tasks e.moment e.kind)
-            (each_map (λ (y : TaskRow). key y ≡ Some k → HasKey key s.tasks k ⊎ (come ≡ Some k)) change s.tasks (λ x a h. elim (from x a k h) [
+            each_append (λ (y : TaskRow). by y k → IsKnown by s.tasks k ⊎ (come ≡ Some k)) (map change s.tasks) (added_tasks e.moment e.kind)
+            (each_map (λ (y : TaskRow). by y k → IsKnown by s.tasks k ⊎ (come ≡ Some k)) change s.tasks (λ x a h. elim (from x a k h) [
               | inl g ↦ inl (record { task = x; among = contains_of s.tasks x a; keyed = g })
               | inr c ↦ inr c
             ]))
             (λ y a h. inr (adds y a k h))
 
-        there : HasKey key new.tasks k → HasKey key s.tasks k ⊎ (come ≡ Some k)
+        there : IsKnown by new.tasks k → IsKnown by s.tasks k ⊎ (come ≡ Some k)
         there h = of_row h.task (among_of new.tasks h.task h.among) h.keyed
 
-        back : HasKey key s.tasks k ⊎ (come ≡ Some k) → HasKey key new.tasks k
+        back : IsKnown by s.tasks k ⊎ (come ≡ Some k) → IsKnown by new.tasks k
         back (inl h) =
             (let a = among_of s.tasks h.task h.among in
             record { task = change h.task; among = contains_of new.tasks (change h.task) (among_left (change h.task) (map change s.tasks) (added_tasks e.moment e.kind) (among_map change s.tasks h.task a)); keyed = stays h.task a k h.keyed })

@@ -2,6 +2,7 @@ pub mod NumberedRows
 pub mod Untouched
 pub mod DeadlinesFollow
 pub mod Keys
+pub mod LostRuns
 pub mod KeysGrow
 pub mod QueuesFollow
 pub mod FirstIsNext

@@ -2,7 +2,7 @@
 use Rattle.std.proofs.Common.{◌≡◌, Bool, true, false, cond, inl, inr, ap, Option, Some, None}
 use Rattle.std.specs.Option.{option_map}
 use Rattle.std.proofs.lemmas.Option.{same_Some}
-use Rattle.dimensions.specs.declared.dim_set.DimSet.{DimSet}
+use Rattle.dim_queue.specs.declared.queue_set.QueueSet.{QueueSet}
 use Rattle.task_props.specs.declared.slice.Slice.{Slice}
 use Rattle.swarm_model.specs.declared.task_row.TaskRow.{TaskRow}
 use Rattle.swarm_model.specs.Slices.{current_slice}
@@ -15,28 +15,28 @@ use Rattle.index_laws.specs.TaskQueues.{waiting_of, place_in, QueuesFollow}
 use Rattle.index_laws.proofs.Keys.{keyed_after}
 
 -- the place of a row holds its number
-waiting_tells : (x : TaskRow) (k : Waiting × DimSet) → waiting_of x ≡ Some k → x.no ≡ k.0.number
+waiting_tells : (x : TaskRow) (k : Waiting × QueueSet) → waiting_of x ≡ Some k → x.no ≡ k.0.number
 waiting_tells x k e = by_test (waits x) e
   where
     by_slice : (r : Option Slice) → option_map (place_in x) r ≡ Some k → x.no ≡ k.0.number
     by_slice None h = absurd (cc (h))
-    by_slice (Some slice) h = ap (λ (p : Waiting × DimSet). p.0.number) (same_Some _ _ h)
+    by_slice (Some slice) h = ap (λ (p : Waiting × QueueSet). p.0.number) (same_Some _ _ h)
 
     by_test : (c : Bool) → cond c (option_map (place_in x) (current_slice x)) None ≡ Some k → x.no ≡ k.0.number
     by_test true h = by_slice (current_slice x) h
     by_test false h = absurd (cc (h))
 
 pub queues_follow : QueuesFollow
-queues_follow s e o follows old new queued is = record { each = λ w dims. (there w dims, back w dims) }
+queues_follow s e o follows old new queued is = record { each = λ w set. (there w set, back w set) }
   where
-    there : (w : Waiting) (dims : DimSet) → Waits new w dims → HasKey waiting_of (after s e).tasks (w, dims)
-    there w dims h = elim ((is.each w dims).0 h) [
-      | inl both ↦ (keyed_after s e o follows waiting_of (λ (k : Waiting × DimSet). k.0.number) waiting_tells (w, dims)).1 (inl ((queued.each w dims).0 both.0, both.1))
-      | inr place ↦ (keyed_after s e o follows waiting_of (λ (k : Waiting × DimSet). k.0.number) waiting_tells (w, dims)).1 (inr place)
+    there : (w : Waiting) (set : QueueSet) → Waits new w set → HasKey waiting_of (after s e).tasks (w, set)
+    there w set h = elim ((is.each w set).0 h) [
+      | inl both ↦ (keyed_after s e o follows waiting_of (λ (k : Waiting × QueueSet). k.0.number) waiting_tells (w, set)).1 (inl ((queued.each w set).0 both.0, both.1))
+      | inr place ↦ (keyed_after s e o follows waiting_of (λ (k : Waiting × QueueSet). k.0.number) waiting_tells (w, set)).1 (inr place)
     ]
 
-    back : (w : Waiting) (dims : DimSet) → HasKey waiting_of (after s e).tasks (w, dims) → Waits new w dims
-    back w dims h = elim ((keyed_after s e o follows waiting_of (λ (k : Waiting × DimSet). k.0.number) waiting_tells (w, dims)).0 h) [
-      | inl both ↦ (is.each w dims).1 (inl ((queued.each w dims).1 both.0, both.1))
-      | inr place ↦ (is.each w dims).1 (inr place)
+    back : (w : Waiting) (set : QueueSet) → HasKey waiting_of (after s e).tasks (w, set) → Waits new w set
+    back w set h = elim ((keyed_after s e o follows waiting_of (λ (k : Waiting × QueueSet). k.0.number) waiting_tells (w, set)).0 h) [
+      | inl both ↦ (is.each w set).1 (inl ((queued.each w set).1 both.0, both.1))
+      | inr place ↦ (is.each w set).1 (inr place)
     ]

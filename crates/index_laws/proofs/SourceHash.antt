@@ -26,7 +26,7 @@ use Rattle.swarm_model.specs.Soundness.{IsSound}
 use Rattle.pool_laws.proofs.Lists.{Among, Found, find_is, each_append, each_map, each_one}
 use Rattle.pool_laws.proofs.Preconditions.{Finds, FindsUpdate}
 use Rattle.pool_laws.proofs.EntryPreconditions.{finds}
-use Rattle.pool_laws.proofs.Rows.{find_task, goes_to, lost_by, reported_task, update_task}
+use Rattle.pool_laws.proofs.Rows.{find_task, goes_to, lost_is, lost_by, reported_task, update_task}
 use Rattle.pool_laws.proofs.Numbers.{task_no, tasks_numbered}
 use Rattle.index_laws.specs.Touched.{touched_task}
 use Rattle.index_laws.specs.TaskSources.{slice_hash_of, link_under, source_of, ends_well, link_by_report, source_link_before, SourceHashIsKnownBefore}
@@ -73,8 +73,8 @@ module _ (s : PoolState) (o : IsSound s) (m : ℕ) where
           by_place None = cond_both (x.slice + 1 == length x.request.task_slices) Expired NoResource (λ (z : TaskState). is_state z Completed ≡ false) (λ t. refl) (λ t. refl)
           by_place (Some place) = p
 
-      lost : NotCompleted (lost_run m x)
-      lost = by_attempt x.attempt
+      lost : NotCompleted (lost_run s.settings.retries m x)
+      lost = lost_is NotCompleted s.settings.retries m x (λ t. refl) (λ t. by_attempt x.attempt)
         where
           by_attempt : (q : Option Attempt) → is_state (end_state q BotDied) Completed ≡ false
           by_attempt None = refl
@@ -83,7 +83,7 @@ module _ (s : PoolState) (o : IsSound s) (m : ℕ) where
       by_kind : (k : EntryKind) → Finds s k → is_report k ≡ false → NotCompleted (task_after s m k x)
       by_kind (kind.Slice t to) f r =
           cond_both (x.no == t) (expired_slice m to x) x NotCompleted (λ n. subst (λ (z : Outcome). NotCompleted (expired_slice m z x)) (sym (goes_to s o t to f x a n)) moved) (λ n. p)
-      by_kind (kind.Silence t) f r = cond_both (x.no == t) (lost_run m x) x NotCompleted (λ n. lost) (λ n. p)
+      by_kind (kind.Silence t) f r = cond_both (x.no == t) (lost_run s.settings.retries m x) x NotCompleted (λ n. lost) (λ n. p)
       by_kind (kind.Cancel t) f r = cond_both (x.no == t) (canceled m x) x NotCompleted (λ n. refl) (λ n. p)
       by_kind (kind.Kill t) f r = cond_both (x.no == t) (kill_marked x) x NotCompleted (λ n. p) (λ n. p)
       by_kind (kind.Handshake b id session dims q) f r = lost_by NotCompleted s m o x a p (λ w. lost) b (run_of_bot s b) refl

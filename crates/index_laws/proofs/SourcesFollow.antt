@@ -25,7 +25,7 @@ use Rattle.pool_laws.proofs.Numbers.{tasks_numbered}
 use Rattle.pool_index.specs.declared.source_link.SourceLink.{SourceLink}
 use Rattle.pool_index.specs.Sources.{newest_in, greater_of, IsNoted, AreWith}
 use Rattle.index_laws.specs.Touched.{touched_task}
-use Rattle.index_laws.specs.Keys.{HasKey, KeysGrow}
+use Rattle.index_laws.specs.Keys.{IsKey, HasKey, KeysGrow}
 use Rattle.index_laws.specs.TaskSources.{hash_of_slice, slice_hash_of, link_under, source_of, has_source_hash, last_source, source_link_to_come, SourcesFollow}
 use Rattle.index_laws.proofs.Keys.{among_of, contains_of, keyed_after}
 use Rattle.index_laws.proofs.TouchedRows.{touched_goes_on}
@@ -119,7 +119,7 @@ last_source_greatest tasks are digest =
     (option_map no_of_task (last_source tasks digest)) (last_is_greatest (has_source_hash digest) tasks are)
 
 -- no row ceases to be a source, and at most the touched one becomes one
-sources_grow : (s : PoolState) (e : Entry) → IsSound s → MayFollow s e → KeysGrow source_of (source_link_to_come s e) s.tasks (after s e).tasks
+sources_grow : (s : PoolState) (e : Entry) → IsSound s → MayFollow s e → KeysGrow (IsKey source_of) (source_link_to_come s e) s.tasks (after s e).tasks
 sources_grow s e o follows link = (λ h. elim (keyed.0 h) [ inl both ↦ inl both.0 | inr c ↦ inr c ], λ h. keyed.1 (elim h [ inl k ↦ inl (k, untouched k) | inr c ↦ inr c ]))
   where
     keyed : HasKey source_of (after s e).tasks link ↔ ((HasKey source_of s.tasks link × (touched_task s e.kind ≡ Some link.task → ⊥)) ⊎ (source_link_to_come s e ≡ Some link))

@@ -35,14 +35,14 @@ module _ (s : PoolState) (o : IsSound s) where
   -- a task that is not touched stays as it is
   pub same_task : (m : ℕ) (k : EntryKind) → Finds s k → (x : TaskRow) → Among x s.tasks → (touched_task s k ≡ Some x.no → ⊥) → task_after s m k x ≡ x
   same_task m (kind.Slice t to) f x a u = other_number t x.no x (expired_slice m to x) u
-  same_task m (kind.Silence t) f x a u = other_number t x.no x (lost_run m x) u
+  same_task m (kind.Silence t) f x a u = other_number t x.no x (lost_run s.settings.retries m x) u
   same_task m (kind.Cancel t) f x a u = other_number t x.no x (canceled m x) u
   same_task m (kind.Kill t) f x a u = other_number t x.no x (kill_marked x) u
   same_task m (kind.Handshake b id session dims q) f x a u = by_run (run_of_bot s b) u
     where
-      by_run : (r : Option ℕ) → (r ≡ Some x.no → ⊥) → if_some (lost_run_at m) r x ≡ x
+      by_run : (r : Option ℕ) → (r ≡ Some x.no → ⊥) → if_some (lost_run_at s.settings.retries m) r x ≡ x
       by_run None v = refl
-      by_run (Some t) v = other_number t x.no x (lost_run m x) v
+      by_run (Some t) v = other_number t x.no x (lost_run s.settings.retries m x) v
   same_task m (kind.Claim b t id) f x a u = other_number t x.no x (started_run m b id x) u
   same_task m (kind.Update b t try_no chunk last) f x a u = update_task s m b t try_no chunk last x ∙ other_number t x.no x (reported_task m (fresh_chunk (attempt_of s t) chunk) chunk last x) u
   same_task m k f x a u = refl

@@ -6,6 +6,7 @@ use Rattle.std.specs.Option.{option_map_or}
 use Rattle.std.proofs.lemmas.Bool.{lt-ltb, ltb-true, ltb-false}
 use Rattle.std.proofs.lemmas.List.Sums.{sum_by-cons}
 use Rattle.swarm_model.specs.declared.attempt.Attempt.{Attempt}
+use Rattle.swarm_model.specs.declared.retried.Retried.{Retried}
 use Rattle.swarm_model.specs.declared.task_row.TaskRow.{TaskRow}
 use Rattle.swarm_model.specs.Finding.{is_final}
 use Rattle.swarm_model.specs.Uses.{is_file_of, has_input, is_chunk_of, has_chunk, needs}
@@ -37,20 +38,38 @@ one_above false = refl
 any_passes : {X : Type 0} (test : X → Bool) (xs : List X) → list_any test xs ≡ nat_lt 0 (count_by test xs)
 any_passes {X = X} test xs = any_counted test (λ (x : X). cond (test x) 1 0) (λ x. one_above (test x)) xs
 
+-- the output of a task's runs has a chunk of the digest
+abbrev has_output : List ℕ → TaskRow → Bool
+has_output digest x = option_map_or (has_chunk digest) x.attempt false || option_map_or (λ (lost : Retried). has_chunk digest lost.attempt) x.retried false
+
+-- so many
+abbrev output_with : List ℕ → TaskRow → ℕ
+output_with digest x = option_map_or (chunks_with digest) x.attempt 0 + option_map_or (λ (lost : Retried). chunks_with digest lost.attempt) x.retried 0
+
+output_counted : (digest : List ℕ) (x : TaskRow) → has_output digest x ≡ nat_lt 0 (output_with digest x)
+output_counted digest x =
+    ap (λ (c : Bool). c || option_map_or (λ (lost : Retried). has_chunk digest lost.attempt) x.retried false) (of_last x.attempt)
+    ∙ ap (λ (c : Bool). nat_lt 0 (option_map_or (chunks_with digest) x.attempt 0) || c) (of_lost x.retried)
+    ∙ sum_above (option_map_or (chunks_with digest) x.attempt 0) (option_map_or (λ (lost : Retried). chunks_with digest lost.attempt) x.retried 0)
+  where
+    of_last : (r : Option Attempt) → option_map_or (has_chunk digest) r false ≡ nat_lt 0 (option_map_or (chunks_with digest) r 0)
+    of_last None = refl
+    of_last (Some attempt) = any_passes (is_chunk_of digest) attempt.chunks
+
+    of_lost : (r : Option Retried) → option_map_or (λ (lost : Retried). has_chunk digest lost.attempt) r false ≡ nat_lt 0 (option_map_or (λ (lost : Retried). chunks_with digest lost.attempt) r 0)
+    of_lost None = refl
+    of_lost (Some lost) = any_passes (is_chunk_of digest) lost.attempt.chunks
+
 need_counted : (digest : List ℕ) (x : TaskRow) → needs digest x ≡ nat_lt 0 (uses_of digest x)
 need_counted digest x = by_final (is_final x.state)
   where
-    of_chunks : (r : Option Attempt) → option_map_or (has_chunk digest) r false ≡ nat_lt 0 (option_map_or (chunks_with digest) r 0)
-    of_chunks None = refl
-    of_chunks (Some attempt) = any_passes (is_chunk_of digest) attempt.chunks
-
-    by_final : (c : Bool) → (not c && (list_any (has_input digest) x.request.task_slices || option_map_or (has_chunk digest) x.attempt false)) ≡ nat_lt 0 (cond c 0 (times_named digest x))
+    by_final : (c : Bool) → (not c && (list_any (has_input digest) x.request.task_slices || has_output digest x)) ≡ nat_lt 0 (cond c 0 (times_named digest x))
     by_final true = refl
     by_final false =
-        ap (λ (c : Bool). c || option_map_or (has_chunk digest) x.attempt false)
+        ap (λ (c : Bool). c || has_output digest x)
         (any_counted (has_input digest) (inputs_with digest) (λ slice. any_passes (is_file_of digest) slice.properties.inputs) x.request.task_slices)
-        ∙ ap (λ (c : Bool). nat_lt 0 (uses_of_slices digest x.request.task_slices) || c) (of_chunks x.attempt)
-        ∙ sum_above (uses_of_slices digest x.request.task_slices) (option_map_or (chunks_with digest) x.attempt 0)
+        ∙ ap (λ (c : Bool). nat_lt 0 (uses_of_slices digest x.request.task_slices) || c) (output_counted digest x)
+        ∙ sum_above (uses_of_slices digest x.request.task_slices) (output_with digest x)
 
 pub use_is_counted : UseIsCounted
 use_is_counted s digest = any_counted (needs digest) (uses_of digest) (need_counted digest) s.tasks

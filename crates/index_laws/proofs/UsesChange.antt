@@ -10,6 +10,7 @@ use Rattle.swarm_model.specs.declared.task_state.TaskState.TheVariants.{Pending}
 use Rattle.swarm_model.specs.declared.attempt.Attempt.{Attempt}
 use Rattle.swarm_model.specs.declared.attempt.Chunk.{Chunk}
 use Rattle.swarm_model.specs.declared.attempt.Last.{Last}
+use Rattle.swarm_model.specs.declared.retried.Retried.{Retried}
 use Rattle.swarm_model.specs.declared.task_row.TaskRow.{TaskRow}
 use Rattle.swarm_model.specs.declared.pool_state.PoolState.{PoolState}
 use Rattle.swarm_model.specs.declared.entry.EntryKind.{EntryKind}
@@ -19,17 +20,18 @@ use Rattle.swarm_model.specs.declared.entry.Outcome.TheVariants as outcome
 use Rattle.swarm_model.specs.Numbers.{AreNumbered}
 use Rattle.swarm_model.specs.Finding.{is_state, is_final, is_task, task_of}
 use Rattle.swarm_model.specs.Uses.{is_chunk_of}
-use Rattle.swarm_model.specs.Effects.{no_of_task, task_after, added_tasks, new_row, expired_slice, lost_run, lost_run_at, canceled, killed, kill_marked, started_run, with_chunk, with_last_report, ended_run, fresh_chunk, attempt_of, if_some, run_of_bot}
+use Rattle.swarm_model.specs.Effects.{no_of_task, task_after, added_tasks, new_row, expired_slice, retried_from, lost_run, lost_run_at, canceled, killed, kill_marked, started_run, with_chunk, with_last_report, ended_run, fresh_chunk, attempt_of, if_some, run_of_bot}
 use Rattle.swarm_model.specs.Soundness.{IsSound}
 use Rattle.pool_laws.proofs.Lists.{Among, here, Found, find_is, find_none, number_finds, number_within, among_right, each_append, each_map}
 use Rattle.pool_laws.proofs.Preconditions.{Finds, waits}
 use Rattle.pool_laws.proofs.EntryPreconditions.{finds}
-use Rattle.pool_laws.proofs.Rows.{fits_in, task_is, one_task, row_is, claim_waits, reported_task, update_task}
+use Rattle.pool_laws.proofs.Rows.{fits_in, task_is, one_task, row_is, claim_waits, lost_is, reported_task, update_task}
 use Rattle.pool_laws.proofs.Numbers.{task_no, tasks_numbered}
 use Rattle.index_laws.specs.Touched.{touched_task}
 use Rattle.index_laws.specs.RowSums.{weight_of_row}
 use Rattle.index_laws.specs.TaskUses.{uses_of_slices, chunks_with, times_named, uses_of, chunk_use, uses_to_come, row_before, row_after, touched_has_ended, UsesOfTouched, NamesOfTouched, UsesWhereEnded, UsesWhereNotEnded}
 use Rattle.index_laws.proofs.NumberedRows.{changed_found}
+use Rattle.index_laws.proofs.LostRuns.{none_before}
 use Rattle.index_laws.proofs.ToCome.{own}
 use Rattle.index_laws.proofs.TouchedRows.{touched_goes_on}
 use Rattle.index_laws.proofs.SumsFollow.{sums_follow}
@@ -37,8 +39,8 @@ use Rattle.index_laws.proofs.SumsFollow.{sums_follow}
 plus_none : (a b : ℕ) → a ≡ b → a ≡ b + 0
 plus_none a b e = omega (arith, e)
 
-plus_more : (a b c d : ℕ) → b ≡ c + d → a + b ≡ a + c + d
-plus_more a b c d e = omega (arith, e)
+plus_more : (a b c d l : ℕ) → b ≡ c + d → a + (b + l) ≡ a + (c + l) + d
+plus_more a b c d l e = omega (arith, e)
 
 abbrev is_new : EntryKind → Bool
 is_new (kind.New t who request state slice from) = true
@@ -58,6 +60,15 @@ module _ (digest : List ℕ) where
   closed_same : (chunk : Option Chunk) (last : Last) (r : Option Attempt) → of_output (option_map (with_last_report chunk last) r) ≡ of_output r
   closed_same chunk last None = refl
   closed_same chunk last (Some a) = refl
+
+  -- what that of a run adds which was tried again
+  abbrev of_lost : Option Retried → ℕ
+  of_lost q = option_map_or (λ (lost : Retried). chunks_with digest lost.attempt) q 0
+
+  -- as much as before it was lost
+  lost_same : (m slice : ℕ) (r : Option Attempt) → of_lost (option_map (retried_from m slice) r) ≡ of_output r
+  lost_same m slice None = refl
+  lost_same m slice (Some a) = refl
 
   -- a chunk that goes on from it adds its use
   longer_more : (chunk : Chunk) (a : Attempt) → of_output (Some (with_chunk chunk a)) ≡ of_output (Some a) + chunk_use digest chunk
@@ -79,10 +90,10 @@ module _ (digest : List ℕ) where
 
   reported_more : (m : ℕ) (fresh chunk : Option Chunk) (last : Option Last) (x : TaskRow) (a : Attempt) → x.attempt ≡ Some a → times_named digest (reported_task m fresh chunk last x) ≡ times_named digest x + of_fresh fresh
   reported_more m None chunk None x a e = plus_none (times_named digest x) (times_named digest x) refl
-  reported_more m None chunk (Some last) x a e = plus_none (times_named digest (ended_run m chunk last x)) (times_named digest x) (ap (λ (n : ℕ). uses_of_slices digest x.request.task_slices + n) (closed_same chunk last x.attempt))
-  reported_more m (Some c) chunk None x a e = plus_more (uses_of_slices digest x.request.task_slices) (of_output (option_map (with_chunk c) x.attempt)) (of_output x.attempt) (chunk_use digest c) (longer_on c x.attempt a e)
+  reported_more m None chunk (Some last) x a e = plus_none (times_named digest (ended_run m chunk last x)) (times_named digest x) (ap (λ (n : ℕ). uses_of_slices digest x.request.task_slices + (n + of_lost x.retried)) (closed_same chunk last x.attempt))
+  reported_more m (Some c) chunk None x a e = plus_more (uses_of_slices digest x.request.task_slices) (of_output (option_map (with_chunk c) x.attempt)) (of_output x.attempt) (chunk_use digest c) (of_lost x.retried) (longer_on c x.attempt a e)
   reported_more m (Some c) chunk (Some last) x a e =
-      plus_more (uses_of_slices digest x.request.task_slices) (of_output (option_map (with_last_report chunk last) (option_map (with_chunk c) x.attempt))) (of_output x.attempt) (chunk_use digest c)
+      plus_more (uses_of_slices digest x.request.task_slices) (of_output (option_map (with_last_report chunk last) (option_map (with_chunk c) x.attempt))) (of_output x.attempt) (chunk_use digest c) (of_lost x.retried)
       (closed_same chunk last (option_map (with_chunk c) x.attempt) ∙ longer_on c x.attempt a e)
 
   module _ (s : PoolState) (o : IsSound s) (m : ℕ) where
@@ -101,26 +112,35 @@ module _ (digest : List ℕ) where
         moved (outcome.Slice place) = same
         moved (outcome.Ended state) = same
 
+        lost : Same (lost_run s.settings.retries m x)
+        lost =
+            lost_is Same s.settings.retries m x
+            (λ t. again (uses_of_slices digest x.request.task_slices) (of_lost (option_map (retried_from m x.slice) x.attempt)) (of_output x.attempt) (of_lost x.retried) (lost_same m x.slice x.attempt) (ap of_lost (none_before s o x a t)))
+            (λ t. same)
+          where
+            again : (c l d b : ℕ) → l ≡ d → b ≡ 0 → c + (0 + l) ≡ c + (d + b) + 0
+            again c l d b e g = omega (arith, e, g)
+
         by_kind : (k : EntryKind) → Finds s k → touched_task s k ≡ Some x.no → times_named digest (task_after s m k x) ≡ times_named digest x + uses_to_come s.tasks k digest
         by_kind (kind.Slice t to) f u = cond_both (x.no == t) (expired_slice m to x) x Same (λ n. moved to) (λ n. same)
-        by_kind (kind.Silence t) f u = cond_both (x.no == t) (lost_run m x) x Same (λ n. same) (λ n. same)
+        by_kind (kind.Silence t) f u = cond_both (x.no == t) (lost_run s.settings.retries m x) x Same (λ n. lost) (λ n. same)
         by_kind (kind.New t who request state slice from) f u =
             absurd (let low = (number_within no_of_task 1 s.tasks o.tasks_numbered x a).1 in let next = f.next in let is : t ≡ x.no = same_Some _ _ u in omega (arith, low, next, is))
         by_kind (kind.Cancel t) f u = cond_both (x.no == t) (canceled m x) x Same (λ n. same) (λ n. same)
         by_kind (kind.Kill t) f u =
             cond_both (x.no == t) (kill_marked x) x Same
-            (λ n. plus_none (times_named digest (kill_marked x)) (times_named digest x) (ap (λ (j : ℕ). uses_of_slices digest x.request.task_slices + j) (killed_same x.attempt))) (λ n. same)
+            (λ n. plus_none (times_named digest (kill_marked x)) (times_named digest x) (ap (λ (j : ℕ). uses_of_slices digest x.request.task_slices + (j + of_lost x.retried)) (killed_same x.attempt))) (λ n. same)
         by_kind (kind.Handshake b id session dims q) f u = by_run (run_of_bot s b)
           where
-            by_run : (r : Option ℕ) → Same (if_some (lost_run_at m) r x)
+            by_run : (r : Option ℕ) → Same (if_some (lost_run_at s.settings.retries m) r x)
             by_run None = same
-            by_run (Some t) = cond_both (x.no == t) (lost_run m x) x Same (λ n. same) (λ n. same)
+            by_run (Some t) = cond_both (x.no == t) (lost_run s.settings.retries m x) x Same (λ n. lost) (λ n. same)
         by_kind (kind.Claim b t id) f u =
             cond_both (x.no == t) (started_run m b id x) x Same
-            (λ n. begun (uses_of_slices digest x.request.task_slices) (of_output x.attempt) (none_yet x.state x.attempt x.ended (task_is s o x a).state (row_is s o t waits (claim_waits s b t id f) x a n))) (λ n. same)
+            (λ n. begun (uses_of_slices digest x.request.task_slices) (of_output x.attempt) (of_lost x.retried) (none_yet x.state x.attempt x.ended (task_is s o x a).state (row_is s o t waits (claim_waits s b t id f) x a n))) (λ n. same)
           where
-            begun : (c d : ℕ) → d ≡ 0 → c + 0 ≡ c + d + 0
-            begun c d e = omega (arith, e)
+            begun : (c d l : ℕ) → d ≡ 0 → c + (0 + l) ≡ c + (d + l) + 0
+            begun c d l e = omega (arith, e)
         by_kind (kind.Update b t try_no chunk last) f u =
             (let is : x.no ≡ t = sym (same_Some _ _ u) in
             let fresh : Option Chunk = fresh_chunk (attempt_of s t) chunk in

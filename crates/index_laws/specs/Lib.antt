@@ -5,7 +5,7 @@ pub mod Keys
 pub mod TaskQueues
 pub mod TaskClaims
 pub mod TaskUuids
-pub mod DimsToCome
+pub mod SetToCome
 pub mod StateCounts
 pub mod TaskSources
 pub mod RowSums

@@ -1,7 +1,6 @@
 -- The claims of a pool's tasks.
 use Rattle.std.specs.Prelude.{◌≡◌, ◌↔◌, ℕ, List, Option, Some, None, IfSome, MatchOption}
 use Rattle.std.specs.Option.{option_map, option_and_then}
-use Rattle.swarm_model.specs.declared.attempt.Attempt.{Attempt}
 use Rattle.swarm_model.specs.declared.task_row.TaskRow.{TaskRow}
 use Rattle.swarm_model.specs.declared.pool_state.PoolState.{PoolState}
 use Rattle.swarm_model.specs.declared.entry.Entry.{Entry}
@@ -11,18 +10,18 @@ use Rattle.swarm_model.specs.Finding.{task_of}
 use Rattle.swarm_model.specs.Answers.{claimed}
 use Rattle.swarm_model.specs.Effects.{after}
 use Rattle.swarm_model.specs.History.{MayFollow}
-use Rattle.swarm_model.specs.Soundness.{IsSound}
+use Rattle.swarm_model.specs.Soundness.{IsSound, HasKey}
 use Rattle.pool_index.specs.declared.claim_link.ClaimLink.{ClaimLink}
 use Rattle.pool_index.specs.Claims.{HasClaim, HasNone, key_of, links_with}
-use Rattle.index_laws.specs.Keys.{HasKey}
+use Rattle.index_laws.specs.Keys.{IsKnown}
 
 -- a bot, the id of its claim, and the number of the task
 abbrev pub Claimed : Type 0
 Claimed = ℕ × List ℕ × ℕ
 
--- the claim of a task's attempt
-abbrev pub claimed_of : TaskRow → Option Claimed
-claimed_of task = option_map (λ (attempt : Attempt). (attempt.bot, attempt.claim, task.no)) task.attempt
+-- the claim of a run of the task: of its last one, or of the one that was tried again
+abbrev pub IsClaimOf : TaskRow → Claimed → Type 0
+IsClaimOf task c = HasKey task (c.0, c.1) × (task.no ≡ c.2)
 
 -- the claim that an entry makes
 abbrev pub claim_to_come : EntryKind → Option Claimed
@@ -39,7 +38,7 @@ claim_link_to_come k = option_map claim_link (claim_to_come k)
 
 -- the links are the claims of the rows
 pub record AreClaims (links : List ClaimLink) (tasks : List TaskRow) : Type 0 where
-  pub each : (b : ℕ) (id : List ℕ) (n : ℕ) → HasClaim links (b, id) n ↔ HasKey claimed_of tasks (b, id, n)
+  pub each : (b : ℕ) (id : List ℕ) (n : ℕ) → HasClaim links (b, id) n ↔ IsKnown IsClaimOf tasks (b, id, n)
 
 -- after an entry only the claim that it makes has to be added
 abbrev pub ClaimsFollow : Type 0

@@ -34,9 +34,11 @@ uses_of_slices digest slices = sum_by (inputs_with digest) slices
 abbrev pub chunks_with : List ℕ → Attempt → ℕ
 chunks_with digest attempt = count_by (is_chunk_of digest) attempt.chunks
 
--- how often a task names the digest among its inputs and in its output, whether it has ended or not
+-- how often a task names the digest among its inputs and in the output of its runs, whether it has ended or not
 abbrev pub times_named : List ℕ → TaskRow → ℕ
-times_named digest task = uses_of_slices digest task.request.task_slices + option_map_or (chunks_with digest) task.attempt 0
+times_named digest task =
+    uses_of_slices digest task.request.task_slices
+    + (option_map_or (chunks_with digest) task.attempt 0 + option_map_or (λ lost. chunks_with digest lost.attempt) task.retried 0)
 
 -- how often a task uses it: a task that has ended uses nothing
 abbrev pub uses_of : List ℕ → TaskRow → ℕ

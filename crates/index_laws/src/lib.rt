@@ -9,12 +9,13 @@
 //! rows give: the deadlines of tasks and bots (`RowDeadlines`) and of blobs (`BlobDeadlines`), the
 //! queues of pending tasks (`TaskQueues`), the claims (`TaskClaims`), the uuids (`TaskUuids`), the
 //! tasks whose outcome others may take (`TaskSources`), how often a digest is used (`TaskUses`), the
-//! counts of states (`StateCounts`) and any other sum over the tasks (`RowSums`). `DimsToCome` has
-//! the dimensions with which a task waits after an entry, by the rows before it, so that room can be
-//! made; so it is with the hash that an entry brings. Other laws say what a look-up means: the task
-//! that a bot gets, that a bot claimed, that a caller sent or whose outcome a slice takes, and the
-//! next deadline of the pool. The indexes themselves are those of `dim_queue` and `pool_index`; the
-//! crate has no code that runs.
+//! counts of states (`StateCounts`) and any other sum over the tasks (`RowSums`). A task has the
+//! claims and the output of its last run, and of the one that was lost and tried again. `SetToCome`
+//! has the set of the queue in which a task waits after an entry, by the rows before it, so that room
+//! can be made; so it is with the hash that an entry brings. Other laws say what a look-up means: the
+//! task that a bot gets, that a bot claimed, that a caller sent or whose outcome a slice takes, and
+//! the next deadline of the pool. The indexes themselves are those of `dim_queue` and `pool_index`;
+//! the crate has no code that runs.
 #![tactic(auto)]
 
 mod deadlines;

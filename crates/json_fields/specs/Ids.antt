@@ -46,10 +46,14 @@ task_of_id id = task_of_number (id / 16)
 abbrev pub has_id_form : List ℕ → Bool
 has_id_form s = (nat_le 2 (length s) && nat_le (length s) 7) && (list_all is_hex_digit s && not (slice_index s 0 == 48))
 
--- the number that the digits write, where the last one is 0 or 1
-unfoldable pub id_of : List ℕ → Result ℕ PropRule
-id_of s = if has_id_form s && nat_le (digits_value 16 s % 16) 1 then Ok (digits_value 16 s) else Err Grammar
+-- a run is the first or the second of its task
+abbrev pub is_try : ℕ → Bool
+is_try try_no = nat_le 1 try_no && nat_le try_no 2
 
--- the same of a run, where the last one is 1
+-- the number that the digits write, where the last one is 0, 1 or 2
+unfoldable pub id_of : List ℕ → Result ℕ PropRule
+id_of s = if has_id_form s && nat_le (digits_value 16 s % 16) 2 then Ok (digits_value 16 s) else Err Grammar
+
+-- the same of a run, where the last digit is the number of its try
 unfoldable pub run_of : List ℕ → Result ℕ PropRule
-run_of s = if has_id_form s && (digits_value 16 s % 16 == 1) then Ok (digits_value 16 s) else Err Grammar
+run_of s = if has_id_form s && is_try (digits_value 16 s % 16) then Ok (digits_value 16 s) else Err Grammar

@@ -2,7 +2,7 @@
 ghost use Rattle.std.specs.Prelude.{◌≡◌, map, option_map};
 ghost use Rattle.serde_json.specs.View.{view};
 ghost use Rattle.json_fields.specs.Readings.{Gives, Reads, GivesUnlessMemory, at};
-ghost use Rattle.json_fields.specs.Fields.{present as spec_present, number_of as spec_number_of, values_of as spec_values_of, object_of as spec_object_of, text_in as spec_text_in, required_text_in as spec_required_text_in, number_in as spec_number_in, optional_number_in as spec_optional_number_in, flag_in as spec_flag_in, list_in as spec_list_in, items_in as spec_items_in, object_in as spec_object_in, text_at, required_text_at, number_at, optional_number_at, flag_at, list_at, object_at};
+ghost use Rattle.json_fields.specs.Fields.{present as spec_present, number_of as spec_number_of, values_of as spec_values_of, object_of as spec_object_of, text_in as spec_text_in, required_text_in as spec_required_text_in, number_in as spec_number_in, optional_number_in as spec_optional_number_in, flag_in as spec_flag_in, list_in as spec_list_in, items_in as spec_items_in, text_at, required_text_at, number_at, optional_number_at, flag_at, list_at};
 
 use crate::faults::broken;
 use crate::numbers::text_number;
@@ -127,16 +127,6 @@ fn items_in<'v>(body: &'v Value, key: &str) -> Result<&'v [Value], PropRule>
     }
 }
 
-#[tactic(auto, unfolding(crate::specs::Fields::object_in))]
-fn object_in<'v>(body: &'v Value, key: &str) -> Result<&'v Value, PropRule>
-    ensures { Gives (λ v. view v.now) result (spec_object_in key.now (view body.now)) }
-{
-    match present(body, key) {
-        None => Err(PropRule::Missing),
-        Some(value) => object_of(value),
-    }
-}
-
 /// A text; an absent one is empty.
 pub fn read_text(alloc: Global, body: &Value, key: &str) -> Result<Text, PropFault>
     ensures { Reads result (text_at key.now (view body.now)) }
@@ -219,16 +209,6 @@ pub(crate) fn read_items<'v>(
 {
     match items_in(body, key) {
         Ok(values) => Ok(values),
-        Err(rule) => Err(broken(alloc, key, rule)),
-    }
-}
-
-/// An object that must be there.
-pub fn read_object<'v>(alloc: Global, body: &'v Value, key: &str) -> Result<&'v Value, PropFault>
-    ensures { GivesUnlessMemory (λ v. view v.now) result (object_at key.now (view body.now)) }
-{
-    match object_in(body, key) {
-        Ok(value) => Ok(value),
         Err(rule) => Err(broken(alloc, key, rule)),
     }
 }

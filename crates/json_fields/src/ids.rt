@@ -3,7 +3,7 @@ ghost use Rattle.std.specs.Prelude.{◌≡◌, ◌≤◌, ◌<◌, ◌+◌, ◌*
 ghost use Rattle.std.specs.List.{list_all};
 ghost use Rattle.std.specs.Str.Parse.{digits_value};
 ghost use Rattle.json_fields.specs.Readings.{Gives, Reads, at};
-ghost use Rattle.json_fields.specs.Ids.{shown_number as spec_shown_number, task_id as spec_task_id, run_id as spec_run_id, place_of_number as spec_place_of_number, task_of_number as spec_task_of_number, place_of_id as spec_place_of_id, task_of_id as spec_task_of_id, try_of_id as spec_try_of_id, has_id_form as spec_has_id_form, id_of as spec_id_of, run_of as spec_run_of};
+ghost use Rattle.json_fields.specs.Ids.{shown_number as spec_shown_number, task_id as spec_task_id, run_id as spec_run_id, place_of_number as spec_place_of_number, task_of_number as spec_task_of_number, place_of_id as spec_place_of_id, task_of_id as spec_task_of_id, try_of_id as spec_try_of_id, has_id_form as spec_has_id_form, id_of as spec_id_of, is_try as spec_is_try, run_of as spec_run_of};
 
 use crate::faults::broken;
 use std::alloc::{AllocError, Global};
@@ -60,17 +60,24 @@ fn id_value(text: &str) -> u32
     }
 }
 
+/// Whether a run may have this number: it is the first or the second of its task.
+fn is_try(try_no: u32) -> bool
+    ensures { result ≡ spec_is_try try_no }
+{
+    1 <= try_no && try_no <= 2
+}
+
 /// The number that the digits of an id write.
 #[tactic(auto, unfolding(crate::specs::Ids::id_of))]
 fn id_of(text: &str) -> Result<u32, PropRule>
     ensures is { Gives (λ id. id) result (spec_id_of text.now) }
-    ensures try_no { IfOk result (λ id. id % 16 ≤ 1) }
+    ensures try_no { IfOk result (λ id. id % 16 ≤ 2) }
 {
     if !has_id_form(text.as_bytes()) {
         return Err(PropRule::Grammar);
     }
     let id = id_value(text);
-    if id % 16 > 1 {
+    if id % 16 > 2 {
         return Err(PropRule::Grammar);
     }
     Ok(id)
@@ -80,22 +87,22 @@ fn id_of(text: &str) -> Result<u32, PropRule>
 #[tactic(auto, unfolding(crate::specs::Ids::run_of))]
 fn run_of(text: &str) -> Result<u32, PropRule>
     ensures is { Gives (λ id. id) result (spec_run_of text.now) }
-    ensures try_no { IfOk result (λ id. id % 16 ≡ 1) }
+    ensures try_no { IfOk result (λ id. spec_is_try (id % 16) ≡ true) }
 {
     if !has_id_form(text.as_bytes()) {
         return Err(PropRule::Grammar);
     }
     let id = id_value(text);
-    if id % 16 != 1 {
+    if !is_try(id % 16) {
         return Err(PropRule::Grammar);
     }
     Ok(id)
 }
 
-/// A text that must be the id of a task or of its run.
+/// A text that must be the id of a task or of one of its runs.
 pub fn read_id(alloc: Global, text: &str) -> Result<u32, PropFault>
     ensures is { Reads result (at (codes "task_id") (spec_id_of text.now)) }
-    ensures try_no { IfOk result (λ id. id % 16 ≤ 1) }
+    ensures try_no { IfOk result (λ id. id % 16 ≤ 2) }
 {
     match id_of(text) {
         Ok(id) => Ok(id),
@@ -106,7 +113,7 @@ pub fn read_id(alloc: Global, text: &str) -> Result<u32, PropFault>
 /// A text that must be the id of a run.
 pub fn read_run(alloc: Global, text: &str) -> Result<u32, PropFault>
     ensures is { Reads result (at (codes "task_id") (spec_run_of text.now)) }
-    ensures try_no { IfOk result (λ id. id % 16 ≡ 1) }
+    ensures try_no { IfOk result (λ id. spec_is_try (id % 16) ≡ true) }
 {
     match run_of(text) {
         Ok(id) => Ok(id),

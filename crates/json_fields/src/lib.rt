@@ -47,8 +47,8 @@ pub use checks::{CheckItem, check_items};
 pub use digests::read_digest_at;
 pub use faults::{below, below_place, broken, broken_at};
 pub use fields::{
-    list_in, present, read_flag, read_number, read_object, read_optional_number,
-    read_required_text, read_text, values_of,
+    list_in, present, read_flag, read_number, read_optional_number, read_required_text, read_text,
+    values_of,
 };
 pub use ids::{
     id_tells_its_parts, number_tells_its_parts, place_of_id, place_of_number, read_id, read_run,

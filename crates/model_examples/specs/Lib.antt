@@ -7,6 +7,7 @@ pub mod GrantExamples
 pub mod IndexExamples
 pub mod PageExamples
 pub mod RegistryExamples
+pub mod RetryExamples
 pub mod ReuseExamples
 pub mod RowExamples
 pub mod SummaryExamples

@@ -14,6 +14,7 @@ pub mod grant_examples;
 pub mod index_examples;
 pub mod page_examples;
 pub mod registry_examples;
+pub mod retry_examples;
 pub mod reuse_examples;
 pub mod row_examples;
 pub mod summary_examples;

@@ -76,8 +76,8 @@ module _ (s : PoolState) (e : Entry) (o : IsSound s) (follows : MayFollow s e) w
   more_tasks = no_fewer (task_after s e.moment e.kind) s.tasks (added_tasks e.moment e.kind)
 
   -- a task that is there stays there
-  still_task : (r : Option ℕ) → IfSome r (λ t. t ≤ length s.tasks) → IfSome r (λ t. t ≤ length (after s e).tasks)
-  still_task r h = IfSome_then r h (λ t low. let l = more_tasks in omega (arith, l, low))
+  still_task : (r : Option ℕ) → IfSome r (λ t. (1 ≤ t) × (t ≤ length s.tasks)) → IfSome r (λ t. (1 ≤ t) × (t ≤ length (after s e).tasks))
+  still_task r h = IfSome_then r h (λ t is. let l = more_tasks in let low = is.1 in (is.0, omega (arith, l, low)))
 
   module _ (x : BotRow) (sound : IsSoundBot s x) where
     -- a row as it was
@@ -118,9 +118,11 @@ module _ (s : PoolState) (e : Entry) (o : IsSound s) (follows : MayFollow s e) w
     assigned_bot_sound : (b t : ℕ) (id : List ℕ) → FindsClaim s b t id → IsSoundBot (after s e) (assigned_bot e.moment t x)
     assigned_bot_sound b t id f =
         let named = f.task_named in
-        let there = (number_within no_of_task 1 s.tasks o.tasks_numbered f.task (claim_gets s b t id f).among).1 in
+        let within = number_within no_of_task 1 s.tasks o.tasks_numbered f.task (claim_gets s b t id f).among in
+        let first = within.0 in
+        let there = within.1 in
         let more = more_tasks in
-        record { contact = omega arith; streak = sound.streak; known = kept_sound.known; has_task = omega (arith, named, there, more) }
+        record { contact = omega arith; streak = sound.streak; known = kept_sound.known; has_task = (omega (arith, named, first), omega (arith, named, there, more)) }
 
     -- that told of itself
     event_effect_sound : (which : EventKind) (text : List ℕ) → fits_message which text ≡ true → IsSoundBot (after s e) (event_effect e.moment which text x)

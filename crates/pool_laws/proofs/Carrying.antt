@@ -58,7 +58,7 @@ module _ (s : PoolState) (bytes : List ℕ) where
   tell_brings : (who : List ℕ) (m : ℕ) (request : Request) → Carries request bytes → Brings (decide s who m request)
   tell_brings who m request carried =
       of_each s Brings (λ decision plain. none_brought (is_refusal decision.reply) decision.entry plain.1) who m request (record {
-        result = λ number try_no task is. tt;
+        result = λ number try_no task asked is. tt;
         tasks = λ wanted limit below. tt;
         stdout = λ from to state chunks has. tt;
         blob = λ digest blob is. tt;

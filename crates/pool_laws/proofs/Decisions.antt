@@ -29,7 +29,7 @@ use Rattle.swarm_model.specs.declared.reply.Reply.{Reply}
 use Rattle.swarm_model.specs.declared.reply.Reply.TheVariants as reply
 use Rattle.swarm_model.specs.declared.answer.Decision.{Decision}
 use Rattle.swarm_model.specs.Blobs.{lacks_chunk, missing_file, inputs_of, can_take}
-use Rattle.swarm_model.specs.Effects.{fresh_chunk}
+use Rattle.swarm_model.specs.Effects.{fresh_chunk, next_try}
 use Rattle.swarm_model.specs.Output.{chunks_within, parts_within}
 use Rattle.swarm_model.specs.Finding.{has_state, is_final, bot_named, blob_of}
 use Rattle.swarm_model.specs.Pages.{listed_tasks}
@@ -37,7 +37,7 @@ use Rattle.swarm_model.specs.Views.{view_of, files_of}
 use Rattle.swarm_model.specs.Slices.{admit, current_slice, first}
 use Rattle.swarm_model.specs.Reuse.{sent, reuse}
 use Rattle.swarm_model.specs.declared.task_state.TaskState.TheVariants.{Pending, Running}
-use Rattle.swarm_model.specs.Answers.{decide, reply_only, reply_with_entry, resubmitted, reuse_outcome, accepted, accepted_at, tasks_full, named_task, result_of, list_tasks, show_bot, may, denied, cancel, cancel_row, stop, is_killed, known_bot, handshake, poll, busy, run_on, run_from, claim, claim_again, claimed, claims, unfit_of, unfit_refusal, event, is_kept, updates, refusal, file_missing, output_gone, output_between, chunks_shown, stdout_of, chunk_rule, store_full, unplaced_chunk, is_first_report, put_blob, show_blob, report, report_again, report_running, report_on, not_claimant, update, update_row, terminate}
+use Rattle.swarm_model.specs.Answers.{decide, reply_only, reply_with_entry, resubmitted, reuse_outcome, accepted, accepted_at, tasks_full, named_task, whole_task, try_of, result_of, list_tasks, show_bot, may, denied, cancel, cancel_row, stop, is_killed, known_bot, handshake, poll, busy, run_on, run_from, claim, claim_again, run_again, as_claimed, claimed, claims, unfit_of, unfit_refusal, event, is_kept, updates, refusal, file_missing, output_gone, output_between, chunks_shown, stdout_of, chunk_rule, store_full, unplaced_chunk, is_first_report, put_blob, show_blob, report, report_again, report_running, report_on, not_claimant, update, update_row, terminate}
 use Rattle.pool_laws.proofs.Answering.{by_when, by_map, by_with}
 
 -- the reply shows no task and names no blob
@@ -65,7 +65,7 @@ IsPlain decision = ShowsNone decision.reply × BringsNone (is_refusal decision.r
 
 -- it holds of the decisions on a request that aren't plain
 pub record HoldsOfOthers (s : PoolState) (P : Decision → Type 0) (request : Request) : Type 0 where
-  pub result : (number try_no : ℕ) (task : TaskRow) → named_task s number try_no ≡ Some task → P (reply_only (reply.Result (view_of s task)))
+  pub result : (number try_no : ℕ) (task : TaskRow) → request ≡ ask.Result number try_no → named_task s number try_no ≡ Some task → P (reply_only (reply.Result (view_of s task)))
   pub tasks : (wanted : Option TaskState) (limit : ℕ) (below : Option ℕ) → P (list_tasks s limit (listed_tasks s wanted below))
   pub stdout : (from to : ℕ) (state : TaskState) (chunks : List Chunk) → find (lacks_chunk s) (chunks_within from to chunks) ≡ None → P (reply_only (reply.Stdout state (parts_within from to chunks)))
   pub blob : (digest : List ℕ) (blob : BlobRow) → blob_of s digest ≡ Some blob → P (show_blob blob)
@@ -113,19 +113,22 @@ module _ (s : PoolState) (P : Decision → Type 0) (plain : (decision : Decision
       by_map P busy (run_on s bot) _ (λ x e. plain _ (tt, tt)) (λ e.
       by_when P bot.terminating _ _ (λ t. plain _ (tt, tt)) (λ t.
       by_when P (not (is_empty q)) _ _ (λ t. plain _ (tt, tt)) (λ t.
-      by_when P (is_some (first s dims)) _ _ (λ t. plain _ (tt, tt)) (λ t. plain _ (tt, tt))))))
+      by_when P (is_some (first s bot.no dims)) _ _ (λ t. plain _ (tt, tt)) (λ t. plain _ (tt, tt))))))
 
   -- what a bot is to run
-  of_run : (task : TaskRow) (o : Option Slice) (k : EntryKind) → BringsNone false (Some k) → P (reply_with_entry (option_map_or (run_from task) o reply.Skip) k)
-  of_run task None k none = plain _ (tt, none)
-  of_run task (Some slice) k none = plain _ (tt, none)
+  of_run : (try_no : ℕ) (task : TaskRow) (o : Option Slice) (k : EntryKind) → BringsNone false (Some k) → P (reply_with_entry (option_map_or (run_from try_no task) o reply.Skip) k)
+  of_run try_no task None k none = plain _ (tt, none)
+  of_run try_no task (Some slice) k none = plain _ (tt, none)
+
+  of_again : (bot : BotRow) (task : TaskRow) → P (run_again bot task)
+  of_again bot task = cond_both (is_final task.state) _ _ P (λ t. plain _ (tt, tt)) (λ t. of_run (try_of task) task (current_slice task) (kind.Contact bot.no) tt)
 
   of_claim : (id : List ℕ) (bot : BotRow) → P (claim s id bot)
   of_claim id bot =
-      by_map P (claim_again bot) (claimed s bot.no id) _ (λ task e. cond_both (is_final task.state) _ _ P (λ t. plain _ (tt, tt)) (λ t. of_run task (current_slice task) (kind.Contact bot.no) tt)) (λ e.
+      by_map P (claim_again bot id) (claimed s bot.no id) _ (λ task e. of_again bot (as_claimed bot.no id task)) (λ e.
       by_map P unfit_refusal (unfit_of bot) _ (λ why e. plain _ (tt, tt)) (λ e.
       by_map P busy (run_on s bot) _ (λ task e. plain _ (tt, tt)) (λ e.
-      by_map P (claims bot id) (first s bot.dims) _ (λ task e. of_run task (current_slice task) (kind.Claim bot.no task.no id) tt) (λ e. plain _ (tt, tt)))))
+      by_map P (claims bot id) (first s bot.no bot.dims) _ (λ task e. of_run (next_try task) task (current_slice task) (kind.Claim bot.no task.no id) tt) (λ e. plain _ (tt, tt)))))
 
   of_event : (which : EventKind) (text : List ℕ) (bot : BotRow) → P (event which text bot)
   of_event which text bot =
@@ -150,9 +153,9 @@ module _ (s : PoolState) (P : Decision → Type 0) (plain : (decision : Decision
   -- what holds of plain decisions and of the others holds of each
   pub of_each : (who : List ℕ) (m : ℕ) (request : Request) → HoldsOfOthers s P request → P (decide s who m request)
   of_each who m (ask.New request) h = of_new who m request
-  of_each who m (ask.Cancel number try_no kill) h = by_with P (named_task s number try_no) rule.NoTask (cancel s who kill) (plain _ (tt, tt)) (λ task e. of_cancel who kill task)
+  of_each who m (ask.Cancel number try_no kill) h = by_with P (whole_task s number try_no) rule.NoTask (cancel s who kill) (plain _ (tt, tt)) (λ task e. of_cancel who kill task)
   of_each who m (ask.Result number try_no) h = by_with P (named_task s number try_no) rule.NoTask (result_of s who) (plain _ (tt, tt)) (λ task e.
-      by_when P (not (may s who permission.ListTasks task)) (denied s permission.ListTasks) _ (λ t. plain _ (tt, tt)) (λ t. h.result number try_no task e))
+      by_when P (not (may s who permission.ListTasks task)) (denied s permission.ListTasks) _ (λ t. plain _ (tt, tt)) (λ t. h.result number try_no task refl e))
   of_each who m (ask.Stdout number try_no offset most) h = by_with P (named_task s number try_no) rule.NoTask (stdout_of s who offset most) (plain _ (tt, tt)) (λ task e.
       of_stdout who offset most task (h.stdout offset (offset + most) task.state (chunks_shown s task)))
   of_each who m (ask.List state limit below) h = h.tasks state limit below

@@ -1,17 +1,17 @@
 -- What an entry that may follow finds in the pool.
-use Rattle.std.proofs.Common.{◌≡◌, ℕ, ◌+◌, ◌<◌, ◌≤◌, ◌==◌, ◌&&◌, ◌||◌, not, Bool, true, false, cond, List, [], ◌∷◌, inl, inr, length, drop, length-drop, refl, subst, arith, Option, Some, None, IfSome, IsTrue, IsSomeAnd, is_some, is_none, map, filter_map, find, eqb-true, leb-false, ap, sym, ◌∙◌}
+use Rattle.std.proofs.Common.{◌≡◌, ℕ, ◌+◌, ◌<◌, ◌≤◌, ◌==◌, ◌&&◌, ◌||◌, not, Bool, true, false, cond, List, [], ◌∷◌, ◌⊎◌, inl, inr, length, drop, length-drop, refl, subst, arith, Option, Some, None, IfSome, IsTrue, IsSomeAnd, is_some, is_none, map, filter_map, find, eqb-true, leb-false, ap, sym, ◌∙◌}
 use Rattle.std.specs.Prelude.{⊤, nat_le, slice_get}
 use Rattle.std.specs.Bool.{MatchBool}
 use Rattle.std.specs.List.{All, position_from}
 use Rattle.std.specs.Option.{option_map, option_map_or, option_and_then}
-use Rattle.std.proofs.lemmas.Bool.{and_parts, cond_both, eq-eqb}
+use Rattle.std.proofs.lemmas.Bool.{and_parts, cond_both, eq-eqb, ne_eqb, leb-true}
 use Rattle.std.proofs.lemmas.Option.{same_Some, slice_get_within}
 use Rattle.std.proofs.lemmas.List.Elements.{All-append, All-map}
 use Rattle.blob_rows.specs.declared.blob_row.BlobRow.{BlobRow}
 use Rattle.blob_rows.specs.BlobRows.{is_blob}
 use Rattle.dimensions.specs.declared.bot_dims.BotDims.{BotDims}
 use Rattle.dimensions.specs.Alike.{same}
-use Rattle.dimensions.specs.Choosing.{when}
+use Rattle.dimensions.specs.Choosing.{when, ◌or_else◌}
 use Rattle.dimensions.specs.Rules.{is_empty}
 use Rattle.task_props.specs.Canonical.{hash}
 use Rattle.task_props.specs.declared.new_task.NewTask.{NewTask}
@@ -22,6 +22,7 @@ use Rattle.task_props.proofs.Checked.{slices_counted}
 use Rattle.swarm_model.specs.declared.attempt.Attempt.{Attempt}
 use Rattle.swarm_model.specs.declared.attempt.Chunk.{Chunk}
 use Rattle.swarm_model.specs.declared.attempt.Last.{Last}
+use Rattle.swarm_model.specs.declared.retried.Retried.{Retried}
 use Rattle.swarm_model.specs.declared.permission.Permission.TheVariants as permission
 use Rattle.swarm_model.specs.declared.pool_settings.PoolSettings.{PoolSettings}
 use Rattle.swarm_model.specs.declared.task_row.TaskRow.{TaskRow}
@@ -52,7 +53,7 @@ use Rattle.swarm_model.specs.Views.{files_of}
 use Rattle.swarm_model.specs.Soundness.{IsSound}
 use Rattle.swarm_model.specs.Slices.{is_open, admit, current_slice, first}
 use Rattle.swarm_model.specs.Reuse.{sent, reuse, ended_well, is_young, ran_hash}
-use Rattle.swarm_model.specs.Answers.{decide, entry_at, resubmitted, reuse_outcome, accepted, accepted_at, tasks_full, named_task, result_of, show_bot, known_bot, handshake, poll, busy, run_on, claim, claim_again, claimed, claims, unfit_of, unfit_refusal, event, terminate, reply_with_entry, or_refuse, has_try, if_named, may, denied, cancel, cancel_row, stop, is_killed, is_kept, updates, chunk_rule, store_full, unplaced_chunk, is_first_report, report, report_again, report_running, report_on, not_claimant, update, update_row, refusal, file_missing, output_gone, chunks_shown, stdout_of, put_blob, show_blob}
+use Rattle.swarm_model.specs.Answers.{decide, entry_at, resubmitted, reuse_outcome, accepted, accepted_at, tasks_full, named_task, whole_task, whole_of, lost_row, if_lost, result_of, show_bot, known_bot, handshake, poll, busy, run_on, claim, claim_again, as_claimed, claimed, claims, unfit_of, unfit_refusal, event, terminate, reply_with_entry, or_refuse, has_try, if_named, may, denied, cancel, cancel_row, stop, is_killed, is_kept, updates, chunk_rule, store_full, unplaced_chunk, is_first_report, report, report_again, report_running, report_on, not_claimant, update, update_row, refusal, file_missing, output_gone, chunks_shown, stdout_of, put_blob, show_blob}
 use Rattle.swarm_model.specs.Deadlines.{settled, slice_end, slice_limit, silence_end, silence_limit, runner_of, bot_end, blob_end, deadlines, due_entry}
 use Rattle.swarm_model.specs.Entries.{asks, is_deadline, Asked}
 use Rattle.swarm_model.specs.History.{MayFollow, IsDue, IsAnswered}
@@ -79,12 +80,21 @@ drop_within start xs place low few = omega (arith, length-drop start xs)
 pub admit_within : (s : PoolState) (slices : List Slice) (start place : ℕ) → start ≤ length slices → admit s slices start ≡ Some place → place < length slices
 admit_within s slices start place few h = drop_within start slices place (position_within (is_open s) start (drop start slices) place h) few
 
--- a task that is named by its number and a try
+-- a row that shows a run that was tried again
+pub record IsLost (task row : TaskRow) : Type 0 where
+  pub lost : Retried
+  pub retried : task.retried ≡ Some lost
+  pub shows : lost_row task lost ≡ row
+
+-- a task that is named by its number and a try, and the row that shows it
 pub record IsNamed (s : PoolState) (number try_no : ℕ) (row : TaskRow) : Type 0 where
-  pub there : task_of s number ≡ Some row
-  pub among : Among row s.tasks
-  pub named : row.no ≡ number
+  pub task : TaskRow
+  pub there : task_of s number ≡ Some task
+  pub among : Among task s.tasks
+  pub named : task.no ≡ number
+  pub row_named : row.no ≡ number
   pub has : (try_no == 0 || has_try try_no row.attempt) ≡ true
+  pub shows : (task ≡ row) ⊎ IsLost task row
 
 abbrev Adds : PoolState → Decision → Type 0
 Adds s told = IfSome told.entry (Finds s)
@@ -131,17 +141,50 @@ taken_finds s who m request r checked unsent room h =
 bot_is : (s : PoolState) (name : List ℕ) (bot : BotRow) → bot_named s name ≡ Some bot → Found (is_called name) s.bots bot
 bot_is s name bot e = find_is (is_called name) s.bots bot e
 
+pub or_right : (a : Bool) {b : Bool} → b ≡ true → (a || b) ≡ true
+or_right true e = refl
+or_right false e = e
+
 -- a task that is named has the number
 pub named_is : (s : PoolState) (number try_no : ℕ) (row : TaskRow) → named_task s number try_no ≡ Some row → IsNamed s number try_no row
 named_is s number try_no row e = by_row (task_of s number) refl e
   where
-    by_try : (x : TaskRow) (b : Bool) → (try_no == 0 || has_try try_no x.attempt) ≡ b → task_of s number ≡ Some x → when b x ≡ Some row → IsNamed s number try_no row
-    by_try x true t g h = subst (IsNamed s number try_no) (same_Some _ _ h) (let f = find_is (is_task number) s.tasks x g in record { there = g; among = f.among; named = eqb-true x.no number f.passes; has = t })
-    by_try x false t g h = absurd (cc (h))
+    by_lost : (x : TaskRow) (lost : Retried) (b : Bool) → (lost.attempt.try_no == try_no) ≡ b → x.retried ≡ Some lost → task_of s number ≡ Some x → when b (lost_row x lost) ≡ Some row → IsNamed s number try_no row
+    by_lost x lost true t is g h =
+        subst (IsNamed s number try_no) (same_Some _ _ h) (let f = find_is (is_task number) s.tasks x g in
+        let n = eqb-true x.no number f.passes in
+        record { task = x; there = g; among = f.among; named = n; row_named = n; has = or_right (try_no == 0) t; shows = inr (record { lost = lost; retried = is; shows = refl }) })
+    by_lost x lost false t is g h = absurd (cc (h))
+
+    by_retried : (x : TaskRow) (r : Option Retried) → x.retried ≡ r → task_of s number ≡ Some x → option_and_then (if_lost try_no x) r ≡ Some row → IsNamed s number try_no row
+    by_retried x None is g h = absurd (cc (h))
+    by_retried x (Some lost) is g h = by_lost x lost (lost.attempt.try_no == try_no) refl is g h
+
+    by_try : (x : TaskRow) (b : Bool) → (try_no == 0 || has_try try_no x.attempt) ≡ b → task_of s number ≡ Some x → (when b x or_else option_and_then (if_lost try_no x) x.retried) ≡ Some row → IsNamed s number try_no row
+    by_try x true t g h = subst (IsNamed s number try_no) (same_Some _ _ h) (let f = find_is (is_task number) s.tasks x g in
+        let n = eqb-true x.no number f.passes in record { task = x; there = g; among = f.among; named = n; row_named = n; has = t; shows = inl refl })
+    by_try x false t g h = by_retried x x.retried refl g h
 
     by_row : (o : Option TaskRow) → task_of s number ≡ o → option_and_then (if_named try_no) o ≡ Some row → IsNamed s number try_no row
     by_row None g h = absurd (cc (h))
     by_row (Some x) g h = by_try x (try_no == 0 || has_try try_no x.attempt) refl g h
+
+-- a task that is named as a whole is one of the pool
+pub record IsWhole (s : PoolState) (number : ℕ) (row : TaskRow) : Type 0 where
+  pub there : task_of s number ≡ Some row
+  pub among : Among row s.tasks
+  pub named : row.no ≡ number
+
+pub whole_is : (s : PoolState) (number try_no : ℕ) (row : TaskRow) → whole_task s number try_no ≡ Some row → IsWhole s number row
+whole_is s number try_no row e = by_row (task_of s number) refl e
+  where
+    by_try : (x : TaskRow) (b : Bool) → task_of s number ≡ Some x → when b x ≡ Some row → IsWhole s number row
+    by_try x true g h = subst (IsWhole s number) (same_Some _ _ h) (let f = find_is (is_task number) s.tasks x g in record { there = g; among = f.among; named = eqb-true x.no number f.passes })
+    by_try x false g h = absurd (cc (h))
+
+    by_row : (o : Option TaskRow) → task_of s number ≡ o → option_and_then (whole_of try_no) o ≡ Some row → IsWhole s number row
+    by_row None g h = absurd (cc (h))
+    by_row (Some x) g h = by_try x (is_some (if_named try_no x)) g h
 
 -- a cancel finds a task that waits, or that runs
 cancel_finds : (s : PoolState) (who : List ℕ) (kill : Bool) (row : TaskRow) → Among row s.tasks → Adds s (cancel s who kill row)
@@ -163,6 +206,14 @@ stdout_finds : (s : PoolState) (who : List ℕ) (offset most : ℕ) (row : TaskR
 stdout_finds s who offset most row =
     by_when (Adds s) (not (may s who permission.ListTasks row)) (denied s permission.ListTasks) _ (λ t. tt) (λ t.
     by_map (Adds s) output_gone (find (lacks_chunk s) (chunks_within offset (offset + most) (chunks_shown s row))) _ (λ chunk e. tt) (λ e. tt))
+
+-- a report of a run that is over adds nothing that any fact needs
+over_finds : (s : PoolState) (bot : BotRow) (row : TaskRow) (chunk : Option Chunk) (last : Option Last) → is_final row.state ≡ true → Adds s (update_row s bot chunk last row)
+over_finds s bot row chunk last final =
+    by_with (Adds s) row.attempt rule.NoTask (report_on s bot row chunk last) tt (λ attempt e.
+    by_when (Adds s) (not (attempt.bot == bot.no)) (not_claimant s attempt) (report s bot row chunk last attempt) (λ t. tt) (λ t.
+    by_when (Adds s) (is_final row.state) (report_again bot row chunk last attempt) (report_running s bot row chunk last attempt)
+    (λ f. cond_both (is_kept attempt chunk last) _ _ (Adds s) (λ k. tt) (λ k. tt)) (λ f. absurd (cc (f, final)))))
 
 pub not_not : (c : Bool) → not c ≡ false → c ≡ true
 not_not true e = refl
@@ -200,11 +251,12 @@ report_finds s bot row chunk last (Some attempt) b there a has fits =
 
 -- what a report may hold
 pub update_fits : (settings : PoolSettings) (name : List ℕ) (task try_no : ℕ) (chunk : Option Chunk) (last : Option Last) → IsTrue (fits settings (ask.Update name task try_no chunk last)) →
-    (try_no ≡ 1) × (option_map_or fits_chunk chunk true ≡ true)
+    ((try_no == 0) ≡ false) × (option_map_or fits_chunk chunk true ≡ true)
 update_fits settings name task try_no chunk last may_ask =
     let numbers = and_parts (is_between 1 262144 task) _ (and_parts (is_name name) _ may_ask).1 in
-    let one = and_parts (try_no == 1) _ numbers.1 in
-    (eqb-true try_no 1 one.0, (and_parts (option_map_or fits_chunk chunk true) _ one.1).0)
+    let one = and_parts (is_between 1 2 try_no) _ numbers.1 in
+    let least = leb-true 1 try_no (and_parts (nat_le 1 try_no) _ one.0).0 in
+    (ne_eqb try_no 0 (λ e. omega (arith, least, e)), (and_parts (option_map_or fits_chunk chunk true) _ one.1).0)
 
 -- a blob that is put is present, or has a place
 put_finds : (s : PoolState) (named actual : List ℕ) (size : ℕ) → Adds s (put_blob s named actual size)
@@ -226,15 +278,15 @@ poll_finds s dims q bot =
     by_map (Adds s) busy (run_on s bot) _ (λ x e. tt) (λ e.
     by_when (Adds s) bot.terminating _ _ (λ t. tt) (λ t.
     by_when (Adds s) (not (is_empty q)) _ _ (λ t. tt) (λ t.
-    by_when (Adds s) (is_some (first s dims)) _ _ (λ t. tt) (λ t. tt)))))
+    by_when (Adds s) (is_some (first s bot.no dims)) _ _ (λ t. tt) (λ t. tt)))))
 
 -- a claim finds a fit bot that runs nothing, and the first task that waits for it
 claim_finds : (s : PoolState) (id : List ℕ) (bot : BotRow) → Among bot s.bots → Adds s (claim s id bot)
 claim_finds s id bot a =
-    by_map (Adds s) (claim_again bot) (claimed s bot.no id) _ (λ task e. cond_both (is_final task.state) _ _ (Adds s) (λ t. tt) (λ t. tt)) (λ fresh.
+    by_map (Adds s) (claim_again bot id) (claimed s bot.no id) _ (λ task e. cond_both (is_final (as_claimed bot.no id task).state) _ _ (Adds s) (λ t. tt) (λ t. tt)) (λ fresh.
     by_map (Adds s) unfit_refusal (unfit_of bot) _ (λ why e. tt) (λ fit.
     by_map (Adds s) busy (run_on s bot) _ (λ task e. tt) (λ idle.
-    by_map (Adds s) (claims bot id) (first s bot.dims) _ (λ task gets.
+    by_map (Adds s) (claims bot id) (first s bot.no bot.dims) _ (λ task gets.
     record { bot = bot; among = a; named = refl; fresh = fresh; fit = fit; idle = idle; task = task; gets = gets; task_named = refl }) (λ e. tt))))
 
 -- nor does an event
@@ -251,7 +303,7 @@ tell_finds s who m (ask.New request) may =
     by_map (Adds s) (reuse_outcome s who request) (reuse s m request.task_slices) (accepted s who request) (λ found e. taken_finds s who m request found checked unsent (leb-false _ _ t) e) (λ e.
     accepted_finds s who request (admit s request.task_slices 0) checked unsent (leb-false _ _ t) refl))))
 tell_finds s who m (ask.Cancel task try_no kill) may =
-    by_with (Adds s) (named_task s task try_no) rule.NoTask (cancel s who kill) tt (λ row e. cancel_finds s who kill row (named_is s task try_no row e).among)
+    by_with (Adds s) (whole_task s task try_no) rule.NoTask (cancel s who kill) tt (λ row e. cancel_finds s who kill row (whole_is s task try_no row e).among)
 tell_finds s who m (ask.Result task try_no) may = by_with (Adds s) (named_task s task try_no) rule.NoTask (result_of s who) tt (λ row e. result_finds s who row)
 tell_finds s who m (ask.Stdout task try_no offset most) may =
     by_with (Adds s) (named_task s task try_no) rule.NoTask (stdout_of s who offset most) tt (λ row e. stdout_finds s who offset most row)
@@ -265,7 +317,13 @@ tell_finds s who m (ask.Update name task try_no chunk last) may =
     by_with (Adds s) (bot_named s name) rule.NoBot (update s task try_no chunk last) tt (λ bot e.
     by_with (Adds s) (named_task s task try_no) rule.NoTask (update_row s bot chunk last) tt (λ row f.
     let is = named_is s task try_no row f in
-    report_finds s bot row chunk last row.attempt (bot_is s name bot e).among (ap (task_of s) is.named ∙ is.there) is.among refl (update_fits s.settings name task try_no chunk last may).1))
+    by_shown (bot_is s name bot e).among row is is.shows))
+  where
+    by_shown : {bot : BotRow} → Among bot s.bots → (row : TaskRow) (is : IsNamed s task try_no row) → (is.task ≡ row) ⊎ IsLost is.task row → Adds s (update_row s bot chunk last row)
+    by_shown {bot} b row is (inl same) =
+        report_finds s bot row chunk last row.attempt b (ap (task_of s) is.row_named ∙ is.there ∙ ap (λ (x : TaskRow). Some x) same) (subst (λ (x : TaskRow). Among x s.tasks) same is.among) refl
+        (update_fits s.settings name task try_no chunk last may).1
+    by_shown {bot} b row is (inr lost) = over_finds s bot row chunk last (ap (λ (x : TaskRow). is_final x.state) (sym lost.shows))
 tell_finds s who m (ask.Terminate name) may =
     by_with (Adds s) (bot_named s name) rule.NoBot terminate tt (λ bot e. cond_both bot.terminating _ _ (Adds s) (λ t. tt) (λ t. tt))
 tell_finds s who m (ask.Bots limit after) may = tt

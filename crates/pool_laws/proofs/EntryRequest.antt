@@ -1,8 +1,8 @@
 -- The request for which the entry of an answer stands.
-use Rattle.std.proofs.Common.{◌≡◌, ℕ, ◌+◌, ◌==◌, ◌&&◌, ◌||◌, ◌⊎◌, inl, inr, not, Bool, true, false, List, length, refl, Option, Some, None, IfSome, IsTrue, is_some, is_none, subst, sym, ap, ◌∙◌, arith, eqb-true, find}
+use Rattle.std.proofs.Common.{◌≡◌, ℕ, ◌+◌, ◌==◌, ◌&&◌, ◌||◌, ◌⊎◌, inl, inr, not, Bool, true, false, List, length, refl, Option, Some, None, IfSome, IsTrue, is_some, is_none, subst, sym, ap, ◌∙◌, eqb-true, find}
 use Rattle.std.specs.Prelude.{nat_le, unwrap_or}
 use Rattle.std.specs.Option.{option_map, option_and_then}
-use Rattle.std.proofs.lemmas.Bool.{cond_both, and_parts, and_from, ne_eqb}
+use Rattle.std.proofs.lemmas.Bool.{cond_both, and_parts, and_from}
 use Rattle.dimensions.specs.declared.bot_dims.BotDims.{BotDims}
 use Rattle.dimensions.specs.Alike.{same}
 use Rattle.dimensions.specs.Rules.{is_empty}
@@ -30,7 +30,7 @@ use Rattle.swarm_model.specs.Words.{is_between}
 use Rattle.swarm_model.specs.Fits.{fits, fits_task}
 use Rattle.swarm_model.specs.Slices.{admit, first}
 use Rattle.swarm_model.specs.Reuse.{sent, reuse}
-use Rattle.swarm_model.specs.Answers.{decide, resubmitted, reuse_outcome, accepted, accepted_at, tasks_full, named_task, result_of, show_bot, known_bot, handshake, poll, polls, busy, run_on, claim, claim_again, claimed, claims, sleep_secs, run, unfit_of, unfit_refusal, event, terminate, reply_with_entry, dims_unless, text_unless, or_refuse, has_try, if_named, may, denied, cancel, cancel_row, stop, is_killed, is_kept, updates, chunk_rule, store_full, unplaced_chunk, is_first_report, report, report_again, report_running, report_on, not_claimant, update, update_row, refusal, file_missing, output_gone, chunks_shown, stdout_of, put_blob, show_blob}
+use Rattle.swarm_model.specs.Answers.{whole_task, whole_of, try_of, decide, resubmitted, reuse_outcome, accepted, accepted_at, tasks_full, named_task, result_of, show_bot, known_bot, handshake, poll, polls, busy, run_on, claim, claim_again, as_claimed, claimed, claims, sleep_secs, run, unfit_of, unfit_refusal, event, terminate, reply_with_entry, dims_unless, text_unless, or_refuse, has_try, may, denied, cancel, cancel_row, stop, is_killed, is_kept, updates, chunk_rule, store_full, unplaced_chunk, is_first_report, report, report_again, report_running, report_on, not_claimant, update, update_row, refusal, file_missing, output_gone, chunks_shown, stdout_of, put_blob, show_blob}
 use Rattle.swarm_model.specs.Blobs.{lacks_chunk, missing_file, inputs_of, can_take}
 use Rattle.swarm_model.specs.Effects.{fresh_chunk}
 use Rattle.swarm_model.specs.Output.{chunks_within}
@@ -40,7 +40,7 @@ use Rattle.swarm_model.specs.Soundness.{IsSound}
 use Rattle.pool_laws.proofs.Lists.{Found, find_is}
 use Rattle.pool_laws.proofs.Answering.{by_when, by_map, by_with}
 use Rattle.pool_laws.proofs.Preconditions.{waits, runs}
-use Rattle.pool_laws.proofs.EntryPreconditions.{IsNamed, named_is, update_fits, not_not}
+use Rattle.pool_laws.proofs.EntryPreconditions.{IsNamed, named_is, IsWhole, whole_is, update_fits, not_not}
 use Rattle.pool_laws.proofs.Rows.{find_task, find_bot, bot_is}
 use Rattle.pool_laws.proofs.Alike.{same_is, same_self, dims_told, text_told}
 
@@ -69,9 +69,8 @@ new_stands s who m task (Some place) = inl (record { asked = record { who = who;
 new_stands s who m task None = inl (record { asked = record { who = who; request = ask.New task }; is = refl; same_request = refl; alike = refl; no_deadline = refl })
 
 -- the try that a report names is that of the run
-try_is : (try_no : ℕ) (r : Option Attempt) (attempt : Attempt) → try_no ≡ 1 → r ≡ Some attempt → (try_no == 0 || has_try try_no r) ≡ true → attempt.try_no ≡ try_no
-try_is try_no r attempt one is has =
-    let no_zero : (try_no == 0) ≡ false = ne_eqb try_no 0 (λ e. omega (arith, e, one)) in
+try_is : (try_no : ℕ) (r : Option Attempt) (attempt : Attempt) → (try_no == 0) ≡ false → r ≡ Some attempt → (try_no == 0 || has_try try_no r) ≡ true → attempt.try_no ≡ try_no
+try_is try_no r attempt no_zero is has =
     let named : has_try try_no (Some attempt) ≡ true = sym (ap (λ b. b || has_try try_no (Some attempt)) no_zero) ∙ ap (λ x. try_no == 0 || has_try try_no x) (sym is) ∙ has in
     eqb-true attempt.try_no try_no named
 
@@ -123,17 +122,19 @@ module _ (s : PoolState) (o : IsSound s) (who : List ℕ) (m : ℕ) (name : List
       by_map P busy (run_on s bot) _ (λ x e. tt) (λ e.
       by_when P bot.terminating _ _ (λ t. polls_stands dims q false reply.Terminate) (λ t.
       by_when P (not (is_empty q)) _ _ (λ t. polls_stands dims q false (reply.Sleep (sleep_secs bot))) (λ t.
-      by_when P (is_some (first s dims)) _ _ (λ t. polls_stands dims q true reply.ClaimHint) (λ t. polls_stands dims q false (reply.Sleep (sleep_secs bot)))))))
+      by_when P (is_some (first s bot.no dims)) _ _ (λ t. polls_stands dims q true reply.ClaimHint) (λ t. polls_stands dims q false (reply.Sleep (sleep_secs bot)))))))
     where
       P : Decision → Type 0
       P = Stands s who m (ask.Poll name dims q)
 
   claim_stands : (id : List ℕ) → Stands s who m (ask.Claim name id) (claim s id bot)
   claim_stands id =
-      by_map P (claim_again bot) (claimed s bot.no id) _ (λ task e. cond_both (is_final task.state) _ _ P (λ t. tt) (λ t. heard (ask.Claim name id) (run task))) (λ fresh.
+      by_map P (claim_again bot id) (claimed s bot.no id) _ (λ task e.
+      let shown : TaskRow = as_claimed bot.no id task in
+      cond_both (is_final shown.state) _ _ P (λ t. tt) (λ t. heard (ask.Claim name id) (run (try_of shown) shown))) (λ fresh.
       by_map P unfit_refusal (unfit_of bot) _ (λ why e. tt) (λ fit.
       by_map P busy (run_on s bot) _ (λ task e. tt) (λ idle.
-      by_map P (claims bot id) (first s bot.dims) _ (λ task e.
+      by_map P (claims bot id) (first s bot.no bot.dims) _ (λ task e.
       inl (record {
         asked = claim_of id bot;
         is = by_row (claim_of id);
@@ -157,7 +158,7 @@ module _ (s : PoolState) (o : IsSound s) (who : List ℕ) (m : ℕ) (name : List
       }))
 
   -- a report that ends a run, or brings a chunk, stands for itself
-  report_stands : (number try_no : ℕ) (chunk : Option Chunk) (last : Option Last) (row : TaskRow) → IsNamed s number try_no row → try_no ≡ 1 → (r : Option Attempt) → row.attempt ≡ r →
+  report_stands : (number try_no : ℕ) (chunk : Option Chunk) (last : Option Last) (row : TaskRow) → IsNamed s number try_no row → (try_no == 0) ≡ false → (r : Option Attempt) → row.attempt ≡ r →
       Stands s who m (ask.Update name number try_no chunk last) (or_refuse r rule.NoTask (report_on s bot row chunk last))
   report_stands number try_no chunk last row f one None is = tt
   report_stands number try_no chunk last row f one (Some attempt) is =
@@ -172,7 +173,7 @@ module _ (s : PoolState) (o : IsSound s) (who : List ℕ) (m : ℕ) (name : List
         asked = update_of row.no attempt.try_no chunk last bot;
         is = by_row (update_of row.no attempt.try_no chunk last);
         same_request = ap (λ (n : List ℕ). ask.Update n row.no attempt.try_no chunk last) name_is
-            ∙ ap (λ (n : ℕ). ask.Update name n attempt.try_no chunk last) f.named
+            ∙ ap (λ (n : ℕ). ask.Update name n attempt.try_no chunk last) f.row_named
             ∙ ap (λ (n : ℕ). ask.Update name number n chunk last) (try_is try_no row.attempt attempt one is f.has);
         alike = refl;
         no_deadline = refl;
@@ -190,13 +191,13 @@ module _ (s : PoolState) (o : IsSound s) (who : List ℕ) (m : ℕ) (name : List
       inl (record { asked = terminate_of bot; is = by_row terminate_of; same_request = ap (λ (n : List ℕ). ask.Terminate n) name_is; alike = refl; no_deadline = refl }))
 
 -- a task that is canceled, or whose run is to stop, stands for its creator's cancel of both
-module _ (s : PoolState) (o : IsSound s) (who : List ℕ) (m number try_no : ℕ) (kill : Bool) (may_ask : IsTrue (fits_task number try_no)) (row : TaskRow) (f : IsNamed s number try_no row) where
+module _ (s : PoolState) (o : IsSound s) (who : List ℕ) (m number try_no : ℕ) (kill : Bool) (may_ask : IsTrue (fits_task number try_no)) (row : TaskRow) (f : IsWhole s number row) where
   abbrev P : Decision → Type 0
   P = Stands s who m (ask.Cancel number try_no kill)
 
   -- the creator may ask for it
-  its_row : named_task s row.no 0 ≡ Some row
-  its_row = ap (option_and_then (if_named 0)) (find_task s o row row.no f.among refl)
+  its_row : whole_task s row.no 0 ≡ Some row
+  its_row = ap (option_and_then (whole_of 0)) (find_task s o row row.no f.among refl)
 
   by_creator : (k : EntryKind) → option_map cancel_of (task_of s row.no) ≡ asks s k → (decide s row.creator m (ask.Cancel row.no 0 true)).entry ≡ Some k → is_deadline k ≡ false → IsAsked s m k
   by_creator k is entry no_deadline =
@@ -263,8 +264,8 @@ tell_stands s who m (ask.New task) o may =
     P : Decision → Type 0
     P = Stands s who m (ask.New task)
 tell_stands s who m (ask.Cancel number try_no kill) o may =
-    by_with (Stands s who m (ask.Cancel number try_no kill)) (named_task s number try_no) rule.NoTask (cancel s who kill) tt
-    (λ row e. cancel_stands s o who m number try_no kill may row (named_is s number try_no row e))
+    by_with (Stands s who m (ask.Cancel number try_no kill)) (whole_task s number try_no) rule.NoTask (cancel s who kill) tt
+    (λ row e. cancel_stands s o who m number try_no kill may row (whole_is s number try_no row e))
 tell_stands s who m (ask.Result task try_no) o may = by_with (Stands s who m (ask.Result task try_no)) (named_task s task try_no) rule.NoTask (result_of s who) tt (λ row e. result_stands s who m task try_no row)
 tell_stands s who m (ask.Stdout task try_no offset most) o may =
     by_with (Stands s who m (ask.Stdout task try_no offset most)) (named_task s task try_no) rule.NoTask (stdout_of s who offset most) tt (λ row e. stdout_stands s who m task try_no offset most row)

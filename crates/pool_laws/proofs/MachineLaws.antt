@@ -1,29 +1,31 @@
 -- What the laws say of a pool that keeps its log.
-use Rattle.std.proofs.Common.{◌≡◌, ℕ, ◌≤◌, ◌^◌, List, Option, Some, None, IfSome, IsTrue, refl, subst, sym, ap, ◌∙◌, sum_by, count_by}
+use Rattle.std.proofs.Common.{option_and_then, ◌≡◌, ℕ, ◌≤◌, ◌^◌, List, Option, Some, None, IfSome, IsTrue, refl, subst, sym, ap, ◌∙◌, sum_by, count_by}
+use Rattle.std.specs.List.{All}
+use Rattle.std.proofs.lemmas.Option.{same_Some}
 use Rattle.swarm_model.specs.declared.task_row.TaskRow.{TaskRow}
 use Rattle.swarm_model.specs.declared.pool_state.PoolState.{PoolState}
 use Rattle.swarm_model.specs.declared.entry.Entry.{Entry}
 use Rattle.swarm_model.specs.declared.request.Request.{Request}
 use Rattle.swarm_model.specs.Fits.{fits}
-use Rattle.swarm_model.specs.Finding.{task_of}
-use Rattle.swarm_model.specs.Answers.{answer, named_task}
-use Rattle.swarm_model.specs.Claims.{IsRightClaim}
+use Rattle.swarm_model.specs.Finding.{is_task, task_of}
+use Rattle.swarm_model.specs.Answers.{answer, if_named, named_task}
+use Rattle.swarm_model.specs.Claims.{HasRightRuns, IsRightClaim}
 use Rattle.swarm_model.specs.Deadlines.{due_entry}
 use Rattle.swarm_model.specs.Effects.{opening, after}
 use Rattle.swarm_model.specs.History.{replay, MayFollow, tally}
 use Rattle.swarm_model.specs.MachineState.{MachineState, IsHistory, IsRight, KeepsFinals, ShowsVerdict, ShowsOutput, ActsOnce, TakesOutcome}
 use Rattle.swarm_model.specs.Soundness.{IsSound}
 use Rattle.swarm_model.specs.Verdicts.{is_new, verdict, verdict_tally}
-use Rattle.pool_laws.proofs.Lists.{Among, all}
+use Rattle.pool_laws.proofs.Lists.{Among, all, each, find_is}
 use Rattle.pool_laws.proofs.Preconditions.{Finds}
-use Rattle.pool_laws.proofs.EntryPreconditions.{IsNamed, named_is, finds}
+use Rattle.pool_laws.proofs.EntryPreconditions.{finds}
 use Rattle.pool_laws.proofs.Rows.{find_task}
 use Rattle.pool_laws.proofs.Sound.{sound_always}
 use Rattle.pool_laws.proofs.Legality.{answer_follows}
 use Rattle.pool_laws.proofs.Repeating.{acts_once}
 use Rattle.pool_laws.proofs.OutcomeLaw.{new_source}
 use Rattle.pool_laws.proofs.OutputLaw.{tell_output}
-use Rattle.pool_laws.proofs.ClaimLaw.{claims_right}
+use Rattle.pool_laws.proofs.ClaimLaw.{claims_right, runs_right}
 use Rattle.pool_laws.proofs.VerdictLaw.{verdict_is_state}
 use Rattle.pool_laws.proofs.Finals.{final_through}
 use Rattle.pool_laws.proofs.TallyLaw.{tally_counts_verdicts, tally_adds_up}
@@ -39,20 +41,22 @@ module _ (kept : MachineState) (h : IsHistory kept) where
   is_sound = subst IsSound (sym h.replayed) (sound_always kept.pool.settings kept.log h.legal.caused)
 
   -- the log tells the state of each task
-  pub tells_state : (t : ℕ) (task : TaskRow) → task_of kept.pool t ≡ Some task → verdict kept.log t ≡ task.state
+  pub tells_state : (t : ℕ) (task : TaskRow) → task_of kept.pool t ≡ Some task → verdict kept.pool.settings kept.log t ≡ task.state
   tells_state t task e = verdict_is_state kept.pool.settings kept.log t task h.legal.caused (ap (λ (s : PoolState). task_of s t) (sym h.replayed) ∙ e)
 
   -- so a result shows it
-  pub shows_verdict : (who : List ℕ) (moment pass : ℕ) (request : Request) → ShowsVerdict kept (answer kept.pool who moment pass request).reply
-  shows_verdict who moment pass request = tell_shows kept told (all (λ task. verdict kept.log task.no ≡ task.state) kept.pool.tasks told_of) who moment request
+  pub shows_verdict : (who : List ℕ) (moment pass : ℕ) (request : Request) → ShowsVerdict kept request (answer kept.pool who moment pass request).reply
+  shows_verdict who moment pass request = tell_shows kept told (all (λ task. verdict kept.pool.settings kept.log task.no ≡ task.state) kept.pool.tasks told_of) who moment request
     where
-      told_of : (task : TaskRow) → Among task kept.pool.tasks → verdict kept.log task.no ≡ task.state
+      told_of : (task : TaskRow) → Among task kept.pool.tasks → verdict kept.pool.settings kept.log task.no ≡ task.state
       told_of task a = tells_state task.no task (find_task kept.pool is_sound task task.no a refl)
 
-      told : (number try_no : ℕ) (task : TaskRow) → named_task kept.pool number try_no ≡ Some task → verdict kept.log task.no ≡ task.state
-      told number try_no task e =
-          (let f : IsNamed kept.pool number try_no task = named_is kept.pool number try_no task e in
-          told_of task f.among)
+      told : (number : ℕ) (task : TaskRow) → named_task kept.pool number 0 ≡ Some task → verdict kept.pool.settings kept.log task.no ≡ task.state
+      told number task e = by_row (task_of kept.pool number) refl e
+        where
+          by_row : (r : Option TaskRow) → task_of kept.pool number ≡ r → option_and_then (if_named 0) r ≡ Some task → verdict kept.pool.settings kept.log task.no ≡ task.state
+          by_row None g h = absurd (cc (h))
+          by_row (Some x) g h = told_of task (subst (λ (y : TaskRow). Among y kept.pool.tasks) (same_Some _ _ h) (find_is (is_task number) kept.pool.tasks x g).among)
 
   -- what is sent again adds at most a contact
   pub repeats_once : (who : List ℕ) (moment pass : ℕ) (request : Request) → ActsOnce kept who request (answer kept.pool who moment pass request).entry
@@ -74,12 +78,23 @@ module _ (kept : MachineState) (h : IsHistory kept) where
           (subst (Finds kept.pool) is (finds kept.pool e (answer_follows kept.pool who moment pass request e is_sound before late none may g)))
 
   -- the tally counts what the log tells
-  pub tally_told : tally kept.pool ≡ verdict_tally kept.log
+  pub tally_told : tally kept.pool ≡ verdict_tally kept.pool.settings kept.log
   tally_told = ap tally h.replayed ∙ tally_counts_verdicts kept.pool.settings kept.log h.legal.caused
 
   -- and adds up
   pub tally_total : sum_by (λ (count : ℕ). count) (tally kept.pool) ≡ count_by is_new kept.log
   tally_total = ap (λ (s : PoolState). sum_by (λ (count : ℕ). count) (tally s)) h.replayed ∙ tally_adds_up kept.pool.settings kept.log h.legal.caused
+
+  -- the runs of each task are right
+  pub right_runs : (t : ℕ) → IfSome (task_of kept.pool t) (HasRightRuns kept.pool kept.log)
+  right_runs t = by_row (task_of kept.pool t) refl
+    where
+      each_right : All (HasRightRuns kept.pool kept.log) kept.pool.tasks
+      each_right = subst (λ (s : PoolState). All (HasRightRuns s kept.log) s.tasks) (sym h.replayed) (runs_right kept.pool.settings kept.log h.legal.caused)
+
+      by_row : (r : Option TaskRow) → task_of kept.pool t ≡ r → IfSome r (HasRightRuns kept.pool kept.log)
+      by_row None g = tt
+      by_row (Some x) g = each (HasRightRuns kept.pool kept.log) kept.pool.tasks each_right x (find_is (is_task t) kept.pool.tasks x g).among
 
   module _ (e : Entry) (follows : MayFollow kept.pool e) where
     -- the entry may follow the log

@@ -25,14 +25,14 @@ use Rattle.swarm_model.specs.declared.entry.Outcome.TheVariants as outcome
 use Rattle.swarm_model.specs.Finding.{is_bot, bot_of}
 use Rattle.swarm_model.specs.Slices.{admit, current_slice}
 use Rattle.swarm_model.specs.Deadlines.{slice_limit, slice_end, silence_limit, silence_end, bot_end, blob_end, next_of, last_state}
-use Rattle.swarm_model.specs.Effects.{task_after, added_tasks, bot_after, added_bots, new_row, expired_slice, lost_run, ended_run, end_state, session_row, assigned_bot, event_effect, after}
+use Rattle.swarm_model.specs.Effects.{task_after, added_tasks, bot_after, added_bots, new_row, expired_slice, retried_run, died_run, lost_run, ended_run, end_state, session_row, assigned_bot, event_effect, after}
 use Rattle.swarm_model.specs.History.{MayFollow}
 use Rattle.swarm_model.specs.Soundness.{IsSound, runner}
 use Rattle.pool_laws.proofs.Lists.{Among, Found, each, all, each_one, among_left, among_right, among_map, find_is, from_filter_map, all_filter_map}
 use Rattle.pool_laws.proofs.Earliest.{Ahead, ahead_of_next}
 use Rattle.pool_laws.proofs.Preconditions.{Finds, waits, runs}
 use Rattle.pool_laws.proofs.EntryPreconditions.{IsFitting, finds, fitting}
-use Rattle.pool_laws.proofs.Rows.{task_by, bot_by, all_tasks, all_bots, find_bot}
+use Rattle.pool_laws.proofs.Rows.{task_by, bot_by, all_tasks, all_bots, find_bot, lost_is}
 use Rattle.pool_laws.proofs.Tasks.{end_final, finished_final, last_final, not_pending, runner_lost, runner_marked, runner_longer, runner_finished, runner_moved, added_idle}
 use Rattle.pool_laws.proofs.Bots.{settings_same}
 use Rattle.pool_laws.proofs.Numbers.{bot_no}
@@ -77,6 +77,11 @@ slice_moved s m x = by_place (admit s x.request.task_slices (x.slice + 1))
     by_place : (o : Option ℕ) → SliceAhead m (expired_slice m (option_map_or outcome.Slice o (outcome.Ended (last_state x))) x)
     by_place None = slice_none m (expired_slice m (outcome.Ended (last_state x)) x) (not_pending (last_state x) (last_final x))
     by_place (Some place) = slice_from m (expired_slice m (outcome.Slice place) x) (omega arith)
+
+-- a task that is tried again has one from this moment on, and one that is over has none
+slice_lost : (retries m : ℕ) (x : TaskRow) → SliceAhead m (lost_run retries m x)
+slice_lost retries m x =
+    lost_is (SliceAhead m) retries m x (λ t. slice_from m (retried_run m x) (omega arith)) (λ t. slice_none m (died_run m x) (not_pending (end_state x.attempt BotDied) (end_final x.attempt BotDied refl)))
 
 -- a new task has one from this moment on
 added_slice : (m : ℕ) (k : EntryKind) (x : TaskRow) → Among x (added_tasks m k) → SliceAhead m x
@@ -200,8 +205,8 @@ module _ (s : PoolState) (m : ℕ) (k : EntryKind) (o : IsSound s) (f : Finds s 
       (λ x a. task_by (SliceAhead m) s m o x a k f (record {
         same = r.slices x a;
         moves = λ w. slice_moved s m x;
-        loses = λ w. slice_none m (lost_run m x) (not_pending (end_state x.attempt BotDied) (end_final x.attempt BotDied refl));
-        begins = λ b t id is found w. tt;
+        loses = λ w. slice_lost s.settings.retries m x;
+        begins = λ b t id is found w own. tt;
         cancels = λ w. tt;
         marks = λ w. r.slices x a;
         grows = λ chunk grown w. r.slices x a;
@@ -237,12 +242,12 @@ module _ (s : PoolState) (m : ℕ) (k : EntryKind) (o : IsSound s) (f : Finds s 
       task_by (PairAhead m (bot_after m k b)) s m o x a k f (record {
         same = λ r. contact_ahead b c x.request.bot_ping_tolerance_secs (h (r ∙ ap (λ n. Some n) (bot_no s m k o f g b c)));
         moves = λ w r. absurd (cc (r, runner_moved s m x w));
-        loses = λ w r. absurd (cc (r, runner_lost m x));
+        loses = λ w r. absurd (cc (r, runner_lost s.settings.retries m x));
         cancels = λ w r. absurd (cc (r));
         marks = λ w r. contact_ahead b c x.request.bot_ping_tolerance_secs (h (sym (runner_marked x) ∙ r ∙ ap (λ n. Some n) (bot_no s m k o f g b c)));
         grows = λ chunk grown w r. contact_ahead b c x.request.bot_ping_tolerance_secs (h (sym (runner_longer chunk x) ∙ r ∙ ap (λ n. Some n) (bot_no s m k o f g b c)));
         finishes = λ chunk last y w p r. absurd (cc (r, runner_finished m chunk last y));
-        begins = λ n t id is found w r. begun_ahead b x.request.bot_ping_tolerance_secs n t id is (sym (same_Some _ _ r ∙ bot_no s m k o f g b c));
+        begins = λ n t id is found w own r. begun_ahead b x.request.bot_ping_tolerance_secs n t id is (sym (same_Some _ _ r ∙ bot_no s m k o f g b c));
       })
 
   -- of all pairs

@@ -49,7 +49,7 @@ module _ (s : PoolState) where
 pub named_blobs_are_there : NamedBlobsAreThere
 named_blobs_are_there s who moment pass request =
     of_each s (Named s) (λ decision plain. none_named s decision.reply plain.0) who moment request (record {
-      result = λ number try_no task is. tt;
+      result = λ number try_no task asked is. tt;
       tasks = λ wanted limit below. tt;
       stdout = λ from to state chunks has. parts_named s from to chunks has;
       blob = λ digest blob is. blob_named s digest blob is;

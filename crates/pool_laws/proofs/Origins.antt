@@ -11,7 +11,7 @@ use Rattle.swarm_model.specs.Effects.{task_after, expired_slice}
 use Rattle.swarm_model.specs.Soundness.{IsSound}
 use Rattle.pool_laws.proofs.Lists.{Among}
 use Rattle.pool_laws.proofs.Preconditions.{Finds}
-use Rattle.pool_laws.proofs.Rows.{task_by}
+use Rattle.pool_laws.proofs.Rows.{task_by, lost_is}
 
 -- what a task has from the entry that adds it
 pub record Origin : Type 0 where
@@ -29,8 +29,8 @@ origin_same s m k o f x a =
     task_by (λ (y : TaskRow). origin_of y ≡ origin_of x) s m o x a k f (record {
       same = refl;
       moves = λ w. by_outcome (next_of s x);
-      loses = λ w. refl;
-      begins = λ b t id is found w. refl;
+      loses = λ w. lost_is (λ (y : TaskRow). origin_of y ≡ origin_of x) s.settings.retries m x (λ t. refl) (λ t. refl);
+      begins = λ b t id is found w own. refl;
       cancels = λ w. refl;
       marks = λ w. refl;
       grows = λ chunk g w. refl;

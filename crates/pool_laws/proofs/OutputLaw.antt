@@ -1,5 +1,5 @@
 -- The parts of an output are the bytes that were asked for.
-use Rattle.std.proofs.Common.{◌≡◌, ℕ, ◌+◌, ◌-◌, ◌≤◌, ◌<◌, not, Bool, true, false, cond, Option, Some, None, IfSome, List, [], ◌∷◌, ◌++◌, map, length, take, drop, length-drop, refl, sym, ap, ◌∙◌, subst, arith, inl, inr, ◌⊎◌}
+use Rattle.std.proofs.Common.{◌≡◌, ◌⊎◌, inl, inr, ℕ, ◌+◌, ◌-◌, ◌≤◌, ◌<◌, not, Bool, true, false, cond, Option, Some, None, IfSome, List, [], ◌∷◌, ◌++◌, map, length, take, drop, length-drop, refl, sym, ap, ◌∙◌, subst, arith, inl, inr, ◌⊎◌}
 use Rattle.std.specs.Prelude.{min, max, flat_map}
 use Rattle.std.specs.List.{find}
 use Rattle.std.specs.Option.{option_map_or, option_and_then}
@@ -12,6 +12,7 @@ use Rattle.swarm_model.specs.declared.attempt.Attempt.{Attempt}
 use Rattle.swarm_model.specs.declared.attempt.Chunk.{Chunk}
 use Rattle.swarm_model.specs.declared.permission.Permission.TheVariants as permission
 use Rattle.swarm_model.specs.declared.task_row.TaskRow.{TaskRow}
+use Rattle.swarm_model.specs.declared.retried.Retried.{Retried}
 use Rattle.swarm_model.specs.declared.pool_state.PoolState.{PoolState}
 use Rattle.swarm_model.specs.declared.answer.Decision.{Decision}
 use Rattle.swarm_model.specs.declared.request.Request.{Request}
@@ -25,11 +26,11 @@ use Rattle.swarm_model.specs.Effects.{opening}
 use Rattle.swarm_model.specs.Finding.{is_task, task_of}
 use Rattle.swarm_model.specs.History.{replay}
 use Rattle.swarm_model.specs.MachineState.{MachineState, ShowsOutput}
-use Rattle.swarm_model.specs.Soundness.{IsSound, IsSoundOutput}
+use Rattle.swarm_model.specs.Soundness.{IsSoundRetried, IsSound, IsSoundOutput}
 use Rattle.swarm_model.specs.Views.{shown_from}
-use Rattle.pool_laws.proofs.Lists.{Among, find_is}
+use Rattle.pool_laws.proofs.Lists.{find_is}
 use Rattle.pool_laws.proofs.Answering.{by_when, by_map, by_with}
-use Rattle.pool_laws.proofs.EntryPreconditions.{named_is}
+use Rattle.pool_laws.proofs.EntryPreconditions.{IsNamed, IsLost, named_is}
 use Rattle.pool_laws.specs.OutputLaw.{OutputIsTold}
 use Rattle.pool_laws.proofs.Rows.{task_is}
 use Rattle.pool_laws.proofs.Sound.{sound_always}
@@ -169,27 +170,39 @@ module _ (kept : MachineState) (o : IsSound kept.pool) where
   abbrev StandInRow : List Chunk → Type 0
   StandInRow chunks = (end : ℕ) × AreInRow 0 chunks end
 
-  row_shown : (r : Option TaskRow) → IfSome r (λ x. Among x s.tasks) → StandInRow (option_map_or (λ attempt. attempt.chunks) (option_and_then (λ row. row.attempt) r) [])
+  row_shown : (r : Option TaskRow) → IfSome r (λ x. IfSome x.attempt IsSoundOutput) → StandInRow (option_map_or (λ attempt. attempt.chunks) (option_and_then (λ row. row.attempt) r) [])
   row_shown None a = (0, refl)
-  row_shown (Some x) a = by_attempt x.attempt (task_is s o x a).output
+  row_shown (Some x) a = by_attempt x.attempt a
     where
       by_attempt : (attempt : Option Attempt) → IfSome attempt IsSoundOutput → StandInRow (option_map_or (λ r. r.chunks) attempt [])
       by_attempt None h = (0, refl)
       by_attempt (Some attempt) h = (attempt.length, h.in_row)
 
-  found_among : (n : ℕ) → IfSome (task_of s n) (λ x. Among x s.tasks)
+  found_among : (n : ℕ) → IfSome (task_of s n) (λ x. IfSome x.attempt IsSoundOutput)
   found_among n = by_row (task_of s n) refl
     where
-      by_row : (r : Option TaskRow) → task_of s n ≡ r → IfSome r (λ x. Among x s.tasks)
+      by_row : (r : Option TaskRow) → task_of s n ≡ r → IfSome r (λ x. IfSome x.attempt IsSoundOutput)
       by_row None is = tt
-      by_row (Some x) is = (find_is (is_task n) s.tasks x is).among
+      by_row (Some x) is = (task_is s o x (find_is (is_task n) s.tasks x is).among).output
 
-  chunks_in_row : (x : TaskRow) → Among x s.tasks → StandInRow (chunks_shown s x)
+  chunks_in_row : (x : TaskRow) → IfSome x.attempt IsSoundOutput → StandInRow (chunks_shown s x)
   chunks_in_row x a = row_shown (shown_from s x) (by_source x.source)
     where
-      by_source : (source : Option ℕ) → IfSome (option_map_or (task_of s) source (Some x)) (λ y. Among y s.tasks)
+      by_source : (source : Option ℕ) → IfSome (option_map_or (task_of s) source (Some x)) (λ y. IfSome y.attempt IsSoundOutput)
       by_source None = a
       by_source (Some n) = found_among n
+
+  -- the output of a row that a try names is sound
+  shown_sound : {number try_no : ℕ} (x : TaskRow) → IsNamed s number try_no x → IfSome x.attempt IsSoundOutput
+  shown_sound x f = by_shown f.shows
+    where
+      of_lost : (r : Option Retried) (lost : Retried) → r ≡ Some lost → IfSome r (IsSoundRetried s f.task.request.task_slices) → IsSoundOutput lost.attempt
+      of_lost None lost e h = absurd (cc (e))
+      of_lost (Some l) lost e h = subst (λ (z : Retried). IsSoundOutput z.attempt) (same_Some _ _ e) h.output
+
+      by_shown : (f.task ≡ x) ⊎ IsLost f.task x → IfSome x.attempt IsSoundOutput
+      by_shown (inl same) = subst (λ (y : TaskRow). IfSome y.attempt IsSoundOutput) same (task_is s o f.task f.among).output
+      by_shown (inr l) = subst (λ (y : TaskRow). IfSome y.attempt IsSoundOutput) l.shows (of_lost f.task.retried l.lost l.retried (task_is s o f.task f.among).retried)
 
   -- the parts of an output are the bytes that were asked for
   pub tell_output : (who : List ℕ) (moment : ℕ) (request : Request) → ShowsOutput kept request (decide s who moment request).reply
@@ -197,7 +210,7 @@ module _ (kept : MachineState) (o : IsSound kept.pool) where
       by_with Shows (named_task s number try_no) rule.NoTask (stdout_of s who offset most) tt (λ x named.
       by_when Shows (not (may s who permission.ListTasks x)) (denied s permission.ListTasks) (output_between s offset (offset + most) x.state (chunks_shown s x)) (λ t. tt) (λ t.
       by_map Shows output_gone (find (lacks_chunk s) (chunks_within offset (offset + most) (chunks_shown s x))) (reply_only (reply.Stdout x.state (parts_within offset (offset + most) (chunks_shown s x)))) (λ c e. tt) (λ e.
-      λ task is. let row = chunks_in_row x (named_is s number try_no x named).among in
+      λ task is. let row = chunks_in_row x (shown_sound x (named_is s number try_no x named)) in
       subst (λ (y : TaskRow). AreBytesFrom offset most (chunks_shown s y) (parts_within offset (offset + most) (chunks_shown s x))) (same_Some _ _ (sym named ∙ is))
       (parts_are_bytes offset most (chunks_shown s x) row.0 row.1))))
     where

@@ -89,7 +89,7 @@ pub record FindsClaim (s : PoolState) (b t : ℕ) (id : List ℕ) : Type 0 where
   pub fit : unfit_of bot ≡ None
   pub idle : run_on s bot ≡ None
   pub task : TaskRow
-  pub gets : first s bot.dims ≡ Some task
+  pub gets : first s bot.no bot.dims ≡ Some task
   pub task_named : task.no ≡ t
 
 -- the run of the bot that reports: its chunk, where it is no kept one, goes on from the output and has a place,

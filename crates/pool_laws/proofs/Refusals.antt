@@ -31,7 +31,7 @@ quiet_reply r entry is = λ why e. absurd (false≢true (sym is ∙ ap is_refusa
 pub quiet : (s : PoolState) (who : List ℕ) (moment : ℕ) (request : Request) → Quiet (decide s who moment request)
 quiet s who moment request =
     of_each s Quiet plain_quiet who moment request (record {
-      result = λ number try_no task is. quiet_reply _ _ refl;
+      result = λ number try_no task asked is. quiet_reply _ _ refl;
       tasks = λ wanted limit below. quiet_reply _ _ refl;
       stdout = λ from to state chunks has. quiet_reply _ _ refl;
       blob = λ digest blob is. quiet_reply _ _ refl;

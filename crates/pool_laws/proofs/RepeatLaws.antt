@@ -1,10 +1,19 @@
 -- What comes of a request that is sent again.
-use Rattle.std.proofs.Common.{◌≡◌, ℕ, ◌==◌, ◌&&◌, ◌⊎◌, inl, inr, not, List, [], ◌∷◌, ◌++◌, map, map-id, refl, ap, ◌∙◌, cond, true, false, Bool, Option, Some, None, is_some}
-use Rattle.std.specs.Option.{option_map, option_and_then}
-use Rattle.std.proofs.lemmas.Bool.{cond_both, eq-eqb}
+use Rattle.std.proofs.Common.{◌≡◌, ℕ, ◌==◌, ◌&&◌, ◌||◌, ◌⊎◌, inl, inr, not, List, [], ◌∷◌, ◌++◌, map, map-id, refl, ap, ◌∙◌, subst, cond, true, false, Bool, Option, Some, None, IfSome, is_some, sym}
+use Rattle.std.specs.Option.{option_map, option_map_or, option_and_then}
+use Rattle.std.proofs.lemmas.Bool.{cond_both, eq-eqb, ne_eqb}
+use Rattle.std.proofs.lemmas.Option.{same_Some}
 use Rattle.swarm_model.specs.declared.attempt.Attempt.{Attempt}
+use Rattle.swarm_model.specs.declared.retried.Retried.{Retried}
 use Rattle.swarm_model.specs.declared.attempt.Chunk.{Chunk}
 use Rattle.swarm_model.specs.declared.attempt.Last.{Last}
+use Rattle.swarm_model.specs.declared.task_state.TaskState.{TaskState}
+use Rattle.swarm_model.specs.declared.task_state.TaskState.TheVariants.{BotDied}
+use Rattle.dimensions.specs.Alike.{same as same_text}
+use Rattle.dimensions.specs.Choosing.{when, ◌or_else◌}
+use Rattle.swarm_model.specs.declared.request.Request.TheVariants as ask
+use Rattle.pool_laws.proofs.EntryPreconditions.{or_right}
+use Rattle.pool_laws.proofs.Rows.{task_is}
 use Rattle.swarm_model.specs.declared.entry.EntryKind.TheVariants as kind
 use Rattle.swarm_model.specs.declared.reply.Reply.{Reply}
 use Rattle.swarm_model.specs.declared.reply.Reply.TheVariants as reply
@@ -14,19 +23,19 @@ use Rattle.swarm_model.specs.declared.answer.Decision.{Decision}
 use Rattle.swarm_model.specs.declared.task_row.TaskRow.{TaskRow}
 use Rattle.swarm_model.specs.declared.bot_row.BotRow.{BotRow}
 use Rattle.swarm_model.specs.declared.pool_state.PoolState.{PoolState}
-use Rattle.swarm_model.specs.Finding.{is_final, is_task}
-use Rattle.swarm_model.specs.Answers.{claimed, entry_at, or_refuse, reply_with_entry, updates, refusal, file_missing, chunk_rule, store_full, unplaced_chunk, is_first_report, report, report_again, report_running, report_on, not_claimant, is_kept}
+use Rattle.swarm_model.specs.Finding.{is_final, is_task, bot_named}
+use Rattle.swarm_model.specs.Answers.{answer, claimed, is_claim, is_claimed, as_claimed, lost_row, if_lost, if_named, has_try, try_of, entry_at, or_refuse, reply_with_entry, updates, refusal, file_missing, chunk_rule, store_full, unplaced_chunk, is_first_report, report, report_again, report_running, report_on, not_claimant, is_kept}
 use Rattle.swarm_model.specs.Blobs.{missing_file}
 use Rattle.swarm_model.specs.Views.{files_of}
 use Rattle.swarm_model.specs.Effects.{opening, heard, fresh_chunk}
 use Rattle.swarm_model.specs.History.{replay}
-use Rattle.swarm_model.specs.Soundness.{IsSound, runner, claim_key}
+use Rattle.swarm_model.specs.Soundness.{IsSound, IsSoundRetried, IsRightTry, HasKey, runner}
 use Rattle.swarm_model.specs.Reuse.{sent}
-use Rattle.swarm_model.specs.Repeats.{NewTaskAgain, UuidIsTaken, HasClaimed, ClaimAgain, ClaimIsOver, HandshakeAgain, UpdateAgain, UpdateIsOver, ContactChanges, contact_only}
+use Rattle.swarm_model.specs.Repeats.{NewTaskAgain, UuidIsTaken, HasClaimed, state_of_try, ClaimAgain, ClaimIsOver, HandshakeAgain, UpdateAgain, UpdateIsOver, ContactChanges, contact_only}
 use Rattle.pool_laws.proofs.Answering.{by_when, by_map}
 use Rattle.pool_laws.proofs.Lists.{Found, find_is}
 use Rattle.pool_laws.proofs.Tasks.{runner_final}
-use Rattle.pool_laws.proofs.Claimed.{Key, key_in, claim_found}
+use Rattle.pool_laws.proofs.Claimed.{Key, key_in, by_key, lost_key_in, claim_found}
 use Rattle.pool_laws.proofs.UuidLaw.{sent_found}
 use Rattle.pool_laws.proofs.Alike.{is_same, task_self}
 use Rattle.pool_laws.proofs.Sound.{sound_replay, opening_sound}
@@ -56,25 +65,93 @@ not_over task n r = by_test (is_final task.state) refl
     by_test true e = absurd (cc (r, runner_final task.state task.attempt e))
 
 -- the task of an attempt is found by its bot and the id of its claim
-its_task : (s : PoolState) → IsSound s → (name : List ℕ) (bot : BotRow) (task : TaskRow) (attempt : Attempt) → HasClaimed s name bot task attempt → claimed s bot.no attempt.claim ≡ Some task
-its_task s o name bot task attempt h =
+its_row : (s : PoolState) → IsSound s → (name : List ℕ) (bot : BotRow) (task : TaskRow) (attempt : Attempt) → HasClaimed s name bot task attempt →
+    claimed s bot.no attempt.claim ≡ Some task
+its_row s o name bot task attempt h =
     let f : Found (is_task task.no) s.tasks task = find_is (is_task task.no) s.tasks task h.there in
-    let key : claim_key task ≡ Some (attempt.bot, attempt.claim) = ap key_in h.attempted in
-    claim_found s o bot.no attempt.claim task f.among (key ∙ ap (λ (n : ℕ). let z : Key = Some (n, attempt.claim) in z) h.by_bot)
+    claim_found s o bot.no attempt.claim task f.among (subst (λ (n : ℕ). HasKey task (n, attempt.claim)) h.by_bot (keyed h.attempted))
+  where
+    keyed : (task.attempt ≡ Some attempt) ⊎ (option_map (λ (lost : Retried). lost.attempt) task.retried ≡ Some attempt) → HasKey task (attempt.bot, attempt.claim)
+    keyed (inl e) = inl (ap key_in e)
+    keyed (inr e) = inr (lost_key_in task.retried ∙ ap key_in e)
 
 -- a claim of the run
 pub claim_again_law : ClaimAgain
-claim_again_law settings log who name moment pass bot task attempt c h r =
+claim_again_law settings log who name moment pass bot task attempt c h own r =
     let s : PoolState = replay (opening settings) log in
     let o : IsSound s = sound_replay (opening settings) log (opening_sound settings) c in
-    rw (h.named, its_task s o name bot task attempt h, not_over task bot.no r) refl
+    let its : is_claimed bot.no attempt.claim task ≡ true = by_key bot.no attempt.claim task.attempt (ap key_in own ∙ ap (λ (n : ℕ). let z : Key = Some (n, attempt.claim) in z) h.by_bot) in
+    let shown : as_claimed bot.no attempt.claim task ≡ task = ap (λ (z : Bool). cond z task (option_map_or (lost_row task) task.retried task)) its in
+    let found : claimed s bot.no attempt.claim ≡ Some task = its_row s o name bot task attempt h in
+    rw (h.named, found, shown, not_over task bot.no r, own) refl
 
--- a claim of a run that has ended
+-- a claim of a run that has ended, where the row that shows it has its state and its try
+over_shown : (s : PoolState) (who name : List ℕ) (moment pass : ℕ) (bot : BotRow) (task shown : TaskRow) (claim : List ℕ) (try_no : ℕ) (state : TaskState) → bot_named s name ≡ Some bot → claimed s bot.no claim ≡ Some task →
+    as_claimed bot.no claim task ≡ shown → shown.no ≡ task.no → try_of shown ≡ try_no → shown.state ≡ state → is_final state ≡ true →
+    answer s who moment pass (ask.Claim name claim) ≡ record { reply = reply.No (rule.ClaimOver task.no try_no state); entry = None }
+over_shown s who name moment pass bot task shown claim try_no state named found row same tried is final =
+    rw (named, found, row, ap is_final is ∙ final, same, tried, is) refl
+
+-- the row of a task's own run
+own_shown : (task : TaskRow) (attempt : Attempt) (b : ℕ) → task.attempt ≡ Some attempt → attempt.bot ≡ b → (as_claimed b attempt.claim task ≡ task) × (state_of_try task attempt.try_no ≡ task.state)
+own_shown task attempt b own by = (
+  ap (λ (z : Bool). cond z task (option_map_or (lost_row task) task.retried task)) (by_key b attempt.claim task.attempt (ap key_in own ∙ ap (λ (n : ℕ). let z : Key = Some (n, attempt.claim) in z) by)),
+  ap (λ (z : Option TaskRow). option_map_or (λ row. row.state) z task.state) named,
+)
+  where
+    named : if_named attempt.try_no task ≡ Some task
+    named =
+        ap (λ (c : Bool). when c task or_else option_and_then (if_lost attempt.try_no task) task.retried)
+        (or_right (attempt.try_no == 0) (ap (has_try attempt.try_no) own ∙ eq-eqb attempt.try_no attempt.try_no refl))
+
+-- and that of one that was tried again
+lost_shown : (task : TaskRow) (attempt : Attempt) (b : ℕ) (lost : Retried) → task.retried ≡ Some lost → lost.attempt ≡ attempt → attempt.bot ≡ b → attempt.try_no ≡ 1 → IfSome task.attempt (IsRightTry (Some lost)) →
+    (as_claimed b attempt.claim task ≡ lost_row task lost) × (if_named attempt.try_no task ≡ Some (lost_row task lost))
+lost_shown task attempt b lost is same by one tries = (
+  ap (λ (c : Bool). cond c task (option_map_or (lost_row task) task.retried task)) (other task.attempt tries) ∙ ap (λ (z : Option Retried). option_map_or (lost_row task) z task) is,
+  ap (λ (c : Bool). when c task or_else option_and_then (if_lost attempt.try_no task) task.retried) (none task.attempt tries)
+      ∙ ap (λ (z : Option Retried). option_and_then (if_lost attempt.try_no task) z) is
+      ∙ ap (λ (c : Bool). when c (lost_row task lost)) (eq-eqb lost.attempt.try_no attempt.try_no (ap (λ (x : Attempt). x.try_no) same)),
+)
+  where
+    other : (z : Option Attempt) → IfSome z (IsRightTry (Some lost)) → option_map_or (is_claim b attempt.claim) z false ≡ false
+    other None h = refl
+    other (Some a) h = ap (λ (c : Bool). c && same_text a.claim attempt.claim) (ne_eqb a.bot b (λ e. h.1 (e ∙ sym by ∙ ap (λ (x : Attempt). x.bot) (sym same))))
+
+    none : (z : Option Attempt) → IfSome z (IsRightTry (Some lost)) → (attempt.try_no == 0 || has_try attempt.try_no z) ≡ false
+    none None h = rw one refl
+    none (Some a) h = rw (one, h.0) refl
+
 pub claim_over_law : ClaimIsOver
-claim_over_law settings log who name moment pass bot task attempt c h final =
-    let s : PoolState = replay (opening settings) log in
-    let o : IsSound s = sound_replay (opening settings) log (opening_sound settings) c in
-    rw (h.named, its_task s o name bot task attempt h, final, h.attempted) refl
+claim_over_law settings log who name moment pass bot task attempt c h final = by_run h.attempted
+  where
+    s : PoolState
+    s = replay (opening settings) log
+
+    o : IsSound s
+    o = sound_replay (opening settings) log (opening_sound settings) c
+
+    by_lost : (z : Option Retried) → task.retried ≡ z → option_map (λ (lost : Retried). lost.attempt) z ≡ Some attempt →
+        answer s who moment pass (ask.Claim name attempt.claim) ≡ record { reply = reply.No (rule.ClaimOver task.no attempt.try_no (state_of_try task attempt.try_no)); entry = None }
+    by_lost None is e = absurd (cc (e))
+    by_lost (Some lost) is e =
+        (let f : Found (is_task task.no) s.tasks task = find_is (is_task task.no) s.tasks task h.there in
+        let sound = task_is s o task f.among in
+        let first : lost.attempt.try_no ≡ 1 = (subst (λ (z : Option Retried). IfSome z (IsSoundRetried s task.request.task_slices)) is sound.retried).first in
+        let same : lost.attempt ≡ attempt = same_Some _ _ e in
+        let one : attempt.try_no ≡ 1 = ap (λ (x : Attempt). x.try_no) (sym same) ∙ first in
+        let two = lost_shown task attempt bot.no lost is same h.by_bot one (subst (λ (z : Option Retried). IfSome task.attempt (IsRightTry z)) is sound.tries) in
+        let died : state_of_try task attempt.try_no ≡ BotDied = ap (λ (z : Option TaskRow). option_map_or (λ row. row.state) z task.state) two.1 in
+        over_shown s who name moment pass bot task (lost_row task lost) attempt.claim attempt.try_no (state_of_try task attempt.try_no) h.named
+        (its_row s o name bot task attempt h) two.0 refl (ap (λ (x : Attempt). x.try_no) same) (sym died) final)
+
+    by_run : (task.attempt ≡ Some attempt) ⊎ (option_map (λ (lost : Retried). lost.attempt) task.retried ≡ Some attempt) →
+        answer s who moment pass (ask.Claim name attempt.claim) ≡ record { reply = reply.No (rule.ClaimOver task.no attempt.try_no (state_of_try task attempt.try_no)); entry = None }
+    by_run (inl own) =
+        (let two = own_shown task attempt bot.no own h.by_bot in
+        over_shown s who name moment pass bot task task attempt.claim attempt.try_no (state_of_try task attempt.try_no) h.named
+        (its_row s o name bot task attempt h) two.0 refl (ap (λ (z : Option Attempt). option_map_or (λ (a : Attempt). a.try_no) z 0) own) (sym two.1) final)
+    by_run (inr lost) = by_lost task.retried refl lost
 
 -- a handshake of the session
 pub handshake_law : HandshakeAgain

@@ -19,11 +19,11 @@ use Rattle.swarm_model.specs.declared.task_row.TaskRow.{TaskRow}
 use Rattle.swarm_model.specs.declared.bot_row.BotRow.{BotRow}
 use Rattle.swarm_model.specs.declared.pool_state.PoolState.{PoolState}
 use Rattle.swarm_model.specs.Finding.{is_final, is_task, task_of, bot_named}
-use Rattle.swarm_model.specs.Answers.{answer, claimed, entry_at, or_refuse, updates, refusal, file_missing, chunk_rule, store_full, unplaced_chunk, is_first_report, report, report_again, report_running, report_on, not_claimant, is_kept, named_task}
+use Rattle.swarm_model.specs.Answers.{answer, claimed, as_claimed, entry_at, or_refuse, updates, refusal, file_missing, chunk_rule, store_full, unplaced_chunk, is_first_report, report, report_again, report_running, report_on, not_claimant, is_kept, named_task}
 use Rattle.swarm_model.specs.Blobs.{missing_file}
 use Rattle.swarm_model.specs.Effects.{fresh_chunk}
 use Rattle.swarm_model.specs.Views.{files_of}
-use Rattle.swarm_model.specs.Soundness.{IsSound, claim_key, sent_key}
+use Rattle.swarm_model.specs.Soundness.{IsSound, HasKey, sent_key}
 use Rattle.swarm_model.specs.Reuse.{sent}
 use Rattle.swarm_model.specs.MachineState.{MachineState, SaysContact, ActsOnce}
 use Rattle.pool_laws.proofs.Answering.{by_when, by_map}
@@ -59,12 +59,13 @@ module _ (kept : MachineState) (o : IsSound kept.pool) (who : List ℕ) (m pass 
           subst (λ (w : List ℕ). sent s w request.request_uuid ≡ Some task) g.by
           (subst (λ (u : List ℕ). sent s task.creator u ≡ Some task) g.under (sent_found s o task f.among (ap is_empty g.under ∙ g.not_empty)))
 
-  claim_once : (name id : List ℕ) (bot : BotRow) (task : TaskRow) → bot_named s name ≡ Some bot → task_of s task.no ≡ Some task → claim_key task ≡ Some (bot.no, id) →
+  claim_once : (name id : List ℕ) (bot : BotRow) (task : TaskRow) → bot_named s name ≡ Some bot → task_of s task.no ≡ Some task → HasKey task (bot.no, id) →
       SaysContact bot (answer s who m pass (ask.Claim name id)).entry
   claim_once name id bot task named there key =
       let f : Found (is_task task.no) s.tasks task = find_is (is_task task.no) s.tasks task there in
+      let shown : TaskRow = as_claimed bot.no id task in
       let found : claimed s bot.no id ≡ Some task = claim_found s o bot.no id task f.among key in
-      rw (named, found) (cond_both (is_final task.state) _ _ (Says bot) (λ t. tt) (λ t. refl))
+      rw (named, found) (cond_both (is_final shown.state) _ _ (Says bot) (λ t. tt) (λ t. refl))
 
   handshake_once : (name session : List ℕ) (dims : BotDims) (q : List ℕ) (bot : BotRow) → bot_named s name ≡ Some bot → bot.session ≡ session →
       SaysContact bot (answer s who m pass (ask.Handshake name session dims q)).entry

@@ -1,5 +1,5 @@
 -- Rows by their numbers, and what holds of them before and after an entry.
-use Rattle.std.proofs.Common.{◌≡◌, ℕ, ◌≤◌, ◌==◌, ◌&&◌, Bool, true, false, cond, List, [], ◌∷◌, ◌++◌, ◌⊎◌, inl, inr, map, length, length-append, refl, sym, ap, ◌∙◌, subst, arith, Option, Some, None, is_some, is_none, IfSome, IsTrue, IsSomeAnd, eqb-true, filter}
+use Rattle.std.proofs.Common.{◌≡◌, ℕ, ◌≤◌, ◌==◌, ◌&&◌, not, Bool, true, false, cond, List, [], ◌∷◌, ◌++◌, ◌⊎◌, inl, inr, map, length, length-append, refl, sym, ap, ◌∙◌, subst, arith, Option, Some, None, is_some, is_none, IfSome, IsTrue, IsSomeAnd, eqb-true, filter}
 use Rattle.std.specs.Prelude.{if◌then◌else◌, unwrap_or}
 use Rattle.std.specs.List.{All, fold}
 use Rattle.std.specs.Option.{option_map, option_map_or, option_and_then}
@@ -24,10 +24,10 @@ use Rattle.swarm_model.specs.declared.entry.Outcome.TheVariants as outcome
 use Rattle.swarm_model.specs.declared.request.Request.TheVariants as ask
 use Rattle.swarm_model.specs.Finding.{is_state, is_final, is_bot, task_of, bot_of}
 use Rattle.swarm_model.specs.Fits.{fits, fits_chunk, fits_message, is_name}
-use Rattle.swarm_model.specs.Slices.{foremost, goes_before, waits_for, takes_slice, current_slice}
+use Rattle.swarm_model.specs.Slices.{foremost, goes_before, is_kept_from, waits_for, takes_slice, current_slice}
 use Rattle.swarm_model.specs.Deadlines.{next_of}
 use Rattle.swarm_model.specs.Entries.{poll_of, event_of, Asked}
-use Rattle.swarm_model.specs.Effects.{no_of_task, no_of_bot, task_after, added_tasks, bot_after, added_bots, task_at, bot_at, expired_slice, lost_run, lost_run_at, canceled, kill_marked, started_run, lengthened, ended_run, ended_run_at, fresh_chunk, chunk_at, attempt_of, if_some, run_of_bot, runs_task, silent_bot, dead_bot, session_row, polled, assigned_bot, heard, idle_bot, event_effect, terminated}
+use Rattle.swarm_model.specs.Effects.{no_of_task, no_of_bot, task_after, added_tasks, bot_after, added_bots, task_at, bot_at, expired_slice, is_tried_again, retried_run, died_run, lost_run, lost_run_at, canceled, kill_marked, started_run, lengthened, ended_run, ended_run_at, fresh_chunk, chunk_at, attempt_of, if_some, run_of_bot, runs_task, silent_bot, dead_bot, session_row, polled, assigned_bot, heard, idle_bot, event_effect, terminated}
 use Rattle.swarm_model.specs.Soundness.{IsSound, IsSoundTask, IsSoundBot, Agree, runner}
 use Rattle.pool_laws.proofs.Alike.{same_is}
 use Rattle.pool_laws.proofs.Lists.{Among, here, later, Found, each, all, each_append, each_map, find_is, filter_is, number_within, number_tells, number_finds}
@@ -97,14 +97,25 @@ foremost_is xs r e = by_start (fold_is None xs r e)
     by_start (inr a) = a
 
 -- the task that a claim gets is one that waits for the bot
-pub claim_gets : (s : PoolState) (b t : ℕ) (id : List ℕ) (f : FindsClaim s b t id) → Found (waits_for f.bot.dims) s.tasks f.task
-claim_gets s b t id f = filter_is (waits_for f.bot.dims) s.tasks f.task (foremost_is (filter (waits_for f.bot.dims) s.tasks) f.task f.gets)
+pub claim_gets : (s : PoolState) (b t : ℕ) (id : List ℕ) (f : FindsClaim s b t id) → Found (waits_for f.bot.no f.bot.dims) s.tasks f.task
+claim_gets s b t id f = filter_is (waits_for f.bot.no f.bot.dims) s.tasks f.task (foremost_is (filter (waits_for f.bot.no f.bot.dims) s.tasks) f.task f.gets)
 
 -- that has the number
 pub claim_waits : (s : PoolState) (b t : ℕ) (id : List ℕ) → FindsClaim s b t id → HasTask s t waits
 claim_waits s b t id f =
     let g = claim_gets s b t id f in
-    record { task = f.task; among = g.among; named = f.task_named; passes = (and_parts (waits f.task) (takes_slice f.bot.dims (current_slice f.task)) g.passes).0 }
+    record { task = f.task; among = g.among; named = f.task_named; passes = (and_parts (waits f.task) (takes_slice f.bot.dims (current_slice f.task) && not (is_kept_from f.bot.no f.task)) g.passes).0 }
+
+-- and is not kept from the bot
+pub claim_not_kept : (s : PoolState) (b t : ℕ) (id : List ℕ) (f : FindsClaim s b t id) (x : TaskRow) → f.task ≡ x → is_kept_from b x ≡ false
+claim_not_kept s b t id f x own =
+    let g = claim_gets s b t id f in
+    let parts = and_parts (takes_slice f.bot.dims (current_slice f.task)) (not (is_kept_from f.bot.no f.task)) (and_parts (waits f.task) _ g.passes).1 in
+    not_false (is_kept_from b x) (subst (λ (n : ℕ). not (is_kept_from n x) ≡ true) f.named (subst (λ (y : TaskRow). not (is_kept_from f.bot.no y) ≡ true) own parts.1))
+  where
+    not_false : (c : Bool) → not c ≡ true → c ≡ false
+    not_false false e = refl
+    not_false true e = absurd (cc (e))
 
 -- the bot was heard, and is done with its task
 abbrev pub relieved : ℕ → BotRow → BotRow
@@ -213,12 +224,20 @@ report_goes s o b t chunk last f x a n =
     let there : attempt_of s t ≡ Some f.attempt = ap (option_and_then (λ (y : TaskRow). y.attempt)) (find_task s o x t a (eqb-true x.no t n)) ∙ has in
     subst (λ (r : Option Attempt). IfSome (fresh_chunk r chunk) (λ c. GoesOn c x)) (sym there) (fresh_goes f.attempt chunk x has f.fits)
 
+-- a run that is lost is tried again, or ends for good
+pub lost_is : (P : TaskRow → Type 0) (retries m : ℕ) (x : TaskRow) → (is_tried_again retries x ≡ true → P (retried_run m x)) → (is_tried_again retries x ≡ false → P (died_run m x)) → P (lost_run retries m x)
+lost_is P retries m x again died = cond_both (is_tried_again retries x) (retried_run m x) (died_run m x) P again died
+
+-- a task that is lost keeps its number
+pub lost_no : (retries m : ℕ) (x : TaskRow) → (lost_run retries m x).no ≡ x.no
+lost_no retries m x = lost_is (λ (y : TaskRow). y.no ≡ x.no) retries m x (λ t. refl) (λ t. refl)
+
 -- what a fact of a task needs so that an entry keeps it
 pub record Stays (P : TaskRow → Type 0) (s : PoolState) (m : ℕ) (k : EntryKind) (x : TaskRow) : Type 0 where
   pub same : P x
   pub moves : waits x ≡ true → P (expired_slice m (next_of s x) x)
-  pub loses : runs x ≡ true → P (lost_run m x)
-  pub begins : (b t : ℕ) (id : List ℕ) → k ≡ kind.Claim b t id → FindsClaim s b t id → waits x ≡ true → P (started_run m b id x)
+  pub loses : runs x ≡ true → P (lost_run s.settings.retries m x)
+  pub begins : (b t : ℕ) (id : List ℕ) → k ≡ kind.Claim b t id → (found : FindsClaim s b t id) → waits x ≡ true → found.task ≡ x → P (started_run m b id x)
   pub cancels : waits x ≡ true → P (canceled m x)
   pub marks : runs x ≡ true → P (kill_marked x)
   pub grows : (chunk : Chunk) → GoesOn chunk x → runs x ≡ true → P (lengthened chunk x)
@@ -226,10 +245,10 @@ pub record Stays (P : TaskRow → Type 0) (s : PoolState) (m : ℕ) (k : EntryKi
 
 module _ (P : TaskRow → Type 0) (s : PoolState) (m : ℕ) (o : IsSound s) (x : TaskRow) (a : Among x s.tasks) where
   -- a task of a bot that comes anew is lost
-  pub lost_by : P x → (runs x ≡ true → P (lost_run m x)) → (b : ℕ) (run : Option ℕ) → run_of_bot s b ≡ run → P (if_some (lost_run_at m) run x)
+  pub lost_by : P x → (runs x ≡ true → P (lost_run s.settings.retries m x)) → (b : ℕ) (run : Option ℕ) → run_of_bot s b ≡ run → P (if_some (lost_run_at s.settings.retries m) run x)
   lost_by same loses b None e = same
   lost_by same loses b (Some t) e =
-      cond_both (x.no == t) (lost_run m x) x P
+      cond_both (x.no == t) (lost_run s.settings.retries m x) x P
       (λ n. let f : HasRun s b t = run_is s b t e in loses (has_runner x f.bot.no ((agree s o f.bot f.among x a).0 (f.task ∙ ap (λ j. Some j) (sym (eqb-true x.no t n))))))
       (λ n. same)
 
@@ -246,12 +265,14 @@ module _ (P : TaskRow → Type 0) (s : PoolState) (m : ℕ) (o : IsSound s) (x :
       cond_both (x.no == t) (expired_slice m to x) x P
       (λ n. subst (λ (z : Outcome). P (expired_slice m z x)) (sym (goes_to s o t to f x a n)) (p.moves (row_is s o t waits f.waiting x a n)))
       (λ n. p.same)
-  task_by (kind.Silence t) f p = cond_both (x.no == t) (lost_run m x) x P (λ n. p.loses (row_is s o t runs f x a n)) (λ n. p.same)
+  task_by (kind.Silence t) f p = cond_both (x.no == t) (lost_run s.settings.retries m x) x P (λ n. p.loses (row_is s o t runs f x a n)) (λ n. p.same)
   task_by (kind.Cancel t) f p = cond_both (x.no == t) (canceled m x) x P (λ n. p.cancels (row_is s o t waits f x a n)) (λ n. p.same)
   task_by (kind.Kill t) f p = cond_both (x.no == t) (kill_marked x) x P (λ n. p.marks (row_is s o t runs f x a n)) (λ n. p.same)
   task_by (kind.Handshake b id session dims q) f p = lost_by p.same p.loses b (run_of_bot s b) refl
   task_by (kind.Claim b t id) f p =
-      cond_both (x.no == t) (started_run m b id x) x P (λ n. p.begins b t id refl f (row_is s o t waits (claim_waits s b t id f) x a n)) (λ n. p.same)
+      cond_both (x.no == t) (started_run m b id x) x P
+      (λ n. p.begins b t id refl f (row_is s o t waits (claim_waits s b t id f) x a n) (one_task s o f.task x (claim_gets s b t id f).among a (f.task_named ∙ sym (eqb-true x.no t n))))
+      (λ n. p.same)
   task_by (kind.Update b t try_no chunk last) f p =
       (let fresh : Option Chunk = fresh_chunk (attempt_of s t) chunk in
       subst P (sym (update_task s m b t try_no chunk last x))

@@ -3,7 +3,7 @@ use Rattle.std.proofs.Common.{◌≡◌, ◌↔◌, ℕ, ◌≤◌, ◌==◌, Li
 use Rattle.std.specs.List.{All}
 use Rattle.std.specs.Option.{option_map, option_map_or, option_and_then}
 use Rattle.std.proofs.lemmas.Bool.{cond_both, eq-eqb, eqb-false}
-use Rattle.std.proofs.lemmas.Option.{same_Some}
+use Rattle.std.proofs.lemmas.Option.{IfSome_then, same_Some}
 use Rattle.dimensions.specs.declared.bot_dims.BotDims.{BotDims}
 use Rattle.swarm_model.specs.declared.attempt.Attempt.{Attempt}
 use Rattle.swarm_model.specs.declared.attempt.Chunk.{Chunk}
@@ -27,7 +27,7 @@ use Rattle.swarm_model.specs.Soundness.{IsSound, Agree, runner}
 use Rattle.pool_laws.proofs.Lists.{Among, each_one, find_none}
 use Rattle.pool_laws.proofs.Preconditions.{Finds, FindsUpdate, IsOld, IsNewcomer, waits}
 use Rattle.pool_laws.proofs.EntryPreconditions.{finds}
-use Rattle.pool_laws.proofs.Rows.{task_is, bot_is, agree, one_task, find_bot, relieved, reported_task, reporting_bot, update_task, update_bot, goes_on_runs, row_is, goes_to, claim_waits, HasRun, run_is, all_tasks, all_bots}
+use Rattle.pool_laws.proofs.Rows.{task_is, bot_is, agree, one_task, find_bot, relieved, reported_task, reporting_bot, update_task, update_bot, goes_on_runs, row_is, goes_to, claim_waits, HasRun, run_is, all_tasks, all_bots, lost_no}
 use Rattle.pool_laws.proofs.Tasks.{runner_waits, runner_lost, runner_marked, runner_longer, runner_finished, runner_moved, added_idle}
 
 -- the fact on plain values: a bot's task, a task's number, the task's runner, the bot's number
@@ -147,7 +147,7 @@ module _ (s : PoolState) (o : IsSound s) where
       no_moved (outcome.Ended state) = refl
 
   shaken_agree : (m b : ℕ) (id session : List ℕ) (dims : BotDims) (q : List ℕ) (x : BotRow) → Among x s.bots → (y : TaskRow) → Among y s.tasks → (r : Option ℕ) → run_of_bot s b ≡ r →
-      Agree (bot_at b (λ old. session_row m b id session dims q) x) (if_some (lost_run_at m) r y)
+      Agree (bot_at b (λ old. session_row m b id session dims q) x) (if_some (lost_run_at s.settings.retries m) r y)
   shaken_agree m b id session dims q x a y c r e = by_run r e
     where
       shaken : BotRow → BotRow
@@ -159,14 +159,14 @@ module _ (s : PoolState) (o : IsSound s) where
       no_is : (bot_at b shaken x).no ≡ x.no
       no_is = cond_both (x.no == b) (shaken x) x (λ (z : BotRow). z.no ≡ x.no) (λ n. sym (eqb-true x.no b n)) (λ n. refl)
 
-      by_run : (run : Option ℕ) → run_of_bot s b ≡ run → Agree (bot_at b shaken x) (if_some (lost_run_at m) run y)
+      by_run : (run : Option ℕ) → run_of_bot s b ≡ run → Agree (bot_at b shaken x) (if_some (lost_run_at s.settings.retries m) run y)
       by_run None g =
           agree_by (bot_at b shaken x) y (cond (x.no == b) None x.task) (runner y) y.no x.no (task_of_at b shaken x) refl refl no_is
           (rests b x.no y.no x.task (runner y) (x.no == b) refl (agree s o x a y c) (λ p. its_run p ∙ g))
       by_run (Some t) g =
           (let f : HasRun s b t = run_is s b t g in
-          agree_by (bot_at b shaken x) (task_at t (lost_run m) y) (cond (x.no == b) None x.task) (cond (y.no == t) None (runner y)) y.no x.no (task_of_at b shaken x) (task_no_at t (lost_run m) y refl)
-          (runner_at t (lost_run m) y ∙ ap (λ z. cond (y.no == t) z (runner y)) (runner_lost m y)) no_is
+          agree_by (bot_at b shaken x) (task_at t (lost_run s.settings.retries m) y) (cond (x.no == b) None x.task) (cond (y.no == t) None (runner y)) y.no x.no (task_of_at b shaken x) (task_no_at t (lost_run s.settings.retries m) y (lost_no s.settings.retries m y))
+          (runner_at t (lost_run s.settings.retries m) y ∙ ap (λ z. cond (y.no == t) z (runner y)) (runner_lost s.settings.retries m y)) no_is
           (left b t x.no y.no x.task (runner y) (x.no == b) (y.no == t) refl refl (agree s o x a y c) (λ p. its_run p ∙ g)
           (λ p. (agree s o f.bot f.among y c).0 (f.task ∙ ap (λ n. Some n) (sym p)) ∙ ap (λ n. Some n) f.named)))
 
@@ -218,8 +218,8 @@ module _ (s : PoolState) (o : IsSound s) where
       (λ n. subst (λ (z : Outcome). Agree x (expired_slice m z y)) (sym (goes_to s o t to f y c n)) (moved_agree m x y (row_is s o t waits f.waiting y c n) (agree s o x a y c)))
       (λ n. agree s o x a y c)
   row_agree m (kind.Silence t) f x a y c =
-      agree_by (cond (runs_task t x) (silent_bot x) x) (task_at t (lost_run m) y) (cond (runs_task t x) None x.task) (cond (y.no == t) None (runner y)) y.no x.no (silent_bot_task (runs_task t x) x)
-      (task_no_at t (lost_run m) y refl) (runner_at t (lost_run m) y ∙ ap (λ z. cond (y.no == t) z (runner y)) (runner_lost m y)) (cond_both (runs_task t x) (silent_bot x) x (λ (z : BotRow). z.no ≡ x.no) (λ n. refl) (λ n. refl))
+      agree_by (cond (runs_task t x) (silent_bot x) x) (task_at t (lost_run s.settings.retries m) y) (cond (runs_task t x) None x.task) (cond (y.no == t) None (runner y)) y.no x.no (silent_bot_task (runs_task t x) x)
+      (task_no_at t (lost_run s.settings.retries m) y (lost_no s.settings.retries m y)) (runner_at t (lost_run s.settings.retries m) y ∙ ap (λ z. cond (y.no == t) z (runner y)) (runner_lost s.settings.retries m y)) (cond_both (runs_task t x) (silent_bot x) x (λ (z : BotRow). z.no ≡ x.no) (λ n. refl) (λ n. refl))
       (silences t x.no y.no x.task (runner y) (runs_task t x) (y.no == t) refl refl (agree s o x a y c))
   row_agree m (kind.Dead b) f x a y c = cond_both (x.no == b) (dead_bot x) x (λ (z : BotRow). Agree z y) (λ n. agree s o x a y c) (λ n. agree s o x a y c)
   row_agree m (kind.Cancel t) f x a y c =
@@ -245,7 +245,7 @@ module _ (s : PoolState) (o : IsSound s) where
   task_agree : (m : ℕ) (k : EntryKind) → Finds s k → (x : BotRow) → Among x s.bots → (y : TaskRow) → Among y (added_tasks m k) → Agree (bot_after m k x) y
   task_agree m (kind.New t who request state slice from) f x a y c =
       each_one (Agree x) (new_row m t who request state slice from) (
-        λ e. (let low = within x.task (length s.tasks) t (bot_is s o x a).has_task e in let n = f.next in absurd (omega (arith, low, n))),
+        λ e. (let low = within x.task (length s.tasks) t (IfSome_then x.task (bot_is s o x a).has_task (λ k is. is.1)) e in let n = f.next in absurd (omega (arith, low, n))),
         λ e. absurd (cc (added_idle s m (kind.New t who request state slice from) f y c, each_one (λ (z : TaskRow). runner z ≡ Some x.no) (new_row m t who request state slice from) e y c)),
       ) y c
   task_agree m k f x a y c = elim c [ ]
@@ -258,7 +258,7 @@ module _ (s : PoolState) (o : IsSound s) where
       nobody (inl new) g e = let low = within (runner y) (length s.bots) b (task_is s o y c).has_bot e in let n = new.next in absurd (omega (arith, low, n))
       nobody (inr old) g e = absurd (cc (find_bot s o old.bot b old.among old.named, g))
 
-      by_old : (r : Option BotRow) → bot_of s b ≡ r → Among x (option_map_or (λ old. []) r (session_row m b id session dims q ∷ [])) → Agree x (if_some (lost_run_at m) (option_and_then (λ (z : BotRow). z.task) r) y)
+      by_old : (r : Option BotRow) → bot_of s b ≡ r → Among x (option_map_or (λ old. []) r (session_row m b id session dims q ∷ [])) → Agree x (if_some (lost_run_at s.settings.retries m) (option_and_then (λ (z : BotRow). z.task) r) y)
       by_old None g d = each_one (λ (z : BotRow). Agree z y) (session_row m b id session dims q) (λ e. absurd (cc (e)), λ e. absurd (nobody f g e)) x d
       by_old (Some old) g d = elim d [ ]
   bot_agree m k f x a y c = elim a [ ]

@@ -107,7 +107,7 @@ tally_counts_verdicts settings log c =
     let o : IsSound s = sound_always settings log c in
     let rows : length s.tasks ≡ count_by is_new log = counted (opening settings) log ∙ omega arith in
     let names : map no_of_task s.tasks ≡ numbers 1 (count_by is_new log) = numbers_are 1 s.tasks o.tasks_numbered ∙ ap (numbers 1) rows in
-    map_same (count_in s) (verdicts_in log)
-    (λ state. count_through (has_verdict log state) (has_state state) s.tasks
+    map_same (count_in s) (verdicts_in settings log)
+    (λ state. count_through (has_verdict settings log state) (has_state state) s.tasks
     (λ task a. ap (λ q. is_state q state) (sym (verdict_is_state settings log task.no task c (find_task s o task task.no a refl))))
-    ∙ ap (count_by (has_verdict log state)) names) states
+    ∙ ap (count_by (has_verdict settings log state)) names) states

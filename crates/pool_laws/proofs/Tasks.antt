@@ -1,8 +1,9 @@
 -- A task's row stays sound.
-use Rattle.std.proofs.Common.{◌≡◌, ℕ, ◌+◌, ◌≤◌, ◌==◌, ◌||◌, true, false, List, [], length, refl, sym, ap, ◌∙◌, subst, arith, Option, Some, None, IfSome, is_some, is_none}
+use Rattle.std.proofs.Common.{◌≡◌, ℕ, ◌+◌, ◌≤◌, ◌==◌, ◌&&◌, ◌||◌, not, Bool, true, false, cond, eqb-true, List, [], length, refl, sym, ap, ◌∙◌, subst, arith, Option, Some, None, IfSome, is_some, is_none}
 use Rattle.std.specs.List.{All}
-use Rattle.std.specs.Option.{option_map, option_map_or}
-use Rattle.std.proofs.lemmas.Bool.{cond_both, and_parts}
+use Rattle.std.specs.Prelude.{slice_get}
+use Rattle.std.specs.Option.{option_map, option_map_or, option_and_then}
+use Rattle.std.proofs.lemmas.Bool.{cond_both, and_parts, eqb-false}
 use Rattle.std.proofs.lemmas.Option.{IfSome_then, same_Some}
 use Rattle.task_props.proofs.Checked.{slices_counted}
 use Rattle.swarm_model.specs.declared.task_state.TaskState.{TaskState}
@@ -10,6 +11,9 @@ use Rattle.swarm_model.specs.declared.task_state.TaskState.TheVariants.{Pending,
 use Rattle.swarm_model.specs.declared.attempt.Attempt.{Attempt}
 use Rattle.swarm_model.specs.declared.attempt.Chunk.{Chunk}
 use Rattle.swarm_model.specs.declared.attempt.Last.{Last}
+use Rattle.swarm_model.specs.declared.retried.Retried.{Retried}
+use Rattle.swarm_model.specs.declared.pool_settings.PoolSettings.{PoolSettings}
+use Rattle.task_props.specs.declared.slice.Slice.{Slice}
 use Rattle.swarm_model.specs.declared.task_row.TaskRow.{TaskRow}
 use Rattle.swarm_model.specs.declared.pool_state.PoolState.{PoolState}
 use Rattle.swarm_model.specs.declared.entry.Entry.{Entry}
@@ -17,16 +21,17 @@ use Rattle.swarm_model.specs.declared.entry.EntryKind.{EntryKind}
 use Rattle.swarm_model.specs.declared.entry.EntryKind.TheVariants as kind
 use Rattle.swarm_model.specs.declared.entry.Outcome.TheVariants as outcome
 use Rattle.swarm_model.specs.Finding.{is_state, is_final}
-use Rattle.swarm_model.specs.Slices.{admit}
+use Rattle.swarm_model.specs.Slices.{admit, current_slice, is_kept_from}
 use Rattle.swarm_model.specs.Deadlines.{next_of, last_state}
-use Rattle.swarm_model.specs.Effects.{no_of_bot, added_tasks, added_bots, bot_after, expired_slice, lost_run, canceled, killed, kill_marked, started_run, with_chunk, lengthened, with_last_report, reported, ended_run, end_state, new_row, end_at, after}
+use Rattle.swarm_model.specs.Effects.{no_of_bot, added_tasks, added_bots, bot_after, expired_slice, is_tried_again, is_first_run, is_idempotent, retried_from, retried_run, died_run, next_try, lost_run, canceled, killed, kill_marked, started_run, with_chunk, lengthened, with_last_report, reported, ended_run, end_state, new_row, end_at, after}
 use Rattle.swarm_model.specs.History.{MayFollow}
-use Rattle.swarm_model.specs.Soundness.{IsSound, IsSoundTask, IsSoundOutput, runner}
+use Rattle.swarm_model.specs.Soundness.{IsSound, IsSoundTask, IsSoundOutput, IsSoundRetried, IsRightTry, runner}
 use Rattle.pool_laws.proofs.Lists.{Among, each_one, number_within}
 use Rattle.pool_laws.proofs.Outputs.{IsFitChunk, fit_chunk, output_begun, output_longer, output_killed, output_closed, output_map}
-use Rattle.pool_laws.proofs.Preconditions.{Finds, FindsClaim, waits}
+use Rattle.pool_laws.proofs.Preconditions.{Finds, FindsClaim, waits, runs}
 use Rattle.pool_laws.proofs.EntryPreconditions.{finds, admit_within}
-use Rattle.pool_laws.proofs.Rows.{GoesOn, task_by, task_is, all_tasks, no_fewer, runner_in, fits_in}
+use Rattle.pool_laws.proofs.Rows.{GoesOn, task_by, task_is, all_tasks, no_fewer, runner_in, fits_in, lost_is, claim_not_kept}
+use Rattle.pool_laws.proofs.Bots.{settings_same}
 
 -- states
 
@@ -71,8 +76,9 @@ runner_final Running attempt f = absurd (cc (f))
 runner_final state attempt f = refl
 
 -- nor what is lost
-pub runner_lost : (m : ℕ) (x : TaskRow) → runner (lost_run m x) ≡ None
-runner_lost m x = runner_final (end_state x.attempt BotDied) x.attempt (end_final x.attempt BotDied refl)
+pub runner_lost : (retries m : ℕ) (x : TaskRow) → runner (lost_run retries m x) ≡ None
+runner_lost retries m x =
+    lost_is (λ (y : TaskRow). runner y ≡ None) retries m x (λ t. refl) (λ t. runner_final (end_state x.attempt BotDied) x.attempt (end_final x.attempt BotDied refl))
 
 -- nor what a report ended
 pub runner_finished : (m : ℕ) (chunk : Option Chunk) (last : Last) (x : TaskRow) → runner (ended_run m chunk last x) ≡ None
@@ -115,6 +121,11 @@ waits_fits : (state : TaskState) (attempt : Option Attempt) (ended : Option ℕ)
 waits_fits Pending attempt ended p h = (and_parts (is_none attempt) (is_none ended) h).1
 waits_fits state attempt ended p h = absurd (cc (p))
 
+-- what runs has no end
+runs_fits : (state : TaskState) (attempt : Option Attempt) (ended : Option ℕ) → is_state state Running ≡ true → fits_in state attempt ended ≡ true → (is_none (option_and_then (λ (a : Attempt). a.last) attempt) ≡ true) × (is_none ended ≡ true)
+runs_fits Running attempt ended r h = and_parts _ _ (and_parts (is_some attempt) _ h).1
+runs_fits state attempt ended r h = absurd (cc (r))
+
 -- a run that is to stop is still one
 marked_fits : (state : TaskState) (attempt : Option Attempt) (ended : Option ℕ) → fits_in state attempt ended ≡ true → fits_in state (option_map killed attempt) ended ≡ true
 marked_fits state None ended h = h
@@ -146,6 +157,57 @@ longer_output : (chunk : Chunk) (r : Option Attempt) (attempt : Attempt) → r �
 longer_output chunk None attempt has begins fit h = tt
 longer_output chunk (Some a) attempt has begins fit h = output_longer a chunk h (begins ∙ ap (λ (z : Attempt). z.length) (sym (same_Some _ _ has))) fit
 
+-- a change of a run that keeps its try and its bot
+tries_map : (change : Attempt → Attempt) → ((a : Attempt) → (change a).try_no ≡ a.try_no) → ((a : Attempt) → (change a).bot ≡ a.bot) → (r : Option Retried) (o : Option Attempt) → IfSome o (IsRightTry r) →
+    IfSome (option_map change o) (IsRightTry r)
+tries_map change e g r None h = tt
+tries_map change e g None (Some a) h = e a ∙ h
+tries_map change e g (Some lost) (Some a) h = (e a ∙ h.0, λ same. h.1 (sym (g a) ∙ same))
+
+-- the run that a bot begins is the task's first, or its second where one was tried again, by another bot
+begun_try : (m b : ℕ) (id : List ℕ) (x : TaskRow) → is_kept_from b x ≡ false → IsRightTry x.retried (record { try_no = next_try x; bot = b; claim = id; begun = m; kill = false; chunks = []; length = 0; last = None; last_chunk = None })
+begun_try m b id x kept = by_retried x.retried kept
+  where
+    by_retried : (r : Option Retried) → option_map_or (λ lost. lost.attempt.bot == b) r false ≡ false →
+        IsRightTry r (record { try_no = cond (is_some r) 2 1; bot = b; claim = id; begun = m; kill = false; chunks = []; length = 0; last = None; last_chunk = None })
+    by_retried None k = refl
+    by_retried (Some lost) k = (refl, λ same. eqb-false lost.attempt.bot b k (sym same))
+
+-- what a run shows that is tried again
+record TriedAgain (retries : ℕ) (x : TaskRow) (attempt : Attempt) : Type 0 where
+  setting : retries ≡ 1
+  first : attempt.try_no ≡ 1
+  not_killed : attempt.kill ≡ false
+  slice : Slice
+  is_slice : slice_get x.request.task_slices x.slice ≡ Some slice
+  idempotent : slice.properties.idempotent ≡ true
+
+tried_again : (retries : ℕ) (x : TaskRow) (attempt : Attempt) → x.attempt ≡ Some attempt → is_tried_again retries x ≡ true → TriedAgain retries x attempt
+tried_again retries x attempt has t = by_slice (current_slice x) refl both.1
+  where
+    parts : ((retries == 1) ≡ true) × ((is_first_run x.attempt && is_idempotent x) ≡ true)
+    parts = and_parts (retries == 1) (is_first_run x.attempt && is_idempotent x) t
+
+    both : (is_first_run x.attempt ≡ true) × (is_idempotent x ≡ true)
+    both = and_parts (is_first_run x.attempt) (is_idempotent x) parts.1
+
+    run : ((attempt.try_no == 1) ≡ true) × (not attempt.kill ≡ true)
+    run = and_parts (attempt.try_no == 1) (not attempt.kill) (sym (ap is_first_run has) ∙ both.0)
+
+    not_true : (b : Bool) → not b ≡ true → b ≡ false
+    not_true false e = refl
+    not_true true e = absurd (cc (e))
+
+    by_slice : (r : Option Slice) → current_slice x ≡ r → option_map_or (λ (slice : Slice). slice.properties.idempotent) r false ≡ true → TriedAgain retries x attempt
+    by_slice None g e = absurd (cc (e))
+    by_slice (Some slice) g e =
+        record { setting = eqb-true retries 1 parts.0; first = eqb-true attempt.try_no 1 run.0; not_killed = not_true attempt.kill run.1; slice = slice; is_slice = g; idempotent = e }
+
+-- no last update
+last_none : (r : Option Last) → is_none r ≡ true → r ≡ None
+last_none None e = refl
+last_none (Some last) e = absurd (cc (e))
+
 -- each row, and each row that is added
 
 module _ (s : PoolState) (e : Entry) (o : IsSound s) (follows : MayFollow s e) where
@@ -166,6 +228,24 @@ module _ (s : PoolState) (e : Entry) (o : IsSound s) (follows : MayFollow s e) w
   still_bot : (r : Option ℕ) → IfSome r (λ b. b ≤ length s.bots) → IfSome r (λ b. b ≤ length (after s e).bots)
   still_bot r h = IfSome_then r h (λ b low. let l = more_bots in omega (arith, l, low))
 
+  -- a run that was tried again stays so
+  still_retried : (slices : List Slice) (r : Option Retried) → IfSome r (IsSoundRetried s slices) → IfSome r (IsSoundRetried (after s e) slices)
+  still_retried slices None h = tt
+  still_retried slices (Some lost) h =
+      let was = h.over in
+      let before = may in
+      record {
+        setting = ap (λ (settings : PoolSettings). settings.retries) (settings_same s e.moment e.kind) ∙ h.setting;
+        slice = h.slice;
+        is_slice = h.is_slice;
+        idempotent = h.idempotent;
+        first = h.first;
+        not_killed = h.not_killed;
+        no_last = h.no_last;
+        output = h.output;
+        over = omega (arith, before, was);
+      }
+
   -- a row that moved
   moved_sound : (x : TaskRow) → IsSoundTask s x → waits x ≡ true → (r : Option ℕ) → admit s x.request.task_slices (x.slice + 1) ≡ r →
       IsSoundTask (after s e) (expired_slice e.moment (option_map_or outcome.Slice r (outcome.Ended (last_state x))) x)
@@ -178,6 +258,8 @@ module _ (s : PoolState) (e : Entry) (o : IsSound s) (follows : MayFollow s e) w
         state = sound.state;
         has_bot = still_bot (runner x) sound.has_bot;
         output = sound.output;
+        retried = still_retried x.request.task_slices x.retried sound.retried;
+        tries = sound.tries;
       }
   moved_sound x sound w None h =
       let many = (slices_counted x.request sound.checked).0 in
@@ -190,11 +272,40 @@ module _ (s : PoolState) (e : Entry) (o : IsSound s) (follows : MayFollow s e) w
         state = final_fits (last_state x) x.attempt (Some e.moment) (last_final x) refl;
         has_bot = no_bot (runner_in (last_state x) x.attempt) (runner_final (last_state x) x.attempt (last_final x));
         output = sound.output;
+        retried = still_retried x.request.task_slices x.retried sound.retried;
+        tries = sound.tries;
       }
 
-  -- that was lost
-  lost_sound : (x : TaskRow) → IsSoundTask s x → IsSoundTask (after s e) (lost_run e.moment x)
-  lost_sound x sound =
+  -- that is tried again
+  again_sound : (x : TaskRow) → IsSoundTask s x → runs x ≡ true → is_tried_again s.settings.retries x ≡ true → (r : Option Attempt) → x.attempt ≡ r → IsSoundTask (after s e) (retried_run e.moment x)
+  again_sound x sound r t None has = absurd (cc (sym (ap is_first_run has) ∙ (and_parts (is_first_run x.attempt) (is_idempotent x) (and_parts (s.settings.retries == 1) _ t).1).0))
+  again_sound x sound r t (Some attempt) has =
+      let f = tried_again s.settings.retries x attempt has t in
+      let fits = runs_fits x.state x.attempt x.ended r sound.state in
+      record {
+        checked = sound.checked;
+        has_slice = sound.has_slice;
+        since = omega arith;
+        state = fits.1;
+        has_bot = tt;
+        output = tt;
+        retried = subst (λ (o : Option Attempt). IfSome (option_map (retried_from e.moment x.slice) o) (IsSoundRetried (after s e) x.request.task_slices)) (sym has) (record {
+          setting = ap (λ (settings : PoolSettings). settings.retries) (settings_same s e.moment e.kind) ∙ f.setting;
+          slice = f.slice;
+          is_slice = f.is_slice;
+          idempotent = f.idempotent;
+          first = f.first;
+          not_killed = f.not_killed;
+          no_last = last_none attempt.last (subst (λ (o : Option Attempt). is_none (option_and_then (λ (a : Attempt). a.last) o) ≡ true) has fits.0);
+          output = subst (λ (o : Option Attempt). IfSome o IsSoundOutput) has sound.output;
+          over = omega arith;
+        });
+        tries = tt;
+      }
+
+  -- that is over with its bot
+  died_sound : (x : TaskRow) → IsSoundTask s x → IsSoundTask (after s e) (died_run e.moment x)
+  died_sound x sound =
       let was = sound.since in
       let before = may in
       record {
@@ -202,16 +313,22 @@ module _ (s : PoolState) (e : Entry) (o : IsSound s) (follows : MayFollow s e) w
         has_slice = sound.has_slice;
         since = omega (arith, before, was);
         state = final_fits (end_state x.attempt BotDied) x.attempt (Some e.moment) (end_final x.attempt BotDied refl) refl;
-        has_bot = no_bot (runner (lost_run e.moment x)) (runner_lost e.moment x);
+        has_bot = no_bot (runner (died_run e.moment x)) (runner_final (end_state x.attempt BotDied) x.attempt (end_final x.attempt BotDied refl));
         output = sound.output;
+        retried = still_retried x.request.task_slices x.retried sound.retried;
+        tries = sound.tries;
       }
+
+  -- that was lost
+  lost_sound : (x : TaskRow) → IsSoundTask s x → runs x ≡ true → IsSoundTask (after s e) (lost_run s.settings.retries e.moment x)
+  lost_sound x sound r = lost_is (IsSoundTask (after s e)) s.settings.retries e.moment x (λ t. again_sound x sound r t x.attempt refl) (λ t. died_sound x sound)
 
   -- that was canceled
   canceled_sound : (x : TaskRow) → IsSoundTask s x → IsSoundTask (after s e) (canceled e.moment x)
   canceled_sound x sound =
       let was = sound.since in
       let before = may in
-      record { checked = sound.checked; has_slice = sound.has_slice; since = omega (arith, before, was); state = refl; has_bot = no_bot None refl; output = sound.output }
+      record { checked = sound.checked; has_slice = sound.has_slice; since = omega (arith, before, was); state = refl; has_bot = no_bot None refl; output = sound.output; retried = still_retried x.request.task_slices x.retried sound.retried; tries = sound.tries }
 
   -- whose run is to stop
   marked_sound : (x : TaskRow) → IsSoundTask s x → IsSoundTask (after s e) (kill_marked x)
@@ -225,6 +342,8 @@ module _ (s : PoolState) (e : Entry) (o : IsSound s) (follows : MayFollow s e) w
         state = marked_fits x.state x.attempt x.ended sound.state;
         has_bot = still_bot (runner (kill_marked x)) (subst (λ (r : Option ℕ). IfSome r (λ b. b ≤ length s.bots)) (sym (runner_marked x)) sound.has_bot);
         output = output_map killed output_killed x.attempt sound.output;
+        retried = still_retried x.request.task_slices x.retried sound.retried;
+        tries = tries_map killed (λ a. refl) (λ a. refl) x.retried x.attempt sound.tries;
       }
 
   -- whose output goes on
@@ -239,6 +358,8 @@ module _ (s : PoolState) (e : Entry) (o : IsSound s) (follows : MayFollow s e) w
         state = longer_fits chunk x.state x.attempt x.ended sound.state;
         has_bot = still_bot (runner (lengthened chunk x)) (subst (λ (r : Option ℕ). IfSome r (λ b. b ≤ length s.bots)) (sym (runner_longer chunk x)) sound.has_bot);
         output = longer_output chunk x.attempt g.attempt g.attempted g.begins (fit_chunk chunk g.fits) sound.output;
+        retried = still_retried x.request.task_slices x.retried sound.retried;
+        tries = tries_map (with_chunk chunk) (λ a. refl) (λ a. refl) x.retried x.attempt sound.tries;
       }
 
   -- whose run was reported to its end
@@ -252,11 +373,13 @@ module _ (s : PoolState) (e : Entry) (o : IsSound s) (follows : MayFollow s e) w
         state = final_fits y.state y.attempt y.ended (finished_final e.moment chunk last x) refl;
         has_bot = no_bot (runner y) (runner_finished e.moment chunk last x);
         output = output_map (with_last_report chunk last) (λ a h. output_closed a chunk last h) x.attempt sound.output;
+        retried = sound.retried;
+        tries = tries_map (with_last_report chunk last) (λ a. refl) (λ a. refl) x.retried x.attempt sound.tries;
       }
 
   -- that a bot began
-  begun_sound : (x : TaskRow) → IsSoundTask s x → waits x ≡ true → (b t : ℕ) (id : List ℕ) → FindsClaim s b t id → IsSoundTask (after s e) (started_run e.moment b id x)
-  begun_sound x sound w b t id f =
+  begun_sound : (x : TaskRow) → IsSoundTask s x → waits x ≡ true → (b t : ℕ) (id : List ℕ) → (f : FindsClaim s b t id) → f.task ≡ x → IsSoundTask (after s e) (started_run e.moment b id x)
+  begun_sound x sound w b t id f own =
       let was = sound.since in
       let before = may in
       let named = f.named in
@@ -268,7 +391,9 @@ module _ (s : PoolState) (e : Entry) (o : IsSound s) (follows : MayFollow s e) w
         since = omega (arith, before, was);
         state = waits_fits x.state x.attempt x.ended w sound.state;
         has_bot = omega (arith, named, there, more);
-        output = output_begun (record { try_no = 1; bot = b; claim = id; begun = e.moment; kill = false; chunks = []; length = 0; last = None; last_chunk = None }) refl refl;
+        retried = still_retried x.request.task_slices x.retried sound.retried;
+        tries = begun_try e.moment b id x (claim_not_kept s b t id f x own);
+        output = output_begun (record { try_no = next_try x; bot = b; claim = id; begun = e.moment; kill = false; chunks = []; length = 0; last = None; last_chunk = None }) refl refl;
       }
 
   -- that stayed as it was
@@ -276,7 +401,7 @@ module _ (s : PoolState) (e : Entry) (o : IsSound s) (follows : MayFollow s e) w
   kept_sound x sound =
       let was = sound.since in
       let before = may in
-      record { checked = sound.checked; has_slice = sound.has_slice; since = omega (arith, before, was); state = sound.state; has_bot = still_bot (runner x) sound.has_bot; output = sound.output }
+      record { checked = sound.checked; has_slice = sound.has_slice; since = omega (arith, before, was); state = sound.state; has_bot = still_bot (runner x) sound.has_bot; output = sound.output; retried = still_retried x.request.task_slices x.retried sound.retried; tries = sound.tries }
 
   -- or that is added
   added_sound : (k : EntryKind) → Finds s k → (x : TaskRow) → Among x (added_tasks e.moment k) → IsSoundTask (after s e) x
@@ -288,6 +413,8 @@ module _ (s : PoolState) (e : Entry) (o : IsSound s) (follows : MayFollow s e) w
         state = new_fits e.moment state f.idle;
         has_bot = no_bot (runner_in state None) (runner_new state f.idle);
         output = tt;
+        retried = tt;
+        tries = tt;
       }) x a
   added_sound k f x a = elim a [ ]
 
@@ -298,8 +425,8 @@ module _ (s : PoolState) (e : Entry) (o : IsSound s) (follows : MayFollow s e) w
       (λ x a. task_by (IsSoundTask (after s e)) s e.moment o x a e.kind (finds s e follows) (record {
         same = kept_sound x (task_is s o x a);
         moves = λ w. moved_sound x (task_is s o x a) w (admit s x.request.task_slices (x.slice + 1)) refl;
-        loses = λ w. lost_sound x (task_is s o x a);
-        begins = λ b t id is f w. begun_sound x (task_is s o x a) w b t id f;
+        loses = λ w. lost_sound x (task_is s o x a) w;
+        begins = λ b t id is f w own. begun_sound x (task_is s o x a) w b t id f own;
         cancels = λ w. canceled_sound x (task_is s o x a);
         marks = λ w. marked_sound x (task_is s o x a);
         grows = λ chunk g w. longer_sound chunk x (task_is s o x a) g;

@@ -1,19 +1,18 @@
 -- A task followed through a log.
-use Rattle.std.proofs.Common.{◌≡◌, ℕ, List, [], ◌∷◌, refl, sym, ◌∙◌, subst, true, false}
-use Rattle.swarm_model.specs.declared.task_state.TaskState.TheVariants.{BotDied}
+use Rattle.std.proofs.Common.{◌≡◌, ℕ, List, [], ◌∷◌, refl, sym, ◌∙◌, subst, true}
 use Rattle.swarm_model.specs.declared.task_row.TaskRow.{TaskRow}
 use Rattle.swarm_model.specs.declared.pool_state.PoolState.{PoolState}
 use Rattle.swarm_model.specs.declared.entry.Entry.{Entry}
 use Rattle.swarm_model.specs.declared.entry.EntryKind.{EntryKind}
 use Rattle.swarm_model.specs.Finding.{is_final}
-use Rattle.swarm_model.specs.Effects.{task_after, added_tasks, after, end_state, ended_run}
+use Rattle.swarm_model.specs.Effects.{task_after, added_tasks, after}
 use Rattle.swarm_model.specs.History.{replay, IsCaused}
 use Rattle.swarm_model.specs.Soundness.{IsSound}
 use Rattle.pool_laws.proofs.Lists.{Among, among_map, among_left}
-use Rattle.pool_laws.proofs.Preconditions.{Finds, waits}
+use Rattle.pool_laws.proofs.Preconditions.{Finds}
 use Rattle.pool_laws.proofs.EntryPreconditions.{finds}
 use Rattle.pool_laws.proofs.Rows.{task_by}
-use Rattle.pool_laws.proofs.Tasks.{end_final, finished_final, not_pending, not_running}
+use Rattle.pool_laws.proofs.Tasks.{not_pending, not_running}
 use Rattle.pool_laws.proofs.Numbers.{task_no}
 use Rattle.pool_laws.proofs.Sound.{sound_after}
 
@@ -39,24 +38,6 @@ track P lasts s (y ∷ log) o c x n a e p =
     let f = finds s y c.0 in
     track P lasts (after s y) log (sound_after s y o c.0) c.1 (task_after s y.moment y.kind x) n (still_among s y x a) (task_no s y.moment y.kind o f x a ∙ e) (lasts s y.moment y.kind o f x a p)
 
--- a task that no longer waits never waits again
-abbrev pub IsPast : TaskRow → Type 0
-IsPast x = waits x ≡ false
-
--- this lasts
-pub past_lasts : Lasts IsPast
-past_lasts s m k o f x a p =
-    task_by IsPast s m o x a k f (record {
-      same = p;
-      moves = λ w. absurd (cc (w, p));
-      loses = λ w. not_pending (end_state x.attempt BotDied) (end_final x.attempt BotDied refl);
-      begins = λ b t id is found w. refl;
-      cancels = λ w. refl;
-      marks = λ w. p;
-      grows = λ chunk g w. p;
-      finishes = λ chunk last y w e. not_pending (ended_run m chunk last y).state (finished_final m chunk last y);
-    })
-
 -- a task that is over stays as it is
 pub final_same : (s : PoolState) (m : ℕ) (k : EntryKind) → IsSound s → Finds s k → (x : TaskRow) → Among x s.tasks → is_final x.state ≡ true → task_after s m k x ≡ x
 final_same s m k o f x a final =
@@ -64,7 +45,7 @@ final_same s m k o f x a final =
       same = refl;
       moves = λ w. absurd (cc (w, not_pending x.state final));
       loses = λ w. absurd (cc (w, not_running x.state final));
-      begins = λ b t id is found w. absurd (cc (w, not_pending x.state final));
+      begins = λ b t id is found w own. absurd (cc (w, not_pending x.state final));
       cancels = λ w. absurd (cc (w, not_pending x.state final));
       marks = λ w. absurd (cc (w, not_running x.state final));
       grows = λ chunk g w. absurd (cc (w, not_running x.state final));

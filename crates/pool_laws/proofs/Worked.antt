@@ -1,7 +1,7 @@
 -- The worked logs, entry by entry.
 use Rattle.std.proofs.Common.{refl, lit≤}
 use Rattle.task_props.specs.Canonical.{hash}
-use Rattle.pool_laws.specs.Worked.{ItHappens, RunsEnd, OutcomeIsTaken, OutputIsReported, BlobIsKept, repeatable}
+use Rattle.pool_laws.specs.Worked.{ItHappens, RunsEnd, OutcomeIsTaken, OutputIsReported, BlobIsKept, RunIsRetried, repeatable}
 use Rattle.pool_laws.proofs.Alike.{same_self}
 
 -- each entry may follow those before it
@@ -91,6 +91,28 @@ blob_is_kept = (
       (
         record { not_before = lit≤ tt; not_late = lit≤ tt; has_cause = refl },
         (record { not_before = lit≤ tt; not_late = lit≤ tt; has_cause = refl }, tt),
+      ),
+    ),
+  ),
+)
+
+-- the lost run is tried again, so the second claim finds the task
+pub run_is_retried : RunIsRetried
+run_is_retried = (
+  record { not_before = lit≤ tt; not_late = lit≤ tt; has_cause = record { nothing_due = refl; may_ask = refl; gives = refl } },
+  (
+    record { not_before = lit≤ tt; not_late = lit≤ tt; has_cause = record { nothing_due = refl; may_ask = refl; gives = refl } },
+    (
+      record { not_before = lit≤ tt; not_late = lit≤ tt; has_cause = record { nothing_due = refl; may_ask = refl; gives = refl } },
+      (
+        record { not_before = lit≤ tt; not_late = lit≤ tt; has_cause = record { nothing_due = refl; may_ask = refl; gives = refl } },
+        (
+          record { not_before = lit≤ tt; not_late = lit≤ tt; has_cause = record { nothing_due = refl; may_ask = refl; gives = refl } },
+          (
+            record { not_before = lit≤ tt; not_late = lit≤ tt; has_cause = record { nothing_due = refl; may_ask = refl; gives = refl } },
+            (record { not_before = lit≤ tt; not_late = lit≤ tt; has_cause = record { nothing_due = refl; may_ask = refl; gives = refl } }, tt),
+          ),
+        ),
       ),
     ),
   ),

@@ -6,6 +6,7 @@ use Rattle.task_props.specs.declared.properties.Properties.{Properties}
 use Rattle.task_props.specs.declared.new_task.NewTask.{NewTask}
 use Rattle.swarm_model.specs.declared.task_state.TaskState.TheVariants.{Pending, Completed, Expired}
 use Rattle.swarm_model.specs.declared.attempt.Chunk.{Chunk}
+use Rattle.swarm_model.specs.declared.pool_settings.PoolSettings.{PoolSettings}
 use Rattle.swarm_model.specs.declared.pool_state.PoolState.{PoolState}
 use Rattle.swarm_model.specs.declared.request.Request.{Request}
 use Rattle.swarm_model.specs.declared.request.Request.TheVariants as ask
@@ -73,6 +74,29 @@ taken_log =
 -- and such a log
 abbrev pub OutcomeIsTaken : Type 0
 OutcomeIsTaken = IsCaused (opening settings) taken_log
+
+-- a pool that tries again
+abbrev pub retrying : PoolSettings
+retrying = record settings { retries = 1 }
+
+abbrev pub other_dims : BotDims
+other_dims = (codes "id", codes "bot-2" ∷ []) ∷ (codes "pool", codes "default" ∷ []) ∷ []
+
+-- the bot that claimed a task begins anew, so its run is lost; another bot claims the task, and reports 0
+abbrev pub retried_log : List Entry
+retried_log =
+    entry_at 1000 0 (kind.New 1 (codes "ana") repeatable_task Pending 0 None)
+    ∷ entry_at 1001 0 (kind.Handshake 1 (codes "bot-1") (codes "session-1") small_dims [])
+    ∷ entry_at 1001 0 (kind.Handshake 2 (codes "bot-2") (codes "session-1") other_dims [])
+    ∷ entry_at 1002 0 (kind.Claim 1 1 (codes "claim-1"))
+    ∷ entry_at 1003 0 (kind.Handshake 1 (codes "bot-1") (codes "session-2") small_dims [])
+    ∷ entry_at 1004 0 (kind.Claim 2 1 (codes "claim-1"))
+    ∷ entry_at 1005 0 (kind.Update 2 1 2 None (Some (exited_with (pos 0))))
+    ∷ []
+
+-- and such a log
+abbrev pub RunIsRetried : Type 0
+RunIsRetried = IsCaused (opening retrying) retried_log
 
 -- two chunks of an output, one behind the other
 abbrev pub first_chunk : Chunk

@@ -1,12 +1,12 @@
-ghost use Rattle.std.specs.Prelude.{◌≡◌, [], Some};
+ghost use Rattle.std.specs.Prelude.{◌≡◌, [], ◌∷◌, Some};
 ghost use Rattle.std.specs.Option.{option_map_or};
 ghost use Rattle.pool_laws.specs.NamedBlobs.{NamedBlobsAreThere};
 ghost use Rattle.pool_laws.specs.OutputLaw.{OutputIsTold};
-ghost use Rattle.pool_laws.specs.Worked.{BlobIsKept, ItHappens, OutcomeIsTaken, OutputIsReported, RunsEnd, begun_output, ended_log, kept_log, reported_log, sent_again, taken_log};
+ghost use Rattle.pool_laws.specs.Worked.{BlobIsKept, ItHappens, OutcomeIsTaken, OutputIsReported, RunIsRetried, RunsEnd, begun_output, ended_log, kept_log, reported_log, retried_log, retrying, sent_again, taken_log};
 ghost use Rattle.swarm_model.specs.declared.task_state.TaskState.TheVariants.{Canceled, Completed, Killed};
 ghost use Rattle.swarm_model.specs.declared.entry.EntryKind.TheVariants as kind;
 ghost use Rattle.swarm_model.specs.Answers.{answer, entry_at};
-ghost use Rattle.swarm_model.specs.Claims.{ClaimsAreRight};
+ghost use Rattle.swarm_model.specs.Claims.{ClaimsAreRight, RunsAreRight, claimants};
 ghost use Rattle.swarm_model.specs.DueLaw.{DueIsEarliest};
 ghost use Rattle.swarm_model.specs.Effects.{attempt_of, opening};
 ghost use Rattle.swarm_model.specs.Examples.{settings};
@@ -30,9 +30,17 @@ pub fn due_is_the_earliest()
 {}
 
 /// A claim comes when nothing is due, from a fit bot that runs nothing, of a task that was never
-/// claimed and comes first among those that wait for such a bot.
+/// claimed, or just once, by another bot whose run is tried again, and that comes first among those
+/// that wait for such a bot and are not kept from it.
 pub fn claims_are_right()
     ensures { ClaimsAreRight }
+{}
+
+/// The runs of a task are those of the bots that claimed it, in the order of their claims. At most one
+/// was lost and is tried again: where the pool does so, the slice is idempotent, and the run was the
+/// first and was not asked to stop. The bot of that run never claims the task again.
+pub fn runs_are_right()
+    ensures { RunsAreRight }
 {}
 
 /// The state of each task is the one that the log alone tells.
@@ -109,14 +117,21 @@ pub fn a_claim_happens()
 /// the report of its bot.
 pub fn a_run_ends()
     ensures happens { RunsEnd }
-    ensures killed { verdict ended_log 1 ≡ Killed }
-    ensures canceled { verdict ended_log 2 ≡ Canceled }
+    ensures killed { verdict settings ended_log 1 ≡ Killed }
+    ensures canceled { verdict settings ended_log 2 ≡ Canceled }
 {}
 
 /// So is one in which a task takes the outcome of another, which ran and reported 0.
 pub fn an_outcome_is_taken()
     ensures happens { OutcomeIsTaken }
-    ensures completed { verdict taken_log 2 ≡ Completed }
+    ensures completed { verdict settings taken_log 2 ≡ Completed }
+{}
+
+/// So is one in which a run is lost and another bot runs the task once more.
+pub fn a_run_is_retried()
+    ensures happens { RunIsRetried }
+    ensures claimants { claimants 1 retried_log ≡ 1 ∷ 2 ∷ [] }
+    ensures completed { verdict retrying retried_log 1 ≡ Completed }
 {}
 
 /// So is one in which a run reports its output in two chunks, the first of them twice, and ends. The

@@ -91,7 +91,7 @@ impl<R: PoolRows> Machine for LoggedPool<R> {
         requires not_late { moment ≤ 2 ^ 40 }
         requires nothing_due { due_entry self.now.pool moment pass ≡ None }
         ensures exact { IfOk result (λ a. a ≡ answer self.now.pool who.now moment pass request.now) }
-        ensures verdict { IfOk result (λ a. ShowsVerdict (machine_of self.now) a.reply) }
+        ensures verdict { IfOk result (λ a. ShowsVerdict (machine_of self.now) request.now a.reply) }
         ensures repeats { IfOk result (λ a. ActsOnce (machine_of self.now) who.now request.now a.entry) }
         ensures output { IfOk result (λ a. ShowsOutput (machine_of self.now) request.now a.reply) }
         ensures outcome { IfOk result (λ a. IfSome a.entry (TakesOutcome (machine_of self.now))) }

@@ -2,4 +2,5 @@ pub mod Beyond
 pub mod Filtered
 pub mod Listed
 pub mod Pages
+pub mod Shown
 pub mod Sorted

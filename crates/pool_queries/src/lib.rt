@@ -2,8 +2,9 @@
 //!
 //! A machine implements [`PoolQueries`]: each query is a scan of the rows by its contract. Over any
 //! rows that meet it stand the views of tasks and bots, their pages, what a blob or an output is
-//! answered, and whether a caller may see a task, each as `swarm_model`'s `Answers` defines it. The
-//! crate stands on `swarm_model`.
+//! answered, and whether a caller may see a task, each as `swarm_model`'s `Answers` defines it. A task
+//! is seen through [`ShownTask`], which shows it with its own run or with the one that was tried
+//! again. The crate stands on `swarm_model`.
 #![tactic(auto)]
 
 mod blobs;
@@ -13,6 +14,7 @@ mod permitting;
 mod pool_queries;
 mod reading;
 mod replies;
+mod shown_task;
 mod task_pages;
 mod views;
 
@@ -21,6 +23,7 @@ pub use bot_pages::list_bots;
 pub use output::stdout;
 pub use permitting::{denied, may};
 pub use pool_queries::PoolQueries;
-pub use reading::{named_task, show_bot, task_count, task_result};
+pub use reading::{named_task, show_bot, task_count, task_result, whole_task};
 pub use replies::{refusal, reply_only, reply_with_entry, unfit_refusal};
+pub use shown_task::ShownTask;
 pub use task_pages::list_tasks;

@@ -7,16 +7,16 @@ ghost use Rattle.swarm_model.specs.Blobs.{lacks_chunk};
 ghost use Rattle.swarm_model.specs.Output.{lies_within, chunks_within, part_of, parts_within};
 ghost use Rattle.swarm_model.specs.Answers.{or_refuse, named_task, output_between, chunks_shown, stdout_of};
 
-use crate::PoolQueries;
 use crate::blobs::has_blob;
 use crate::permitting::{denied, may};
 use crate::reading::named_task;
 use crate::replies::{refusal, reply_only};
 use crate::views::attempt_shown;
+use crate::{PoolQueries, ShownTask};
 use dimensions::{Seq, Text};
 use std::alloc::{AllocError, Global};
 use std::sync::ledger::Ledger;
-use swarm_model::{Chunk, Decision, Part, Permission, Reply, Rule, Steps, TaskRow, TaskState};
+use swarm_model::{Chunk, Decision, Part, Permission, Reply, Rule, Steps, TaskState};
 
 /// Whether a byte of the chunk lies between the two places.
 fn lies_within(from: u64, to: u64, chunk: &Chunk) -> bool
@@ -112,7 +112,7 @@ fn output_between<P: PoolQueries>(
 /// The chunks of the output that a task shows.
 fn chunks_shown<'a, P: PoolQueries, L: Ledger>(
     pool: &'a P,
-    task: &'a TaskRow,
+    task: &ShownTask<'a>,
     steps: &mut Steps<L>,
 ) -> &'a [Chunk]
     ensures { result.now ≡ chunks_shown (P.state pool.now) task.now }
@@ -123,13 +123,13 @@ fn chunks_shown<'a, P: PoolQueries, L: Ledger>(
     }
 }
 
-fn stdout_by<P: PoolQueries, L: Ledger>(
+fn stdout_by<'a, P: PoolQueries, L: Ledger>(
     alloc: Global,
-    pool: &P,
+    pool: &'a P,
     who: &Text,
     offset: u32,
     length: u32,
-    task: &TaskRow,
+    task: &ShownTask<'a>,
     steps: &mut Steps<L>,
 ) -> Result<Decision, AllocError>
     ensures { IfOk result (λ decision. decision ≡ stdout_of (P.state pool.now) who.now offset length task.now) }
@@ -139,7 +139,14 @@ fn stdout_by<P: PoolQueries, L: Ledger>(
     }
     let from = offset as u64;
     let chunks = chunks_shown(pool, task, steps);
-    output_between(alloc, pool, from, from + length as u64, task.state, chunks)
+    output_between(
+        alloc,
+        pool,
+        from,
+        from + length as u64,
+        task.state(),
+        chunks,
+    )
 }
 
 /// What a caller is told who asks for the output of a task's run.
@@ -157,6 +164,6 @@ pub fn stdout<P: PoolQueries, L: Ledger>(
 {
     match named_task(pool, number, try_no, steps) {
         None => Ok(refusal(Rule::NoTask)),
-        Some(task) => stdout_by(alloc, pool, who, offset, length, task, steps),
+        Some(task) => stdout_by(alloc, pool, who, offset, length, &task, steps),
     }
 }

@@ -1,17 +1,23 @@
 ghost use Rattle.std.specs.Prelude.{◌≡◌, IfOk};
 ghost use Rattle.swarm_model.specs.Answers.{may, denied};
 
-use crate::PoolQueries;
 use crate::replies::refusal;
+use crate::{PoolQueries, ShownTask};
 use dimensions::{Text, TryCopy};
 use std::alloc::{AllocError, Global};
-use swarm_model::{Decision, Permission, Rule, TaskRow, allowed};
+use swarm_model::{Decision, Permission, Rule, allowed};
 
 /// Whether the caller sent the task, or may do this with every task of the pool.
-pub fn may<P: PoolQueries>(pool: &P, who: &Text, permission: Permission, task: &TaskRow) -> bool
+pub fn may<P: PoolQueries>(
+    pool: &P,
+    who: &Text,
+    permission: Permission,
+    task: &ShownTask<'_>,
+) -> bool
     ensures { result ≡ may (P.state pool.now) who.now permission task.now }
 {
-    task.creator == *who || allowed(pool.settings(), who, permission)
+    let row = task.row();
+    row.creator == *who || allowed(pool.settings(), who, permission)
 }
 
 pub fn denied<P: PoolQueries>(

@@ -91,7 +91,7 @@ pub trait PoolQueries {
         ensures value { IfOk result (λ found. option_copied found ≡ newest_source (state self.now) moment digest.now) }
         ensures cost { steps.new ≤ steps.old + 1 };
 
-    /// The task that the bot claimed under this id.
+    /// The task that the bot claimed under this id, by its run or by the one that was tried again.
     fn by_claim<'a, L: Ledger>(
         &'a self,
         bot: u32,
@@ -102,13 +102,14 @@ pub trait PoolQueries {
         ensures cost { steps.new ≤ steps.old + 1 }
         ensures free { IsNone result → steps.new ≡ steps.old };
 
-    /// The task that a bot of these dimensions gets.
+    /// The task that the bot of this number gets, with these dimensions.
     fn first_for<'a, L: Ledger>(
         &'a self,
+        no: u32,
         dims: &BotDims,
         steps: &mut Steps<L>,
     ) -> Option<&'a TaskRow>
-        ensures value { option_copied result ≡ first (state self.now) dims.now }
+        ensures value { option_copied result ≡ first (state self.now) no dims.now }
         ensures cost { steps.new ≤ steps.old + 1 }
         ensures free { IsNone result → steps.new ≡ steps.old };
 

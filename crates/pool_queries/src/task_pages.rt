@@ -5,9 +5,9 @@ ghost use Rattle.swarm_model.specs.declared.reply.Reply.TheVariants as reply;
 ghost use Rattle.swarm_model.specs.Pages.{listed_tasks};
 ghost use Rattle.swarm_model.specs.Answers.{reply_only, list_tasks};
 
-use crate::PoolQueries;
 use crate::replies::reply_only;
 use crate::views::view_of;
+use crate::{PoolQueries, ShownTask};
 use dimensions::Seq;
 use std::alloc::{AllocError, Global};
 use std::sync::ledger::Ledger;
@@ -57,7 +57,7 @@ pub fn list_tasks<P: PoolQueries, L: Ledger>(
         match pool.newest_below(wanted, last, steps) {
             None => return Ok(page(items, None)),
             Some(task) => {
-                items.push(view_of(alloc, pool, task, steps)?)?;
+                items.push(view_of(alloc, pool, &ShownTask::whole(task), steps)?)?;
                 last = Some(task.no);
             }
         }

@@ -2,39 +2,39 @@
 ghost use Rattle.std.specs.Prelude.{◌≡◌, IfOk};
 ghost use Rattle.std.specs.Option.{option_copied, option_map, option_map_or, option_and_then};
 ghost use Rattle.swarm_model.specs.Finding.{task_of};
-ghost use Rattle.swarm_model.specs.Views.{last_of, shown_from, attempt_shown, run_of, exit_code_of, files_of, bot_name_of, view_of, bot_view_of};
+ghost use Rattle.swarm_model.specs.Views.{last_of, attempt_shown, run_of, exit_code_of, files_of, bot_name_of, view_of, bot_view_of};
 
-use crate::PoolQueries;
+use crate::{PoolQueries, ShownTask};
 use dimensions::{Seq, Text, TryCopy};
 use std::alloc::{AllocError, Global};
 use std::sync::ledger::Ledger;
-use swarm_model::{Attempt, BotRow, BotView, Steps, TaskRow, TaskView};
+use swarm_model::{Attempt, BotRow, BotView, Steps, TaskView};
 use task_props::File;
 
 /// A run is named by its task and its try.
-fn run_of(task: &TaskRow) -> Option<(u32, u32)>
+fn run_of(task: &ShownTask<'_>) -> Option<(u32, u32)>
     ensures { result ≡ run_of task.now }
 {
-    match &task.attempt {
+    match task.attempt() {
         None => None,
-        Some(attempt) => Some((task.no, attempt.try_no)),
+        Some(attempt) => Some((task.row().no, attempt.try_no)),
     }
 }
 
-fn begun_of(task: &TaskRow) -> Option<u64>
+fn begun_of(task: &ShownTask<'_>) -> Option<u64>
     ensures { result ≡ option_map (λ attempt. attempt.begun) task.now.attempt }
 {
-    match &task.attempt {
+    match task.attempt() {
         None => None,
         Some(attempt) => Some(attempt.begun),
     }
 }
 
 /// A task that took another's outcome ended as that did, with 0.
-fn exit_code_of(task: &TaskRow) -> Option<i32>
+fn exit_code_of(task: &ShownTask<'_>) -> Option<i32>
     ensures { result ≡ exit_code_of task.now }
 {
-    match task.source {
+    match task.row().source {
         Some(_) => Some(0),
         None => match task.last_report() {
             None => None,
@@ -43,7 +43,7 @@ fn exit_code_of(task: &TaskRow) -> Option<i32>
     }
 }
 
-fn dropped_of(task: &TaskRow) -> Option<u64>
+fn dropped_of(task: &ShownTask<'_>) -> Option<u64>
     ensures { result ≡ option_map (λ last. last.dropped) (last_of task.now) }
 {
     match task.last_report() {
@@ -52,7 +52,7 @@ fn dropped_of(task: &TaskRow) -> Option<u64>
     }
 }
 
-fn duration_of(task: &TaskRow) -> Option<u64>
+fn duration_of(task: &ShownTask<'_>) -> Option<u64>
     ensures { result ≡ option_map (λ last. last.duration_ms) (last_of task.now) }
 {
     match task.last_report() {
@@ -61,7 +61,7 @@ fn duration_of(task: &TaskRow) -> Option<u64>
     }
 }
 
-fn files_of(alloc: Global, task: &TaskRow) -> Result<Seq<File>, AllocError>
+fn files_of(alloc: Global, task: &ShownTask<'_>) -> Result<Seq<File>, AllocError>
     ensures { IfOk result (λ files. files ≡ files_of (last_of task.now)) }
 {
     match task.last_report() {
@@ -73,11 +73,11 @@ fn files_of(alloc: Global, task: &TaskRow) -> Result<Seq<File>, AllocError>
 fn bot_name_of<P: PoolQueries>(
     alloc: Global,
     pool: &P,
-    task: &TaskRow,
+    task: &ShownTask<'_>,
 ) -> Result<Option<Text>, AllocError>
     ensures { IfOk result (λ name. name ≡ option_and_then (bot_name_of (P.state pool.now)) task.now.attempt) }
 {
-    match &task.attempt {
+    match task.attempt() {
         None => Ok(None),
         Some(attempt) => match pool.bot_of(attempt.bot) {
             None => Ok(None),
@@ -98,39 +98,44 @@ fn run_numbered<P: PoolQueries, L: Ledger>(
         None => None,
         Some(number) => match pool.task_of(number, steps) {
             None => None,
-            Some(task) => run_of(task),
+            Some(task) => run_of(&ShownTask::whole(task)),
         },
     }
 }
 
-/// The task whose run made the output that this task shows: its own, or that of its source.
-fn shown_from<'a, P: PoolQueries, L: Ledger>(
+/// The run of the task that has the number.
+fn attempt_numbered<'a, P: PoolQueries, L: Ledger>(
     pool: &'a P,
-    task: &'a TaskRow,
+    number: u32,
     steps: &mut Steps<L>,
-) -> Option<&'a TaskRow>
-    ensures { option_copied result ≡ shown_from (P.state pool.now) task.now }
+) -> Option<&'a Attempt>
+    ensures { option_copied result ≡ option_and_then (λ row. row.attempt) (task_of (P.state pool.now) number) }
 {
-    match task.source {
-        None => Some(task),
-        Some(number) => pool.task_of(number, steps),
+    match pool.task_of(number, steps) {
+        None => None,
+        Some(task) => task.attempt.as_ref(),
     }
 }
 
+/// The run that made the output that this task shows: its own, or that of its source.
 pub(crate) fn attempt_shown<'a, P: PoolQueries, L: Ledger>(
     pool: &'a P,
-    task: &'a TaskRow,
+    task: &ShownTask<'a>,
     steps: &mut Steps<L>,
 ) -> Option<&'a Attempt>
     ensures { option_copied result ≡ attempt_shown (P.state pool.now) task.now }
 {
-    match shown_from(pool, task, steps) {
-        None => None,
-        Some(row) => row.attempt.as_ref(),
+    match task.row().source {
+        None => task.attempt(),
+        Some(number) => attempt_numbered(pool, number, steps),
     }
 }
 
-fn length_of<P: PoolQueries, L: Ledger>(pool: &P, task: &TaskRow, steps: &mut Steps<L>) -> u32
+fn length_of<'a, P: PoolQueries, L: Ledger>(
+    pool: &'a P,
+    task: &ShownTask<'a>,
+    steps: &mut Steps<L>,
+) -> u32
     ensures { result ≡ option_map_or (λ attempt. attempt.length) (attempt_shown (P.state pool.now) task.now) 0 }
 {
     match attempt_shown(pool, task, steps) {
@@ -140,32 +145,33 @@ fn length_of<P: PoolQueries, L: Ledger>(pool: &P, task: &TaskRow, steps: &mut St
 }
 
 /// What a reader is shown of a task.
-pub(crate) fn view_of<P: PoolQueries, L: Ledger>(
+pub(crate) fn view_of<'a, P: PoolQueries, L: Ledger>(
     alloc: Global,
-    pool: &P,
-    task: &TaskRow,
+    pool: &'a P,
+    task: &ShownTask<'a>,
     steps: &mut Steps<L>,
 ) -> Result<TaskView, AllocError>
     ensures { IfOk result (λ view. view ≡ view_of (P.state pool.now) task.now) }
 {
+    let row = task.row();
     Ok(TaskView {
         bot_id: bot_name_of(alloc, pool, task)?,
-        completed_ts: task.ended,
-        created_ts: task.created,
-        current_task_slice: task.slice,
-        deduped_from: run_numbered(pool, task.source, steps),
+        completed_ts: task.ended(),
+        created_ts: row.created,
+        current_task_slice: task.slice(),
+        deduped_from: run_numbered(pool, row.source, steps),
         dropped: dropped_of(task),
         duration_ms: duration_of(task),
         exit_code: exit_code_of(task),
         files: files_of(alloc, task)?,
-        name: task.request.name.try_copy(alloc)?,
+        name: row.request.name.try_copy(alloc)?,
         output_length: length_of(pool, task, steps),
-        priority: task.request.priority,
+        priority: row.request.priority,
         run_id: run_of(task),
         started_ts: begun_of(task),
-        state: task.state,
-        task_id: task.no,
-        user: task.creator.try_copy(alloc)?,
+        state: task.state(),
+        task_id: row.no,
+        user: row.creator.try_copy(alloc)?,
     })
 }
 

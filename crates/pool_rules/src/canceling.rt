@@ -1,9 +1,9 @@
 ghost use Rattle.std.specs.Prelude.{◌≡◌, IfOk};
 ghost use Rattle.swarm_model.specs.declared.rule.Rule.TheVariants as rule;
-ghost use Rattle.swarm_model.specs.Answers.{cancels, is_killed, stop, cancel_row, or_refuse, named_task, cancel};
+ghost use Rattle.swarm_model.specs.Answers.{cancels, is_killed, stop, cancel_row, or_refuse, whole_task, cancel};
 
 use dimensions::Text;
-use pool_queries::{PoolQueries, denied, may, named_task, refusal};
+use pool_queries::{PoolQueries, ShownTask, denied, may, refusal, whole_task};
 use std::alloc::{AllocError, Global};
 use std::sync::ledger::Ledger;
 use swarm_model::{
@@ -66,13 +66,13 @@ fn cancel_by<P: PoolQueries>(
 ) -> Result<Decision, AllocError>
     ensures { IfOk result (λ decision. decision ≡ cancel (P.state pool.now) who.now kill task.now) }
 {
-    if !may(pool, who, Permission::CancelTask, task) {
+    if !may(pool, who, Permission::CancelTask, &ShownTask::whole(task)) {
         return denied(alloc, pool, Permission::CancelTask);
     }
     Ok(cancel_row(kill, task))
 }
 
-/// What a caller is told who wants a task no more.
+/// What a caller is told who wants a task no more, whichever of its tries is named.
 pub(crate) fn cancel<P: PoolQueries, L: Ledger>(
     alloc: Global,
     pool: &P,
@@ -82,9 +82,9 @@ pub(crate) fn cancel<P: PoolQueries, L: Ledger>(
     kill: bool,
     steps: &mut Steps<L>,
 ) -> Result<Decision, AllocError>
-    ensures { IfOk result (λ decision. decision ≡ or_refuse (named_task (P.state pool.now) number try_no) rule.NoTask (cancel (P.state pool.now) who.now kill)) }
+    ensures { IfOk result (λ decision. decision ≡ or_refuse (whole_task (P.state pool.now) number try_no) rule.NoTask (cancel (P.state pool.now) who.now kill)) }
 {
-    match named_task(pool, number, try_no, steps) {
+    match whole_task(pool, number, try_no, steps) {
         None => Ok(refusal(Rule::NoTask)),
         Some(task) => cancel_by(alloc, pool, who, kill, task),
     }

@@ -1,28 +1,43 @@
 ghost use Rattle.std.specs.Prelude.{◌≡◌, ◌≤◌, ◌+◌, IfOk};
 ghost use Rattle.swarm_model.specs.declared.rule.Rule.TheVariants as rule;
 ghost use Rattle.swarm_model.specs.Finding.{bot_named};
-ghost use Rattle.swarm_model.specs.Answers.{or_refuse, claim_again, unfit_of, claims, claim};
+ghost use Rattle.swarm_model.specs.Answers.{or_refuse, run_again, claim_again, unfit_of, claims, claim};
 
 use crate::runs::{busy_refusal, run};
 use dimensions::{Text, TryCopy};
-use pool_queries::{PoolQueries, refusal, reply_with_entry, unfit_refusal};
+use pool_queries::{PoolQueries, ShownTask, refusal, reply_with_entry, unfit_refusal};
 use std::alloc::{AllocError, Global};
 use std::sync::ledger::Ledger;
 use swarm_model::{BotRow, Decision, EntryKind, Reply, Rule, Steps, TaskRow, Unfit};
 
-/// The bot asks once more by the id of a claim that it made.
-fn claim_again(alloc: Global, bot: &BotRow, task: &TaskRow) -> Result<Decision, AllocError>
-    ensures { IfOk result (λ decision. decision ≡ claim_again bot.now task.now) }
+/// The bot goes on with what it claimed, or is told how that ended.
+fn run_again(alloc: Global, bot: &BotRow, task: &ShownTask<'_>) -> Result<Decision, AllocError>
+    ensures { IfOk result (λ decision. decision ≡ run_again bot.now task.now) }
 {
-    if task.state.is_final() {
+    let try_no = task.try_no();
+    let state = task.state();
+    if state.is_final() {
         Ok(refusal(Rule::ClaimOver {
-            task: task.no,
-            try_no: task.try_no(),
-            state: task.state,
+            task: task.row().no,
+            try_no,
+            state,
         }))
     } else {
-        Ok(reply_with_entry(run(alloc, task)?, EntryKind::Contact { b: bot.no }))
+        let reply = run(alloc, try_no, task)?;
+        Ok(reply_with_entry(reply, EntryKind::Contact { b: bot.no }))
     }
+}
+
+/// The bot asks once more by the id of a claim that it made.
+fn claim_again(
+    alloc: Global,
+    bot: &BotRow,
+    id: &Text,
+    task: &TaskRow,
+) -> Result<Decision, AllocError>
+    ensures { IfOk result (λ decision. decision ≡ claim_again bot.now id.now task.now) }
+{
+    run_again(alloc, bot, &ShownTask::as_claimed(bot.no, id, task))
 }
 
 /// Why the bot gets no work.
@@ -45,7 +60,7 @@ fn claims(alloc: Global, bot: &BotRow, id: &Text, task: &TaskRow) -> Result<Deci
     ensures { IfOk result (λ decision. decision ≡ claims bot.now id.now task.now) }
 {
     let claim = id.try_copy(alloc)?;
-    let reply = run(alloc, task)?;
+    let reply = run(alloc, task.next_try(), &ShownTask::whole(task))?;
     Ok(reply_with_entry(
         reply,
         EntryKind::Claim {
@@ -67,7 +82,7 @@ fn claim_row<P: PoolQueries, L: Ledger>(
     ensures cost { steps.new ≤ steps.old + 1 }
 {
     if let Some(task) = pool.by_claim(bot.no, id, steps) {
-        return claim_again(alloc, bot, task);
+        return claim_again(alloc, bot, id, task);
     }
     if let Some(why) = unfit_of(bot) {
         return Ok(unfit_refusal(why));
@@ -75,7 +90,7 @@ fn claim_row<P: PoolQueries, L: Ledger>(
     if let Some(decision) = busy_refusal(pool, bot, steps) {
         return Ok(decision);
     }
-    if let Some(task) = pool.first_for(&bot.dims, steps) {
+    if let Some(task) = pool.first_for(bot.no, &bot.dims, steps) {
         return claims(alloc, bot, id, task);
     }
     Ok(reply_with_entry(Reply::Skip, EntryKind::Contact { b: bot.no }))

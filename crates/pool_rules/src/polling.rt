@@ -87,7 +87,7 @@ fn poll_row<P: PoolQueries, L: Ledger>(
     if !quarantined.as_str().is_empty() {
         return polls(alloc, bot, dims, quarantined, false, sleep);
     }
-    if pool.first_for(dims, steps).is_some() {
+    if pool.first_for(bot.no, dims, steps).is_some() {
         return polls(alloc, bot, dims, quarantined, true, Reply::ClaimHint);
     }
     polls(alloc, bot, dims, quarantined, false, sleep)

@@ -4,7 +4,7 @@ ghost use Rattle.std.specs.Option.{option_copied, option_map};
 ghost use Rattle.swarm_model.specs.Answers.{run_on, busy, run_from, run};
 
 use dimensions::TryCopy;
-use pool_queries::{PoolQueries, refusal};
+use pool_queries::{PoolQueries, ShownTask, refusal};
 use std::alloc::{AllocError, Global};
 use std::sync::ledger::Ledger;
 use swarm_model::{BotRow, Decision, Reply, Rule, Steps, TaskRow};
@@ -51,24 +51,30 @@ pub(crate) fn busy_refusal<P: PoolQueries, L: Ledger>(
     }
 }
 
-fn run_from(alloc: Global, task: &TaskRow, slice: &Slice) -> Result<Reply, AllocError>
-    ensures { IfOk result (λ reply. reply ≡ run_from task.now slice.now) }
+fn run_from(
+    alloc: Global,
+    try_no: u32,
+    task: &ShownTask<'_>,
+    slice: &Slice,
+) -> Result<Reply, AllocError>
+    ensures { IfOk result (λ reply. reply ≡ run_from try_no task.now slice.now) }
 {
+    let row = task.row();
     Ok(Reply::Run {
-        task: task.no,
-        try_no: 1,
-        slice: task.slice,
-        tolerance: task.request.bot_ping_tolerance_secs,
+        task: row.no,
+        try_no,
+        slice: task.slice(),
+        tolerance: row.request.bot_ping_tolerance_secs,
         properties: slice.properties.try_copy(alloc)?,
     })
 }
 
-/// The run of the current slice.
-pub(crate) fn run(alloc: Global, task: &TaskRow) -> Result<Reply, AllocError>
-    ensures { IfOk result (λ reply. reply ≡ run task.now) }
+/// The run of the current slice, with the number of its try.
+pub(crate) fn run(alloc: Global, try_no: u32, task: &ShownTask<'_>) -> Result<Reply, AllocError>
+    ensures { IfOk result (λ reply. reply ≡ run try_no task.now) }
 {
     match task.current_slice() {
         None => Ok(Reply::Skip),
-        Some(slice) => run_from(alloc, task, slice),
+        Some(slice) => run_from(alloc, try_no, task, slice),
     }
 }

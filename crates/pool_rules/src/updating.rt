@@ -8,10 +8,10 @@ use crate::chunks::{fresh_chunk, output_rule, unplaced_chunk};
 use crate::missing::{file_missing, missing_file};
 use crate::putting::store_full;
 use dimensions::{Text, TryCopy};
-use pool_queries::{PoolQueries, named_task, refusal, reply_with_entry};
+use pool_queries::{PoolQueries, ShownTask, named_task, refusal, reply_with_entry};
 use std::alloc::{AllocError, Global};
 use std::sync::ledger::Ledger;
-use swarm_model::{Attempt, BotRow, Chunk, Decision, EntryKind, Last, Reply, Rule, Steps, TaskRow};
+use swarm_model::{Attempt, BotRow, Chunk, Decision, EntryKind, Last, Reply, Rule, Steps};
 use task_props::File;
 
 /// Whether the report is the one that ended the run.
@@ -36,7 +36,7 @@ fn updates(attempt: &Attempt, entry: EntryKind) -> Decision
 /// A run that has ended takes only the report that ended it, once more.
 fn report_again(
     bot: &BotRow,
-    task: &TaskRow,
+    task: &ShownTask<'_>,
     chunk: Option<Chunk>,
     last: &Option<Last>,
     attempt: &Attempt,
@@ -46,7 +46,9 @@ fn report_again(
     if is_kept(attempt, chunk, last) {
         updates(attempt, EntryKind::Contact { b: bot.no })
     } else {
-        refusal(Rule::AttemptOver { state: task.state })
+        refusal(Rule::AttemptOver {
+            state: task.state(),
+        })
     }
 }
 
@@ -64,7 +66,7 @@ fn report_running<P: PoolQueries>(
     alloc: Global,
     pool: &P,
     bot: &BotRow,
-    task: &TaskRow,
+    task: &ShownTask<'_>,
     chunk: Option<Chunk>,
     last: &Option<Last>,
     attempt: &Attempt,
@@ -87,7 +89,7 @@ fn report_running<P: PoolQueries>(
     let last = last.try_copy(alloc)?;
     let entry = EntryKind::Update {
         b: bot.no,
-        t: task.no,
+        t: task.row().no,
         try_no: attempt.try_no,
         chunk,
         last,
@@ -99,14 +101,14 @@ fn report<P: PoolQueries>(
     alloc: Global,
     pool: &P,
     bot: &BotRow,
-    task: &TaskRow,
+    task: &ShownTask<'_>,
     chunk: Option<Chunk>,
     last: &Option<Last>,
     attempt: &Attempt,
 ) -> Result<Decision, AllocError>
     ensures { IfOk result (λ decision. decision ≡ report (P.state pool.now) bot.now task.now chunk last.now attempt.now) }
 {
-    if task.state.is_final() {
+    if task.state().is_final() {
         return Ok(report_again(bot, task, chunk, last, attempt));
     }
     report_running(alloc, pool, bot, task, chunk, last, attempt)
@@ -131,7 +133,7 @@ fn report_on<P: PoolQueries>(
     alloc: Global,
     pool: &P,
     bot: &BotRow,
-    task: &TaskRow,
+    task: &ShownTask<'_>,
     chunk: Option<Chunk>,
     last: &Option<Last>,
     attempt: &Attempt,
@@ -150,11 +152,11 @@ fn update_row<P: PoolQueries>(
     bot: &BotRow,
     chunk: Option<Chunk>,
     last: &Option<Last>,
-    task: &TaskRow,
+    task: &ShownTask<'_>,
 ) -> Result<Decision, AllocError>
     ensures { IfOk result (λ decision. decision ≡ update_row (P.state pool.now) bot.now chunk last.now task.now) }
 {
-    match &task.attempt {
+    match task.attempt() {
         None => Ok(refusal(Rule::NoTask)),
         Some(attempt) => report_on(alloc, pool, bot, task, chunk, last, attempt),
     }
@@ -174,7 +176,7 @@ fn update_by<P: PoolQueries, L: Ledger>(
 {
     match named_task(pool, number, try_no, steps) {
         None => Ok(refusal(Rule::NoTask)),
-        Some(task) => update_row(alloc, pool, bot, chunk, last, task),
+        Some(task) => update_row(alloc, pool, bot, chunk, last, &task),
     }
 }
 

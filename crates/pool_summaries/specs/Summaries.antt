@@ -27,14 +27,18 @@ count_at counts state = get_or counts (state_place state) 0
 abbrev pub count_lines : List ℕ → List ℕ
 count_lines counts = flat_map (λ state. count_line state (count_at counts state)) states
 
--- the lines of a pool with this name and this log
-abbrev pub pool_summary : List ℕ → List Entry → List ℕ
-pool_summary name log = pool_line name (length log) (count_by is_new log) ++ count_lines (verdict_tally log)
+-- the lines of a pool of this name, of which the log tells these verdicts by the settings
+abbrev pub named_summary : List ℕ → PoolSettings → List Entry → List ℕ
+named_summary name settings log = pool_line name (length log) (count_by is_new log) ++ count_lines (verdict_tally settings log)
+
+-- the lines of a pool with these settings and this log
+abbrev pub pool_summary : PoolSettings → List Entry → List ℕ
+pool_summary pool log = named_summary pool.name pool log
 
 -- the lines of the first n pools, whose logs stand at their places
 unfoldable pub first_summaries : List PoolSettings → (ℕ → List Entry) → ℕ → List ℕ
 first_summaries pools logs zero = []
-first_summaries pools logs (suc n) = first_summaries pools logs n ++ option_map_or (λ pool. pool_summary pool.name (logs n)) (slice_get pools n) []
+first_summaries pools logs (suc n) = first_summaries pools logs n ++ option_map_or (λ pool. pool_summary pool (logs n)) (slice_get pools n) []
 
 -- the lines of all pools
 abbrev pub summary_of : List PoolSettings → (ℕ → List Entry) → List ℕ

@@ -1,6 +1,6 @@
 //! The lines of a summary.
 ghost use Rattle.std.specs.Prelude.{◌≡◌, ◌<◌, ◌^◌, ◌++◌, map, length, sum_by, IfOk, OnOk, string_bytes, slice_index_or, []};
-ghost use Rattle.pool_summaries.specs.Summaries.{pool_line, count_at, count_line, count_lines, pool_summary, summary_of};
+ghost use Rattle.pool_summaries.specs.Summaries.{pool_line, count_at, count_line, count_lines, named_summary, summary_of};
 
 use std::alloc::{AllocError, Global};
 use swarm_model::{Machine, PoolSettings, STATES, TaskState};
@@ -54,20 +54,20 @@ fn total(counts: &[u64; 9]) -> u64
 }
 
 fn write_pool<M: Machine>(text: &mut String, name: &str, machine: &M) -> Result<(), AllocError>
-    ensures { OnOk result (string_bytes text.new ≡ string_bytes text.old ++ pool_summary name.now (M.kept machine.now).log) }
+    ensures { OnOk result (string_bytes text.new ≡ string_bytes text.old ++ named_summary name.now (M.kept machine.now).pool.settings (M.kept machine.now).log) }
 {
     let counts = machine.tally();
     write_pool_line(text, name, machine.length(), total(&counts))?;
     write_count_lines(text, &counts)
 }
 
-/// The summary of the pools that these machines are, in their order.
+/// The summary of the pools, of each of which a machine has the rows and the log, in their order.
 pub fn summary<M: Machine>(
     alloc: Global,
     pools: &[PoolSettings],
     machines: &[M],
 ) -> Result<String, AllocError>
-    requires { length machines.now ≡ length pools.now }
+    requires { map (λ m. m.pool.settings) (map M.kept machines.now) ≡ pools.now }
     ensures { IfOk result (λ text. string_bytes text ≡ summary_of pools.now (λ place. slice_index_or (map (λ m. m.log) (map M.kept machines.now)) place [])) }
 {
     let mut text = String::new(alloc);

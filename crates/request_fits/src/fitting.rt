@@ -37,7 +37,14 @@ fn is_task_number(number: u32) -> bool
 fn fits_task(task: u32, try_no: u32) -> bool
     ensures { result ≡ fits_task task try_no }
 {
-    is_task_number(task) && try_no <= 1
+    is_task_number(task) && try_no <= 2
+}
+
+/// Whether a run may have this number.
+fn is_try(try_no: u32) -> bool
+    ensures { result ≡ is_between 1 2 try_no }
+{
+    1 <= try_no && try_no <= 2
 }
 
 fn is_limit(limit: u32) -> bool
@@ -160,8 +167,8 @@ pub fn fits(settings: &PoolSettings, request: &Request) -> bool
             last,
         } => {
             is_name(bot.as_str())
-                && fits_task(*task, *try_no)
-                && *try_no == 1
+                && is_task_number(*task)
+                && is_try(*try_no)
                 && fits_chunk_or_none(chunk)
                 && fits_last_or_none(last)
         }

@@ -18,4 +18,6 @@ abbrev pub task_parts : EntryKind → TaskParts
 task_parts (kind.New t who request state slice from) = task.New who request
 task_parts (kind.Claim b t claim) = task.Claim claim
 task_parts (kind.Update b t try_no chunk last) = task.Report t chunk last
+task_parts (kind.Silence t) = task.Lost tt
+task_parts (kind.Handshake b id session dims q) = task.Lost tt
 task_parts entry = task.Nothing

@@ -4,7 +4,7 @@ ghost use Rattle.row_changes.specs.Parts.{bot_parts, task_parts};
 
 use dimensions::{BotDims, Text, TryCopy};
 use std::alloc::{AllocError, Global};
-use swarm_model::{Chunk, EntryKind, Last};
+use swarm_model::{Chunk, EntryKind, Last, RetriedRoom};
 use task_props::SharedTask;
 
 /// What an entry moves into the row of a task.
@@ -23,6 +23,8 @@ pub enum TaskParts {
         chunk: Option<Chunk>,
         last: Option<Last>,
     },
+    /// Room for a run that is lost, should it be tried again.
+    Lost(RetriedRoom),
     Nothing,
 }
 
@@ -42,6 +44,9 @@ impl TaskParts {
                 chunk: *chunk,
                 last: last.try_copy(alloc)?,
             },
+            EntryKind::Silence { .. } | EntryKind::Handshake { .. } => {
+                TaskParts::Lost(RetriedRoom::new(alloc)?)
+            }
             _ => TaskParts::Nothing,
         })
     }
@@ -92,75 +97,5 @@ impl BotParts {
             EntryKind::Event { text, .. } => BotParts::Message(text.try_copy(alloc)?),
             _ => BotParts::Nothing,
         })
-    }
-}
-
-/// The parts of an entry, taken out of it.
-pub fn split(kind: EntryKind) -> (TaskParts, BotParts)
-    ensures task { result.0 ≡ task_parts kind }
-    ensures bot { result.1 ≡ bot_parts kind }
-{
-    match kind {
-        EntryKind::New {
-            t: _,
-            who,
-            request,
-            state: _,
-            slice: _,
-            from: _,
-        } => (
-            TaskParts::New {
-                creator: who,
-                request,
-            },
-            BotParts::Nothing,
-        ),
-        EntryKind::Handshake {
-            b: _,
-            id,
-            session,
-            dims,
-            q,
-        } => (
-            TaskParts::Nothing,
-            BotParts::Session {
-                name: id,
-                session,
-                dims,
-                quarantined: q,
-            },
-        ),
-        EntryKind::Poll {
-            b: _,
-            dims,
-            q,
-            hint: _,
-        } => (
-            TaskParts::Nothing,
-            BotParts::Changes {
-                dims,
-                quarantined: q,
-            },
-        ),
-        EntryKind::Claim { b: _, t: _, claim } => (TaskParts::Claim(claim), BotParts::Nothing),
-        EntryKind::Event { b: _, e: _, text } => (TaskParts::Nothing, BotParts::Message(text)),
-        EntryKind::Update {
-            b: _,
-            t,
-            try_no: _,
-            chunk,
-            last,
-        } => (
-            TaskParts::Report {
-                task: t,
-                chunk,
-                last,
-            },
-            BotParts::Nothing,
-        ),
-        other => {
-            drop(other);
-            (TaskParts::Nothing, BotParts::Nothing)
-        }
     }
 }

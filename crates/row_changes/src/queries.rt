@@ -2,13 +2,14 @@
 ghost use Rattle.std.specs.Prelude.{◌≡◌, false};
 ghost use Rattle.std.specs.List.{list_any};
 ghost use Rattle.std.specs.Option.{option_copied, option_map_or};
+ghost use Rattle.swarm_model.specs.Effects.{is_idempotent, is_first_run, is_tried_again};
 ghost use Rattle.swarm_model.specs.Slices.{could_run, takes_slice, waits_for};
-ghost use Rattle.swarm_model.specs.Answers.{is_claim, is_claimed};
+ghost use Rattle.swarm_model.specs.Answers.{is_claim, is_claimed, was_claimed, has_claim};
 ghost use Rattle.swarm_model.specs.Reuse.{is_sent};
 ghost use Rattle.swarm_model.specs.Uses.{is_file_of, has_input, is_chunk_of, has_chunk, needs};
 
 use dimensions::{BotDims, DimSet, Text};
-use swarm_model::{Attempt, BotRow, Chunk, TaskRow, TaskState};
+use swarm_model::{Attempt, BotRow, Chunk, Retried, TaskRow, TaskState};
 use task_props::{Digest, File, Slice};
 
 /// Whether some fit bot, busy or not, has the dimensions.
@@ -24,14 +25,31 @@ fn is_claim(bot: u32, claim: &Text, attempt: &Attempt) -> bool
     attempt.bot == bot && attempt.claim == *claim
 }
 
-/// Whether the bot claimed the task under this id.
-pub fn is_claimed(bot: u32, claim: &Text, task: &TaskRow) -> bool
+/// Whether the bot claimed the run of the task under this id.
+fn is_claimed(bot: u32, claim: &Text, task: &TaskRow) -> bool
     ensures { result ≡ is_claimed bot claim.now task.now }
 {
     match &task.attempt {
         Some(attempt) => is_claim(bot, claim, attempt),
         None => false,
     }
+}
+
+/// Whether it claimed the run that was lost before.
+fn was_claimed(bot: u32, claim: &Text, task: &TaskRow) -> bool
+    ensures { result ≡ was_claimed bot claim.now task.now }
+{
+    match task.retried.as_ref() {
+        Some(lost) => is_claim(bot, claim, &lost.attempt),
+        None => false,
+    }
+}
+
+/// Whether the bot claimed the task under this id.
+pub fn has_claim(bot: u32, claim: &Text, task: &TaskRow) -> bool
+    ensures { result ≡ has_claim bot claim.now task.now }
+{
+    is_claimed(bot, claim, task) || was_claimed(bot, claim, task)
 }
 
 /// Whether the caller sent the task under this uuid.
@@ -50,11 +68,40 @@ fn takes_slice(dims: &BotDims, slice: Option<&Slice>) -> bool
     }
 }
 
-/// Whether the task waits for a bot of these dimensions.
-pub fn waits_for(dims: &BotDims, task: &TaskRow) -> bool
-    ensures { result ≡ waits_for dims.now task.now }
+/// Whether the task waits for a bot of these dimensions, and isn't kept from the bot of this number.
+pub fn waits_for(bot: u32, dims: &BotDims, task: &TaskRow) -> bool
+    ensures { result ≡ waits_for bot dims.now task.now }
 {
-    task.has_state(TaskState::Pending) && takes_slice(dims, task.current_slice())
+    task.has_state(TaskState::Pending)
+        && takes_slice(dims, task.current_slice())
+        && !task.is_kept_from(bot)
+}
+
+/// Whether the slice that the task has come to may run twice.
+fn is_idempotent(task: &TaskRow) -> bool
+    ensures { result ≡ is_idempotent task.now }
+{
+    match task.current_slice() {
+        Some(slice) => slice.properties.idempotent,
+        None => false,
+    }
+}
+
+/// Whether the run is the first one of its task, and was not asked to stop.
+fn is_first_run(attempt: &Option<Attempt>) -> bool
+    ensures { result ≡ is_first_run attempt.now }
+{
+    match attempt {
+        Some(attempt) => attempt.try_no == 1 && !attempt.kill,
+        None => false,
+    }
+}
+
+/// Whether the run of the task, should it be lost, is tried again in a pool that retries so often.
+pub fn is_tried_again(retries: u32, task: &TaskRow) -> bool
+    ensures { result ≡ is_tried_again retries task.now }
+{
+    retries == 1 && is_first_run(&task.attempt) && is_idempotent(task)
 }
 
 fn is_file_of(digest: &Digest, file: &File) -> bool
@@ -98,12 +145,22 @@ fn is_output(digest: &Digest, attempt: &Option<Attempt>) -> bool
     }
 }
 
-/// Whether the task waits or runs, and the blob of a digest is an input of it or a chunk of its
-/// output.
+fn was_output(digest: &Digest, lost: Option<&Retried>) -> bool
+    ensures { result ≡ option_map_or (λ run. has_chunk digest.now run.attempt) (option_copied lost.entry) false }
+{
+    match lost {
+        Some(lost) => has_chunk(digest, &lost.attempt),
+        None => false,
+    }
+}
+
+/// Whether the task waits or runs, and the blob of a digest is an input of it or a chunk of the
+/// output of one of its runs.
 pub fn needs(digest: &Digest, task: &TaskRow) -> bool
     ensures { result ≡ needs digest.now task.now }
 {
     !task.state.is_final()
         && (is_input(digest, task.request.task_slices.as_slice())
-            || is_output(digest, &task.attempt))
+            || is_output(digest, &task.attempt)
+            || was_output(digest, task.retried.as_ref()))
 }

@@ -1,13 +1,15 @@
 //! What an entry does to the row of one task, and the row that it adds.
 ghost use Rattle.std.specs.Prelude.{◌≡◌, ◌≤◌, [], length};
 ghost use Rattle.std.specs.Option.{option_map};
-ghost use Rattle.swarm_model.specs.Effects.{end_at, new_row, expired_slice, end_state, lost_run, started_run, reported, with_last_report, ended_run};
+ghost use Rattle.swarm_model.specs.Effects.{end_at, new_row, expired_slice, end_state, retried_from, retried_run, died_run, lost_run, started_run, reported, with_last_report, ended_run};
 
-use crate::{Change, Row};
+use crate::{Change, Row, is_tried_again};
 use dimensions::Text;
 use reserved_vec::ReservedVec;
 use std::mem;
-use swarm_model::{Attempt, Chunk, Last, Outcome, TaskRow, TaskState};
+use swarm_model::{
+    Attempt, Chunk, Last, MaybeRetried, Outcome, Retried, RetriedRoom, TaskRow, TaskState,
+};
 use task_props::SharedTask;
 
 impl Row for TaskRow {
@@ -50,6 +52,7 @@ pub fn new_row(
         slice,
         since: moment,
         attempt: None,
+        retried: MaybeRetried::none(),
         source,
         ended: end_at(state, moment),
     }
@@ -110,23 +113,78 @@ fn end_state(attempt: &Option<Attempt>, state: TaskState) -> TaskState
     }
 }
 
-/// The run of a task ends without a last update.
+/// The run, kept in room that was made before.
+fn kept_run(attempt: Option<Attempt>, slice: u32, over: u64, room: RetriedRoom) -> MaybeRetried
+    ensures { result ≡ option_map (retried_from over slice) attempt }
+{
+    match attempt {
+        None => {
+            drop(room);
+            MaybeRetried::none()
+        }
+        Some(attempt) => room.keep(Retried {
+            attempt,
+            slice,
+            over,
+        }),
+    }
+}
+
+/// The task waits again, at the same slice, and its run is kept beside it.
+fn try_again(task: &mut TaskRow, moment: u64, room: RetriedRoom)
+    ensures { task.new ≡ retried_run moment task.old }
+{
+    task.state = TaskState::Pending;
+    task.since = moment;
+    let attempt = task.attempt.take();
+    let retried = kept_run(attempt, task.slice, moment, room);
+    drop(mem::replace(&mut task.retried, retried));
+}
+
+/// The run ends for good.
+fn die(task: &mut TaskRow, moment: u64)
+    ensures { task.new ≡ died_run moment task.old }
+{
+    task.state = end_state(&task.attempt, TaskState::BotDied);
+    task.ended = Some(moment);
+}
+
+fn lose(task: &mut TaskRow, retries: u32, moment: u64, room: RetriedRoom)
+    ensures { task.new ≡ lost_run retries moment task.old }
+{
+    if is_tried_again(retries, task) {
+        try_again(task, moment, room);
+    } else {
+        drop(room);
+        die(task, moment);
+    }
+}
+
+/// The run of a task ends without a last update. It is tried again where the pool retries.
 #[derive(Drop)]
 pub struct LoseRun {
     pub moment: u64,
+    /// How often the pool tries a run again that is lost.
+    pub retries: u32,
+    /// Where the run is kept, if it is tried again.
+    pub room: RetriedRoom,
 }
 
 impl Change<TaskRow> for LoseRun {
     ghost use Rattle.std.specs.Prelude.{⊤};
     ghost use Rattle.swarm_model.specs.Effects.{lost_run};
 
-    ghost change = { λ c. lost_run c.moment };
+    ghost change = { λ c. lost_run c.retries c.moment };
 
     ghost fits = { λ task. ⊤ };
 
     fn apply(self, row: &mut TaskRow) {
-        row.state = end_state(&row.attempt, TaskState::BotDied);
-        row.ended = Some(self.moment);
+        let LoseRun {
+            moment,
+            retries,
+            room,
+        } = self;
+        lose(row, retries, moment, room);
     }
 }
 
@@ -135,11 +193,12 @@ fn begin(task: &mut TaskRow, moment: u64, bot: u32, claim: Text, chunks: Reserve
     requires { chunks ≡ [] }
     ensures { task.new ≡ started_run moment bot claim task.old }
 {
+    let try_no = task.next_try();
     task.state = TaskState::Running;
     drop(mem::replace(
         &mut task.attempt,
         Some(Attempt {
-            try_no: 1,
+            try_no,
             bot,
             claim,
             begun: moment,

@@ -2,13 +2,13 @@
 ghost use Rattle.std.specs.Prelude.{◌≡◌};
 ghost use Rattle.serde_json.specs.View.{view};
 ghost use Rattle.json_fields.specs.Readings.{GivesUnlessMemory, Reads};
-ghost use Rattle.server_calls.specs.Commands.{sleep_in, claim_hint, terminate, poll_by, polled_in, checked_run, named_run_in, slice_in, tolerance_in, run_in, skip, claim_by, claimed_in};
+ghost use Rattle.server_calls.specs.Commands.{sleep_in, claim_hint, terminate, poll_by, polled_in, checked_run, named_run_in, slice_in, tolerance_in, run_in, skip, claimed_in};
 
 use crate::Told;
 use crate::ids::RunId;
 use crate::members::{check_keys, read_number, read_short_number};
 use crate::places::{read_place, read_run_id};
-use crate::run_properties::read_properties;
+use crate::run_properties::take_properties;
 use dimensions::Seq;
 use json_fields::{broken, read_required_text};
 use serde_json::Value;
@@ -110,15 +110,15 @@ fn read_tolerance(alloc: Global, body: &Value) -> Result<u32, PropFault>
 }
 
 #[tactic(auto, unfolding(crate::specs::Commands::run_in))]
-fn read_run(alloc: Global, body: &Value) -> Result<Told, PropFault>
-    ensures { Reads result (run_in (view body.now)) }
+fn read_run(alloc: Global, body: Value) -> Result<Told, PropFault>
+    ensures { Reads result (run_in (view body)) }
 {
-    check_run_keys(alloc, body)?;
-    let id = read_named_run(alloc, body)?;
+    check_run_keys(alloc, &body)?;
+    let id = read_named_run(alloc, &body)?;
     let place = read_place(alloc, &[Some(id.place)])?;
-    let slice = read_slice(alloc, body)?;
-    let tolerance = read_tolerance(alloc, body)?;
-    let properties = read_properties(alloc, body)?;
+    let slice = read_slice(alloc, &body)?;
+    let tolerance = read_tolerance(alloc, &body)?;
+    let properties = take_properties(alloc, body)?;
     let (task, try_no) = id.run;
     Ok(Told::Good {
         place,
@@ -144,21 +144,15 @@ fn read_skip(alloc: Global, body: &Value) -> Result<Told, PropFault>
     })
 }
 
-fn claim_of(alloc: Global, cmd: &str, body: &Value) -> Result<Told, PropFault>
-    ensures { Reads result (claim_by cmd.now (view body.now)) }
+/// What a bot that asked for a task is told. The texts of its run are those of the body, which are
+/// not copied.
+#[tactic(auto, unfolding(crate::specs::Commands::claimed_in))]
+pub(crate) fn read_claimed(alloc: Global, body: Value) -> Result<Told, PropFault>
+    ensures { Reads result (claimed_in (view body)) }
 {
-    match cmd {
+    match read_required_text(alloc, &body, "cmd")? {
         "run" => read_run(alloc, body),
-        "skip" => read_skip(alloc, body),
+        "skip" => read_skip(alloc, &body),
         _ => Err(broken(alloc, "cmd", PropRule::Grammar)),
     }
-}
-
-/// What a bot that asked for a task is told.
-#[tactic(auto, unfolding(crate::specs::Commands::claimed_in))]
-pub(crate) fn read_claimed(alloc: Global, body: &Value) -> Result<Told, PropFault>
-    ensures { Reads result (claimed_in (view body.now)) }
-{
-    let cmd = read_required_text(alloc, body, "cmd")?;
-    claim_of(alloc, cmd, body)
 }

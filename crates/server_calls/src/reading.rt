@@ -32,26 +32,26 @@ fn told_or_none(read: Result<Told, PropFault>) -> Result<Option<Told>, AllocErro
 }
 
 /// What the value of a body tells of the call of a route.
-fn read_value(alloc: Global, route: Route, value: &Value) -> Result<Told, PropFault>
-    ensures { Reads result (value_in route (view value.now)) }
+fn read_value(alloc: Global, route: Route, value: Value) -> Result<Told, PropFault>
+    ensures { Reads result (value_in route (view value)) }
 {
     match route {
-        Route::NewTask => read_new(alloc, value),
-        Route::CancelTask => read_canceled(alloc, value),
-        Route::GetResult => read_result(alloc, value),
-        Route::GetStdout => read_stdout(alloc, value),
-        Route::ListTasks => read_tasks(alloc, value),
-        Route::CountTasks => read_count(alloc, value),
-        Route::GetBot => read_bot(alloc, value),
-        Route::ListBots => read_bots(alloc, value),
-        Route::TerminateBot => read_terminating(alloc, value),
-        Route::Handshake => read_shaken(alloc, value),
-        Route::Poll => read_polled(alloc, value),
+        Route::NewTask => read_new(alloc, &value),
+        Route::CancelTask => read_canceled(alloc, &value),
+        Route::GetResult => read_result(alloc, &value),
+        Route::GetStdout => read_stdout(alloc, &value),
+        Route::ListTasks => read_tasks(alloc, &value),
+        Route::CountTasks => read_count(alloc, &value),
+        Route::GetBot => read_bot(alloc, &value),
+        Route::ListBots => read_bots(alloc, &value),
+        Route::TerminateBot => read_terminating(alloc, &value),
+        Route::Handshake => read_shaken(alloc, &value),
+        Route::Poll => read_polled(alloc, &value),
         Route::Claim => read_claimed(alloc, value),
-        Route::Event => read_noted(alloc, value),
-        Route::TaskUpdate => read_updated(alloc, value),
-        Route::FindMissing => read_missing(alloc, value),
-        Route::PutBlob => read_put(alloc, value),
+        Route::Event => read_noted(alloc, &value),
+        Route::TaskUpdate => read_updated(alloc, &value),
+        Route::FindMissing => read_missing(alloc, &value),
+        Route::PutBlob => read_put(alloc, &value),
         Route::GetBlob => Err(broken(alloc, "", PropRule::WrongType)),
     }
 }
@@ -64,7 +64,7 @@ fn good_of(alloc: Global, route: Route, body: &[u8]) -> Result<Option<Told>, All
         return blob_of(alloc, body);
     }
     match read_body(alloc, body)? {
-        Some(value) => told_or_none(read_value(alloc, route, &value)),
+        Some(value) => told_or_none(read_value(alloc, route, value)),
         None => Ok(None),
     }
 }

@@ -7,7 +7,7 @@ ghost use Rattle.server_calls.specs.Commands.{task_with as spec_task_with, check
 use dimensions::{Seq, Text};
 use serde_json::Value;
 use std::alloc::{AllocError, Global};
-use task_bodies::read_properties_at;
+use task_bodies::take_properties_at;
 use task_checks::{RawProperties, RawSlice, RawTask, check_task};
 use task_props::{PropFault, Properties};
 
@@ -43,11 +43,11 @@ fn check_properties(alloc: Global, raw: RawProperties) -> Result<Properties, Pro
     }
 }
 
-/// The properties in a body.
+/// The properties in a body, taken out of it.
 #[tactic(auto, unfolding(crate::specs::Commands::properties_in))]
-pub(crate) fn read_properties(alloc: Global, body: &Value) -> Result<Properties, PropFault>
-    ensures { Reads result (properties_in (view body.now)) }
+pub(crate) fn take_properties(alloc: Global, body: Value) -> Result<Properties, PropFault>
+    ensures { Reads result (properties_in (view body)) }
 {
-    let raw = read_properties_at(alloc, body, "properties")?;
+    let raw = take_properties_at(alloc, body, "properties")?;
     check_properties(alloc, raw)
 }

@@ -21,8 +21,11 @@ use Rattle.shared_doors.specs.Lasting.{are_held, lasting_of}
 -- ---- the settings allow few entries
 
 -- the rules from a field on
+abbrev from_weight : PoolSettings → Bool
+from_weight p = is_between 1 134217728 p.most_weight && (nat_le p.retries 1 && (nat_le (length p.grants) 256 && list_all is_grant p.grants))
+
 abbrev from_entries : PoolSettings → Bool
-from_entries p = is_between 1 4194304 p.most_entries && (is_between 1 134217728 p.most_weight && (nat_le (length p.grants) 256 && list_all is_grant p.grants))
+from_entries p = is_between 1 4194304 p.most_entries && from_weight p
 
 abbrev from_units : PoolSettings → Bool
 from_units p = is_between 1 4194304 p.store_units && (is_between 1 262144 p.most_tasks && (is_between 1 4096 p.most_bots && from_entries p))
@@ -40,7 +43,7 @@ few_entries p rules =
     let age = (and_parts (is_pool_name p.name) (from_age p) named).1 in
     let units = fourth (nat_le p.reuse_age_secs 31536000) (is_between 60 2592000 p.death_timeout_secs) (is_between 60 31536000 p.blob_life_secs) (from_units p) age in
     let entries = fourth (is_between 1 4194304 p.store_units) (is_between 1 262144 p.most_tasks) (is_between 1 4096 p.most_bots) (from_entries p) units in
-    let between = (and_parts (is_between 1 4194304 p.most_entries) (is_between 1 134217728 p.most_weight && (nat_le (length p.grants) 256 && list_all is_grant p.grants)) entries).0 in
+    let between = (and_parts (is_between 1 4194304 p.most_entries) (from_weight p) entries).0 in
     leb-true p.most_entries 4194304 (and_parts (nat_le 1 p.most_entries) (nat_le p.most_entries 4194304) between).1
 
 -- a log to which an entry was added was short

@@ -23,6 +23,7 @@ no_state = record {
     most_bots = 0;
     most_entries = 0;
     most_weight = 0;
+    retries = 0;
     grants = [];
   });
   log = [];

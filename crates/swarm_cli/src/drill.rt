@@ -2,7 +2,7 @@
 ghost use Rattle.std.specs.Prelude.{◌≡◌, ◌≤◌, ℕ, map, length, IfOk, IsTrue, string_bytes};
 ghost use Rattle.drill_requests.specs.Texts.{drill_bytes};
 ghost use Rattle.swarm_model.specs.Settings.{are_settings};
-ghost use Rattle.swarm_history.specs.Machines.{logs_of};
+ghost use Rattle.swarm_history.specs.Machines.{logs_of, pools_of};
 ghost use Rattle.pool_summaries.specs.Summaries.{summary_of};
 ghost use Rattle.remote_commands.specs.Streams.{PrintsMade};
 ghost use Rattle.swarm_cli.specs.Drills.{Drills, drill_settings as spec_drill_settings, drill_status, drill_text};
@@ -62,7 +62,7 @@ fn drill_lines<M: Machine>(
     machines: &[M],
     counted: &ConnectionCounts,
 ) -> Result<String, AllocError>
-    requires count { length machines.now ≡ length pools.now }
+    requires pools { pools_of (map M.kept machines.now) ≡ pools.now }
     requires few { counted.now.accepted ≤ counted.now.requests }
     ensures { IfOk result (λ text. string_bytes text ≡ drill_text counted.now.requests counted.now.accepted (summary_of pools.now (logs_of (map M.kept machines.now)))) }
 {
@@ -77,7 +77,7 @@ fn print_drill<L: Link, M: Machine>(
     console: &mut L,
     counted: &ConnectionCounts,
 ) -> u8
-    requires count { length machines.now ≡ length pools.now }
+    requires pools { pools_of (map M.kept machines.now) ≡ pools.now }
     requires few { counted.now.accepted ≤ counted.now.requests }
     ensures { PrintsMade (drill_text counted.now.requests counted.now.accepted (summary_of pools.now (logs_of (map M.kept machines.now)))) (drill_status counted.now.ended)
         (L.state console.old) (L.state console.new) result }

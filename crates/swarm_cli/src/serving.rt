@@ -4,7 +4,7 @@ ghost use Rattle.std.specs.List.{list_all};
 ghost use Rattle.sw_base.specs.Link.{IsClean};
 ghost use Rattle.swarm_model.specs.Settings.{are_settings};
 ghost use Rattle.swarm_http.specs.Answered.{KeepsDoor};
-ghost use Rattle.swarm_history.specs.Machines.{logs_of};
+ghost use Rattle.swarm_history.specs.Machines.{logs_of, pools_of};
 ghost use Rattle.pool_summaries.specs.Summaries.{summary_of};
 ghost use Rattle.remote_commands.specs.Streams.{PrintsMade};
 ghost use Rattle.swarm_cli.specs.ServerWork.{exit_status, work_status, start_status};
@@ -120,7 +120,7 @@ pub(crate) fn print_summary<L: Link, M: Machine>(
     console: &mut L,
     status: u8,
 ) -> u8
-    requires count { length machines.now ≡ length pools.now }
+    requires pools { pools_of (map M.kept machines.now) ≡ pools.now }
     ensures { PrintsMade (summary_of pools.now (logs_of (map M.kept machines.now))) status (L.state console.old) (L.state console.new) result }
 {
     match summary(alloc, pools, machines) {
@@ -137,7 +137,7 @@ fn finish<L: Link, M: Machine>(
     console: &mut L,
     used: DoorResult,
 ) -> u8
-    requires count { length machines.now ≡ length pools.now }
+    requires pools { pools_of (map M.kept machines.now) ≡ pools.now }
     ensures { IsFinished used (summary_of pools.now (logs_of (map M.kept machines.now))) (L.state console.old) (L.state console.new) result }
 {
     match used {

@@ -8,7 +8,7 @@ ghost use Rattle.swarm_model.specs.Points.{Growth};
 ghost use Rattle.swarm_model.specs.Settings.{are_settings};
 ghost use Rattle.pool_doors.specs.Doors.{IsPoolCall, IsFreshDoor, CountsKeeper};
 ghost use Rattle.swarm_history.specs.Calls.{call_of};
-ghost use Rattle.swarm_history.specs.Machines.{logs_of, own_door};
+ghost use Rattle.swarm_history.specs.Machines.{logs_of, own_door, pools_of};
 ghost use Rattle.swarm_history.specs.Records.{AreKept, AreRecordsOf, AreMachineRecords, HoldsNoOthers, IsFirstBadRecord};
 ghost use Rattle.swarm_history.specs.OneProof.{are_records_one};
 
@@ -127,7 +127,7 @@ impl<M: Machine + Drop, K: Keeper + Drop> PlainDoor<M, K> {
         ensures told { map K.tables result.1.items ≡ (⟦<PlainDoor<M, K> as Door>⟧.state self).records }
         ensures faults { sum_by K.faults result.1.items ≡ (⟦<PlainDoor<M, K> as Door>⟧.state self).faults }
 
-        ensures machines { length result.0.items ≡ length (⟦<PlainDoor<M, K> as Door>⟧.state self).settings.pools }
+        ensures machines { pools_of (map M.kept result.0.items) ≡ (⟦<PlainDoor<M, K> as Door>⟧.state self).settings.pools }
         ensures keepers { length result.1.items ≡ length (⟦<PlainDoor<M, K> as Door>⟧.state self).settings.pools }
     {
         (self.machines, self.keepers)

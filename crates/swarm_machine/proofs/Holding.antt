@@ -27,7 +27,8 @@ sizes p =
     && (is_between 1 4096 p.most_bots
     && (is_between 1 4194304 p.most_entries
     && (is_between 1 134217728 p.most_weight
-    && (nat_le (length p.grants) 256 && list_all is_grant p.grants)))))
+    && (nat_le p.retries 1
+    && (nat_le (length p.grants) 256 && list_all is_grant p.grants))))))
 
 -- the last of five tests
 fifth : (a b c d e f : Bool) → IsTrue (a && (b && (c && (d && (e && f))))) → IsTrue f
@@ -55,7 +56,7 @@ pub few_rows : (p : PoolSettings) → IsTrue (keeps_rules p) → (p.most_tasks �
 few_rows p rules =
     let own = fifth (nat_le p.place 3) (is_pool_name p.name) (nat_le p.reuse_age_secs 31536000) (is_between 60 2592000 p.death_timeout_secs) (is_between 60 31536000 p.blob_life_secs) (sizes p) rules in
     let each = sizes_of (is_between 1 4194304 p.store_units) (is_between 1 262144 p.most_tasks) (is_between 1 4096 p.most_bots) (is_between 1 4194304 p.most_entries)
-    (is_between 1 134217728 p.most_weight) (nat_le (length p.grants) 256 && list_all is_grant p.grants) own in
+    (is_between 1 134217728 p.most_weight) (nat_le p.retries 1 && (nat_le (length p.grants) 256 && list_all is_grant p.grants)) own in
     (at_most 1 262144 p.most_tasks each.0, at_most 1 4096 p.most_bots each.1, at_most 1 134217728 p.most_weight each.2)
 
 -- ---- the rows of a pool

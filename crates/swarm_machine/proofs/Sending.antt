@@ -14,6 +14,9 @@ use Rattle.swarm_model.specs.contracts.bot_row.BotRow as BotRow
 use Rattle.swarm_model.specs.contracts.attempt.Last as Last
 use Rattle.swarm_model.specs.contracts.entry.Entry as Entry
 use Rattle.swarm_model.specs.contracts.entry.EntryKind as EntryKind
+use Rattle.swarm_model.specs.contracts.retried.Retried as Retried
+use Rattle.swarm_model.specs.contracts.retried.MaybeRetried as MaybeRetried
+use Rattle.swarm_model.specs.contracts.retried.RetriedRoom as RetriedRoom
 use Rattle.swarm_model.specs.contracts.task_row.TaskRow as TaskRow
 use Rattle.pool_log.specs.contracts.logged_pool.LoggedPool as LoggedPool
 use Rattle.swarm_machine.specs.contracts.indexed_rows.IndexedRows as IndexedRows
@@ -21,11 +24,20 @@ use Rattle.swarm_machine.specs.contracts.indexed_rows.IndexedRows.TheInside as i
 use Rattle.swarm_machine.specs.contracts.indexes.Indexes as Indexes
 use Rattle.swarm_machine.specs.contracts.rows.Rows as Rows
 
+retried_send : IsSend Retried.the_field.row
+retried_send = search (single.crosses, maps.crosses, sendable) depth 60 fits 100000
+
+maybe_retried_send : IsSend MaybeRetried.the_field.row
+maybe_retried_send = search (retried_send, single.crosses, maps.crosses, sendable) depth 60 fits 100000
+
+room_send : IsSend RetriedRoom.the_field.row
+room_send = search (retried_send, single.crosses, maps.crosses, sendable) depth 60 fits 100000
+
 task_row_send : IsSend TaskRow.the_field.row
-task_row_send = search (shared_task_send, single.crosses, maps.crosses, sendable) depth 60 fits 100000
+task_row_send = search (maybe_retried_send, shared_task_send, single.crosses, maps.crosses, sendable) depth 60 fits 100000
 
 task_parts_send : IsSend TaskParts.the_field.row
-task_parts_send = search (shared_task_send, single.crosses, maps.crosses, sendable) depth 60 fits 100000
+task_parts_send = search (room_send, shared_task_send, single.crosses, maps.crosses, sendable) depth 60 fits 100000
 
 task_rows_send : IsSend TaskRows.the_field.row
 task_rows_send = search (task_row_send, task_parts_send, single.crosses, maps.crosses, sendable) depth 60 fits 100000

@@ -17,5 +17,5 @@ kept_by old s e k is same left =
     sym same ∙ stays s.tasks ∙ left ∙ ap (λ (j : EntryKind). map (task_after s e.moment j) s.tasks ++ added_tasks e.moment j) (sym is)
 
 -- where no run is lost, each row stays
-pub none_lost : (moment : ℕ) (run : Option ℕ) (rows : List TaskRow) → run ≡ None → map (λ x. x) rows ++ [] ≡ map (λ task. if_some (lost_run_at moment) run task) rows ++ []
-none_lost moment run rows none = ap (λ (o : Option ℕ). map (λ task. if_some (lost_run_at moment) o task) rows ++ []) (sym none)
+pub none_lost : (retries moment : ℕ) (run : Option ℕ) (rows : List TaskRow) → run ≡ None → map (λ x. x) rows ++ [] ≡ map (λ task. if_some (lost_run_at retries moment) run task) rows ++ []
+none_lost retries moment run rows none = ap (λ (o : Option ℕ). map (λ task. if_some (lost_run_at retries moment) o task) rows ++ []) (sym none)

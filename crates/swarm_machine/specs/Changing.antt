@@ -17,7 +17,8 @@ abbrev pub IsNextTask : List TaskRow → EntryKind → Type 0
 IsNextTask rows (kind.New t who request state slice from) = t ≡ length rows + 1
 IsNextTask rows entry = ⊤
 
--- the rows after the entry are those of every pool that had the rows before it, and in which this run ends
-abbrev pub AreTasksAfter : List TaskRow → Option ℕ → Entry → List TaskRow → Type 0
-AreTasksAfter old run entry new =
-    (s : PoolState) → s.tasks ≡ old → run ≡ run_to_end s entry.kind → new ≡ (after s entry).tasks
+-- the rows after the entry are those of every pool that had the rows before it, tries a lost run again so often, and
+-- in which this run ends
+abbrev pub AreTasksAfter : ℕ → List TaskRow → Option ℕ → Entry → List TaskRow → Type 0
+AreTasksAfter retries old run entry new =
+    (s : PoolState) → s.tasks ≡ old → s.settings.retries ≡ retries → run ≡ run_to_end s entry.kind → new ≡ (after s entry).tasks

@@ -17,7 +17,7 @@ use Rattle.index_laws.specs.TaskQueues.{AreQueued}
 use Rattle.index_laws.specs.TaskClaims.{AreClaims, claim_link_to_come}
 use Rattle.index_laws.specs.TaskSources.{AreSources, source_link_before}
 use Rattle.index_laws.specs.TaskUuids.{AreUuids, uuid_link_to_come}
-use Rattle.index_laws.specs.DimsToCome.{dims_to_come, IsReadyFor}
+use Rattle.index_laws.specs.SetToCome.{set_to_come, IsReadyFor}
 use Rattle.pool_changes.specs.Blobs.{fresh_in}
 use Rattle.swarm_machine.specs.declared.rows.Rows.{Rows}
 use Rattle.swarm_machine.specs.declared.indexes.Indexes.{Indexes}
@@ -43,7 +43,7 @@ pub record AreReadyFor (indexes : Indexes) (s : PoolState) (k : EntryKind) : Typ
   pub task_ends : length s.tasks + 1 < length indexes.task_ends
   pub bot_ends : length s.bots + 1 < length indexes.bot_ends
   pub blob_ends : 0 < indexes.blob_ends.room
-  pub queue : IsReadyFor indexes.queues.ready (dims_to_come s.tasks k)
+  pub queue : IsReadyFor indexes.queues.ready (set_to_come s k)
   pub claim : indexes.claims.ready ≡ claim_link_to_come k
   pub uuid : indexes.uuids.ready ≡ uuid_link_to_come k
   pub uses : AreListedFor indexes.uses k

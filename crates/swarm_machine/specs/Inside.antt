@@ -18,8 +18,9 @@ pub record IsReadyFor (rows : Rows) (k : EntryKind) : Type 0 where
   pub tasks : rows.tasks.ready ≡ Some (task_parts k)
   pub bots : rows.bots.ready ≡ Some (bot_parts k)
 
--- the store is as large as the settings say, and there may be as many bots
+-- lost runs are tried again as often as the settings say, the store is as large, and there may be as many bots
 pub record IsOfSettings (rows : Rows) : Type 0 where
+  pub tasks : rows.tasks.retries ≡ rows.settings.retries
   pub blobs : IsOfPool rows.settings rows.blobs
   pub bots : rows.bots.most ≡ rows.settings.most_bots
 

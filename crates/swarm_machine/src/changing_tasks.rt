@@ -17,7 +17,8 @@ pub(crate) fn change_tasks(tasks: &mut TaskRows, run: Option<u32>, entry: &Entry
     requires next { IsNextTask tasks.old.rows entry.now.kind }
     requires short { KeepsShort tasks.old.rows entry.now.kind }
     requires few { All HasFewSlices tasks.old.rows }
-    ensures { AreTasksAfter tasks.old.rows run entry.now tasks.new.rows }
+    ensures rows { AreTasksAfter tasks.old.retries tasks.old.rows run entry.now tasks.new.rows }
+    ensures retries { tasks.new.retries ≡ tasks.old.retries }
 {
     match &entry.kind {
         EntryKind::Slice { t, .. } => tasks.next_slice(*t, entry),

@@ -60,6 +60,7 @@ fn make_ready(
     requires few_bots { length rows.old.bots.rows < 2 ^ 32 }
     ensures same { state_of rows.new ≡ state_of rows.old }
     ensures settings { rows.new.settings ≡ rows.old.settings }
+    ensures retries { rows.new.tasks.retries ≡ rows.old.tasks.retries }
     ensures blobs { rows.new.blobs ≡ rows.old.blobs }
     ensures most { rows.new.bots.most ≡ rows.old.bots.most }
     ensures indexes { (s : PoolState) → AreIndexes indexes.old s → AreIndexes indexes.new s }
@@ -175,10 +176,11 @@ impl PoolQueries for IndexedRows {
 
     fn first_for<'a, L: Ledger>(
         &'a self,
+        no: u32,
         dims: &BotDims,
         steps: &mut Steps<L>,
     ) -> Option<&'a TaskRow> {
-        match self.indexes.queues.first_for(dims) {
+        match self.indexes.queues.first_for(no, dims) {
             None => None,
             Some(waiting) => self.row(waiting.number, steps),
         }

@@ -10,15 +10,18 @@
 //! `pages.rt` reads tasks one after another.
 //!
 //! A task or a bot is found at its place by its number, and by bisection by its name, uuid or
-//! claim, and so is the newest source of a hash, and whether a blob is in use. A poll or a claim
-//! reads at most one task row, and matches each set of dimensions with which tasks wait at most
-//! once. The earliest deadline is at hand, and so are the counts; a new deadline of a task, a bot or
-//! a blob costs a comparison for each halving of the rows. A new deadline of a blob stands last, and
-//! the deadline of a blob whose life ends stands first, so neither moves others; that of a blob which
-//! is put again moves at most half of them, 16 bytes each. The sets of a new task are compared with
-//! at most 1,024 that are known, and the one with which it will wait with those of the queues; one
-//! that is not known costs a pass over the bots, and so does a run that is lost by silence.
-//! `apply` takes no memory: `reserve` took it.
+//! claim, and so is the newest source of a hash, and whether a blob is in use. A task whose run was
+//! tried again is found by the claims of both runs, and its uses are those of both until it ends.
+//! Tasks wait in one queue for each set of dimensions, and those that are kept from a bot in one for
+//! each set and bot. A poll or a claim reads at most one task row, and matches the set of each queue
+//! at most once, and that of a queue which is kept from the bot never. The earliest deadline is at
+//! hand, and so are the counts; a new deadline of a task, a bot or a blob costs a comparison for each
+//! halving of the rows. A new deadline of a blob stands last, and the deadline of a blob whose life
+//! ends stands first, so neither moves others; that of a blob which is put again moves at most half
+//! of them, 16 bytes each. The sets of a new task are compared with at most 1,024 that are known, and
+//! the one with which it will wait with those of the queues, as is that of a lost run which is tried
+//! again. A set that is not known costs a pass over the bots, and so does a run that is lost by
+//! silence. `apply` takes no memory: `reserve` took it.
 //!
 //! These read one row after another: a page of tasks in one state, as far as it has to look, so
 //! that a rare state costs all of them; and a blob by its digest or number.

@@ -1,16 +1,28 @@
 //! The queue in which a touched task waits, and the room that is made for it there.
 ghost use Rattle.std.specs.Prelude.{◌≡◌, Some, None, IfSome, OnOk};
-ghost use Rattle.std.specs.Option.{option_copied};
+ghost use Rattle.std.specs.Option.{option_copied, option_and_then};
 ghost use Rattle.dim_queue.specs.Plain.{IsAbsent, SameWaits};
-ghost use Rattle.index_laws.specs.DimsToCome.{dims_at, dims_of_row, dims_to_come, IsReadyFor};
-ghost use Rattle.index_laws.specs.TaskQueues.{IsRequeued, waiting_of, touched_place};
+ghost use Rattle.index_laws.specs.SetToCome.{set_at, set_moved, set_if_lost, set_to_come, IsReadyFor};
+ghost use Rattle.index_laws.specs.TaskQueues.{IsRequeued, kept_from, waiting_of, touched_place};
 ghost use Rattle.swarm_machine.specs.Inside.{state_of};
 
 use crate::rows::Rows;
+use crate::touched::{bot_of_run, row_of};
 use dim_queue::Queues;
+use row_changes::is_tried_again;
 use std::alloc::AllocError;
 use swarm_model::{EntryKind, Outcome, TaskRow, TaskState};
 use task_props::Slice;
+
+/// The bot that a task is kept from.
+fn kept_from(task: &TaskRow) -> Option<u32>
+    ensures { result ≡ kept_from task.now }
+{
+    match task.retried.as_ref() {
+        None => None,
+        Some(lost) => Some(lost.attempt.bot),
+    }
+}
 
 /// A task enters the queue of its current slice, where it is pending.
 fn enter(queues: &mut Queues, task: &TaskRow)
@@ -20,7 +32,8 @@ fn enter(queues: &mut Queues, task: &TaskRow)
 {
     if task.has_state(TaskState::Pending) {
         if let Some(slice) = task.current_slice() {
-            queues.enter(&slice.properties.dimensions, task.request.priority, task.no);
+            let dims = &slice.properties.dimensions;
+            queues.enter(dims, kept_from(task), task.request.priority, task.no);
         }
     }
 }
@@ -46,23 +59,52 @@ pub(crate) fn move_in_queue(queues: &mut Queues, touched: Option<u32>, rows: &Ro
     }
 }
 
-fn prepare_at(queues: &mut Queues, slices: &[Slice], place: u32) -> Result<(), AllocError>
+/// Makes ready the queue of the slice at a place, kept from a bot where one is named.
+fn prepare_at(
+    queues: &mut Queues,
+    slices: &[Slice],
+    place: u32,
+    but: Option<u32>,
+) -> Result<(), AllocError>
     ensures same { SameWaits queues.old.queues queues.new.queues }
-    ensures ok { OnOk result (IsReadyFor queues.new.ready (dims_at slices.now place)) }
+    ensures ok { OnOk result (IsReadyFor queues.new.ready (set_at slices.now place but)) }
 {
     match slices.get(place as usize) {
         None => Ok(()),
-        Some(slice) => queues.reserve(&slice.properties.dimensions),
+        Some(slice) => queues.reserve(&slice.properties.dimensions, but),
     }
 }
 
+/// Makes ready the queue of a task that comes to the slice at a place.
 fn prepare_row(queues: &mut Queues, row: Option<&TaskRow>, place: u32) -> Result<(), AllocError>
     ensures same { SameWaits queues.old.queues queues.new.queues }
-    ensures ok { OnOk result (IsReadyFor queues.new.ready (dims_of_row (option_copied row.entry) place)) }
+    ensures ok { OnOk result (IsReadyFor queues.new.ready (option_and_then (set_moved place) (option_copied row.entry))) }
 {
     match row {
         None => Ok(()),
-        Some(task) => prepare_at(queues, task.request.task_slices.as_slice(), place),
+        Some(task) => {
+            let slices = task.request.task_slices.as_slice();
+            prepare_at(queues, slices, place, kept_from(task))
+        }
+    }
+}
+
+/// Makes ready the queue in which a task waits for another bot, where its run is tried again once it
+/// is lost.
+fn prepare_lost(queues: &mut Queues, retries: u32, row: Option<&TaskRow>) -> Result<(), AllocError>
+    ensures same { SameWaits queues.old.queues queues.new.queues }
+    ensures ok { OnOk result (IsReadyFor queues.new.ready (option_and_then (set_if_lost retries) (option_copied row.entry))) }
+{
+    match row {
+        None => Ok(()),
+        Some(task) => {
+            if is_tried_again(retries, task) {
+                let slices = task.request.task_slices.as_slice();
+                prepare_at(queues, slices, task.slice, bot_of_run(&task.attempt))
+            } else {
+                Ok(())
+            }
+        }
     }
 }
 
@@ -73,16 +115,23 @@ pub(crate) fn prepare_queue(
     rows: &Rows,
 ) -> Result<(), AllocError>
     ensures same { SameWaits queues.old.queues queues.new.queues }
-    ensures ok { OnOk result (IsReadyFor queues.new.ready (dims_to_come rows.now.tasks.rows kind.now)) }
+    ensures ok { OnOk result (IsReadyFor queues.new.ready (set_to_come (state_of rows.now) kind.now)) }
 {
     match kind {
         EntryKind::New { request, slice, .. } => {
-            prepare_at(queues, request.task_slices.as_slice(), *slice)
+            prepare_at(queues, request.task_slices.as_slice(), *slice, None)
         }
         EntryKind::Slice { t, to } => match to {
             Outcome::Slice(place) => prepare_row(queues, rows.tasks.uncounted_row(*t), *place),
             Outcome::Ended(_) => Ok(()),
         },
+        EntryKind::Silence { t } => {
+            prepare_lost(queues, rows.settings.retries, row_of(rows, Some(*t)))
+        }
+        EntryKind::Handshake { b, .. } => {
+            let run = rows.run_of_bot(*b);
+            prepare_lost(queues, rows.settings.retries, row_of(rows, run))
+        }
         _ => Ok(()),
     }
 }

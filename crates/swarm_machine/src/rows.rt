@@ -39,10 +39,11 @@ impl Rows {
     {
         let blobs = Blobs::new(alloc, settings.store_units, MOST_BLOBS)?;
         let bots = Registry::new(alloc, settings.most_bots);
+        let tasks = TaskRows::new(alloc, settings.retries);
         Ok(Rows {
             settings,
             last: 0,
-            tasks: TaskRows::new(alloc),
+            tasks,
             bots,
             blobs,
         })
@@ -52,6 +53,7 @@ impl Rows {
     pub fn reserve(&mut self, entry: &Entry) -> Result<(), AllocError>
         ensures same { state_of self.new ≡ state_of self.old }
         ensures settings { self.new.settings ≡ self.old.settings }
+        ensures retries { self.new.tasks.retries ≡ self.old.tasks.retries }
         ensures blobs { self.new.blobs ≡ self.old.blobs }
         ensures most { self.new.bots.most ≡ self.old.bots.most }
         ensures ready { OnOk result (IsReadyFor self.new entry.now.kind) }

@@ -1,20 +1,29 @@
 //! Which rows an entry may change, told before it changes them.
 ghost use Rattle.std.specs.Prelude.{◌≡◌};
 ghost use Rattle.std.specs.Option.{option_map, option_copied};
+ghost use Rattle.index_laws.specs.StateCounts.{touched_row};
 ghost use Rattle.index_laws.specs.Touched.{attempt_bot_in, touched_task, touched_bot};
 ghost use Rattle.swarm_machine.specs.Inside.{state_of};
 ghost use Rattle.swarm_machine.specs.TouchedBlobs.{touched_with};
 
 use crate::rows::Rows;
-use swarm_model::{Attempt, BlobRow, Chunk, EntryKind};
+use swarm_model::{Attempt, BlobRow, Chunk, EntryKind, TaskRow};
 
-fn bot_of_run(attempt: &Option<Attempt>) -> Option<u32>
+/// The bot of a run.
+pub(crate) fn bot_of_run(attempt: &Option<Attempt>) -> Option<u32>
     ensures { result ≡ option_map (λ run. run.bot) attempt.now }
 {
     match attempt {
         None => None,
         Some(attempt) => Some(attempt.bot),
     }
+}
+
+/// The row of a task, where there is a number and such a task.
+pub(crate) fn row_of(rows: &Rows, number: Option<u32>) -> Option<&TaskRow>
+    ensures { option_copied result ≡ touched_row (state_of rows.now) number }
+{
+    rows.tasks.uncounted_row(number?)
 }
 
 /// The bot of the run of the task of a number.

@@ -1,10 +1,9 @@
 //! How often the tasks of a pool use each digest.
 ghost use Rattle.std.specs.Prelude.{◌≡◌, ℕ, ◌+◌, ◌<◌, ◌≤◌, ◌^◌, List, IfSome, OnOk};
 ghost use Rattle.std.specs.List.{All, count_by};
-ghost use Rattle.std.specs.Option.{option_copied, option_map_or};
+ghost use Rattle.std.specs.Option.{option_map_or};
 ghost use Rattle.swarm_model.specs.Uses.{is_chunk_of, is_file_of};
 ghost use Rattle.pool_index.specs.Uses.{uses_of, IsListed, SameUses, StaysListed};
-ghost use Rattle.index_laws.specs.StateCounts.{touched_row};
 ghost use Rattle.index_laws.specs.TaskUses.{chunks_with, times_named, uses_of_slices};
 ghost use Rattle.swarm_machine.specs.Uses.{AreInputsListed, AreListedFor, IsChunkOf, uses_of_chunk, uses_brought, AddsUses, RemovesUses, HasRoomFor, HasUsesFor};
 ghost use Rattle.swarm_machine.specs.Inside.{state_of};
@@ -12,9 +11,10 @@ ghost use Rattle.swarm_machine.specs.UsesBehind.{AreUses, UsesAreBehind};
 
 use crate::indexes::Touched;
 use crate::rows::Rows;
+use crate::touched::row_of;
 use pool_index::UseCounts;
 use std::alloc::AllocError;
-use swarm_model::{Attempt, Chunk, Entry, EntryKind, TaskRow};
+use swarm_model::{Attempt, Chunk, Entry, EntryKind, MaybeRetried, TaskRow};
 use task_props::{Digest, File, Slice};
 
 fn list_digest(uses: &mut UseCounts, digest: &Digest) -> Result<(), AllocError>
@@ -134,6 +134,7 @@ fn remove_chunks(uses: &mut UseCounts, chunks: &[Chunk])
     }
 }
 
+/// Takes off the chunks of the output of a run.
 fn remove_output(uses: &mut UseCounts, attempt: &Option<Attempt>)
     requires { HasUsesFor (λ digest. option_map_or (chunks_with digest) attempt.now 0) uses.old }
     ensures { RemovesUses (λ digest. option_map_or (chunks_with digest) attempt.now 0) uses.old uses.new }
@@ -143,20 +144,25 @@ fn remove_output(uses: &mut UseCounts, attempt: &Option<Attempt>)
     }
 }
 
-/// Takes off the uses of a task that has ended: its inputs, and the chunks of its output.
+/// The same for the run that was lost before, where there was one.
+fn remove_lost_output(uses: &mut UseCounts, retried: &MaybeRetried)
+    requires { HasUsesFor (λ digest. option_map_or (λ lost. chunks_with digest lost.attempt) retried.now 0) uses.old }
+    ensures { RemovesUses (λ digest. option_map_or (λ lost. chunks_with digest lost.attempt) retried.now 0) uses.old uses.new }
+{
+    if let Some(lost) = retried.as_ref() {
+        remove_chunks(uses, lost.attempt.chunks.as_slice());
+    }
+}
+
+/// Takes off the uses of a task that has ended: its inputs, and the chunks of its output, of both
+/// runs where one was tried again.
 fn remove_uses(uses: &mut UseCounts, task: &TaskRow)
     requires { (digest : List ℕ) → times_named digest task.now ≤ uses_of uses.old digest }
     ensures { (digest : List ℕ) → uses_of uses.new digest + times_named digest task.now ≡ uses_of uses.old digest }
 {
     remove_slices(uses, task.request.task_slices.as_slice());
     remove_output(uses, &task.attempt);
-}
-
-/// The row of a task, where there is a number and such a task.
-fn row_of(rows: &Rows, number: Option<u32>) -> Option<&TaskRow>
-    ensures { option_copied result ≡ touched_row (state_of rows.now) number }
-{
-    rows.tasks.uncounted_row(number?)
+    remove_lost_output(uses, &task.retried);
 }
 
 /// Follows an entry, after which the rows are these: it counts the uses that the entry brings, and

@@ -13,10 +13,11 @@ use Rattle.task_props.specs.declared.slice.Slice.{Slice}
 use Rattle.task_props.specs.declared.new_task.NewTask.{NewTask}
 use Rattle.task_props.specs.Alike.{same_task}
 use Rattle.swarm_model.specs.declared.task_state.TaskState.{TaskState}
-use Rattle.swarm_model.specs.declared.task_state.TaskState.TheVariants.{Pending, Running, Completed, NoResource}
+use Rattle.swarm_model.specs.declared.task_state.TaskState.TheVariants.{Pending, Running, BotDied, Completed, NoResource}
 use Rattle.swarm_model.specs.declared.attempt.Attempt.{Attempt}
 use Rattle.swarm_model.specs.declared.attempt.Chunk.{Chunk}
 use Rattle.swarm_model.specs.declared.attempt.Last.{Last}
+use Rattle.swarm_model.specs.declared.retried.Retried.{Retried}
 use Rattle.swarm_model.specs.declared.permission.Permission.{Permission}
 use Rattle.swarm_model.specs.declared.permission.Permission.TheVariants as permission
 use Rattle.swarm_model.specs.declared.task_row.TaskRow.{TaskRow}
@@ -39,7 +40,7 @@ use Rattle.swarm_model.specs.declared.answer.Decision.{Decision}
 use Rattle.swarm_model.specs.Alike.{same_chunk, same_last}
 use Rattle.swarm_model.specs.Settings.{permits}
 use Rattle.swarm_model.specs.Blobs.{lacks_chunk, missing_file, inputs_of, can_take}
-use Rattle.swarm_model.specs.Effects.{fresh_chunk}
+use Rattle.swarm_model.specs.Effects.{fresh_chunk, next_try}
 use Rattle.swarm_model.specs.Finding.{has_state, task_of, bot_named, blob_of, has_blob, is_final, is_wanted}
 use Rattle.swarm_model.specs.Output.{chunks_within, parts_within}
 use Rattle.swarm_model.specs.declared.reuse.Reuse.{Reuse}
@@ -109,13 +110,30 @@ or_refuse (Some value) why next = next value
 abbrev pub has_try : ℕ → Option Attempt → Bool
 has_try try_no attempt = option_map_or (λ a. a.try_no == try_no) attempt false
 
--- the task itself, or where it has that try
-abbrev pub if_named : ℕ → TaskRow → Option TaskRow
-if_named try_no task = when (try_no == 0 || has_try try_no task.attempt) task
+-- the task as it would stand, had the run that was tried again been its last
+abbrev pub lost_row : TaskRow → Retried → TaskRow
+lost_row task lost = record task { state = BotDied; slice = lost.slice; attempt = Some lost.attempt; ended = Some lost.over }
 
--- the task, where it has the try that the number names
+-- that row, where the run is that try
+abbrev pub if_lost : ℕ → TaskRow → Retried → Option TaskRow
+if_lost try_no task lost = when (lost.attempt.try_no == try_no) (lost_row task lost)
+
+-- 0 names the task with its run, and any other number the run of that try
+abbrev pub if_named : ℕ → TaskRow → Option TaskRow
+if_named try_no task =
+    when (try_no == 0 || has_try try_no task.attempt) task
+    or_else option_and_then (if_lost try_no task) task.retried
+
+-- the task as the number of a try shows it
 abbrev pub named_task : PoolState → ℕ → ℕ → Option TaskRow
 named_task s number try_no = option_and_then (if_named try_no) (task_of s number)
+
+-- the task itself, where it has that try
+abbrev pub whole_of : ℕ → TaskRow → Option TaskRow
+whole_of try_no task = when (is_some (if_named try_no task)) task
+
+abbrev pub whole_task : PoolState → ℕ → ℕ → Option TaskRow
+whole_task s number try_no = option_and_then (whole_of try_no) (task_of s number)
 
 -- the caller sent the task, or may do this with every task of the pool
 abbrev pub may : PoolState → List ℕ → Permission → TaskRow → Bool
@@ -230,31 +248,48 @@ poll s dims quarantined bot =
     otherwise option_map busy (run_on s bot)
     otherwise when bot.terminating (polls bot dims quarantined false reply.Terminate)
     otherwise when (not (is_empty quarantined)) (polls bot dims quarantined false (reply.Sleep (sleep_secs bot)))
-    otherwise when (is_some (first s dims)) (polls bot dims quarantined true reply.ClaimHint)
+    otherwise when (is_some (first s bot.no dims)) (polls bot dims quarantined true reply.ClaimHint)
     otherwise polls bot dims quarantined false (reply.Sleep (sleep_secs bot))
 
 abbrev pub is_claim : ℕ → List ℕ → Attempt → Bool
 is_claim bot claim attempt = attempt.bot == bot && same attempt.claim claim
 
+-- the run of the task is of this claim
 abbrev pub is_claimed : ℕ → List ℕ → TaskRow → Bool
 is_claimed bot claim task = option_map_or (is_claim bot claim) task.attempt false
 
+-- the run that was tried again is
+abbrev pub was_claimed : ℕ → List ℕ → TaskRow → Bool
+was_claimed bot claim task = option_map_or (λ lost. is_claim bot claim lost.attempt) task.retried false
+
+-- either is
+abbrev pub has_claim : ℕ → List ℕ → TaskRow → Bool
+has_claim bot claim task = is_claimed bot claim task || was_claimed bot claim task
+
+-- the task as the run of this claim shows it
+abbrev pub as_claimed : ℕ → List ℕ → TaskRow → TaskRow
+as_claimed bot claim task = if is_claimed bot claim task then task else option_map_or (lost_row task) task.retried task
+
 -- the task that the bot claimed under this id
 abbrev pub claimed : PoolState → ℕ → List ℕ → Option TaskRow
-claimed s bot claim = find (is_claimed bot claim) s.tasks
+claimed s bot claim = find (has_claim bot claim) s.tasks
 
-abbrev pub run_from : TaskRow → Slice → Reply
-run_from task slice = reply.Run task.no 1 task.slice task.request.bot_ping_tolerance_secs slice.properties
+abbrev pub run_from : ℕ → TaskRow → Slice → Reply
+run_from try_no task slice = reply.Run task.no try_no task.slice task.request.bot_ping_tolerance_secs slice.properties
 
--- the run of the current slice
-abbrev pub run : TaskRow → Reply
-run task = option_map_or (run_from task) (current_slice task) reply.Skip
+-- the run of the current slice, with the number of its try
+abbrev pub run : ℕ → TaskRow → Reply
+run try_no task = option_map_or (run_from try_no task) (current_slice task) reply.Skip
 
-abbrev pub claim_again : BotRow → TaskRow → Decision
-claim_again bot task =
+-- the bot goes on with what it claimed, or is told how that ended
+abbrev pub run_again : BotRow → TaskRow → Decision
+run_again bot task =
     if is_final task.state
     then refusal (rule.ClaimOver task.no (try_of task) task.state)
-    else reply_with_entry (run task) (kind.Contact bot.no)
+    else reply_with_entry (run (try_of task) task) (kind.Contact bot.no)
+
+abbrev pub claim_again : BotRow → List ℕ → TaskRow → Decision
+claim_again bot id task = run_again bot (as_claimed bot.no id task)
 
 -- why a bot gets no work
 abbrev pub unfit_of : BotRow → Option Unfit
@@ -267,14 +302,14 @@ abbrev pub unfit_refusal : Unfit → Decision
 unfit_refusal why = refusal (rule.BotUnfit why)
 
 abbrev pub claims : BotRow → List ℕ → TaskRow → Decision
-claims bot id task = reply_with_entry (run task) (kind.Claim bot.no task.no id)
+claims bot id task = reply_with_entry (run (next_try task) task) (kind.Claim bot.no task.no id)
 
 abbrev pub claim : PoolState → List ℕ → BotRow → Decision
 claim s id bot =
-    option_map (claim_again bot) (claimed s bot.no id)
+    option_map (claim_again bot id) (claimed s bot.no id)
     otherwise option_map unfit_refusal (unfit_of bot)
     otherwise option_map busy (run_on s bot)
-    otherwise option_map (claims bot id) (first s bot.dims)
+    otherwise option_map (claims bot id) (first s bot.no bot.dims)
     otherwise reply_with_entry reply.Skip (kind.Contact bot.no)
 
 abbrev pub event : EventKind → List ℕ → BotRow → Decision
@@ -377,7 +412,7 @@ find_missing s blobs = reply_only (reply.Missing (filter (is_missing s) blobs))
 -- what a caller is told at a moment
 abbrev pub decide : PoolState → List ℕ → ℕ → Request → Decision
 decide s who moment (ask.New request) = new_task s who moment request
-decide s who moment (ask.Cancel task try_no kill) = or_refuse (named_task s task try_no) rule.NoTask (cancel s who kill)
+decide s who moment (ask.Cancel task try_no kill) = or_refuse (whole_task s task try_no) rule.NoTask (cancel s who kill)
 decide s who moment (ask.Result task try_no) = or_refuse (named_task s task try_no) rule.NoTask (result_of s who)
 decide s who moment (ask.Stdout task try_no offset length) = or_refuse (named_task s task try_no) rule.NoTask (stdout_of s who offset length)
 decide s who moment (ask.List state limit below) = list_tasks s limit (listed_tasks s state below)

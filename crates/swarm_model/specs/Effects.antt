@@ -12,6 +12,7 @@ use Rattle.swarm_model.specs.declared.task_state.TaskState.TheVariants.{Pending,
 use Rattle.swarm_model.specs.declared.attempt.Attempt.{Attempt}
 use Rattle.swarm_model.specs.declared.attempt.Chunk.{Chunk}
 use Rattle.swarm_model.specs.declared.attempt.Last.{Last}
+use Rattle.swarm_model.specs.declared.retried.Retried.{Retried}
 use Rattle.swarm_model.specs.declared.task_row.TaskRow.{TaskRow}
 use Rattle.swarm_model.specs.declared.bot_row.BotRow.{BotRow}
 use Rattle.swarm_model.specs.declared.pool_state.PoolState.{PoolState}
@@ -24,6 +25,7 @@ use Rattle.swarm_model.specs.declared.entry.EventKind.TheVariants as event
 use Rattle.swarm_model.specs.declared.entry.Outcome.{Outcome}
 use Rattle.swarm_model.specs.declared.entry.Outcome.TheVariants as outcome
 use Rattle.swarm_model.specs.Finding.{is_state, task_of, bot_of}
+use Rattle.swarm_model.specs.Slices.{current_slice}
 use Rattle.swarm_model.specs.Numbers.{change_at}
 
 -- a pool before its first entry
@@ -51,6 +53,7 @@ new_row moment t who request state slice from =
       slice = slice;
       since = moment;
       attempt = None;
+      retried = None;
       source = from;
       ended = end_at state moment;
     }
@@ -66,9 +69,34 @@ abbrev pub end_state : Option Attempt → TaskState → TaskState
 end_state None state = state
 end_state (Some attempt) state = if attempt.kill then Killed else state
 
+-- the current slice is idempotent
+abbrev pub is_idempotent : TaskRow → Bool
+is_idempotent task = option_map_or (λ slice. slice.properties.idempotent) (current_slice task) false
+
+-- the first run of the task, which was not asked to stop
+abbrev pub is_first_run : Option Attempt → Bool
+is_first_run attempt = option_map_or (λ a. a.try_no == 1 && not a.kill) attempt false
+
+-- a run that is lost is tried again, where the pool retries, it is the task's first, it was not
+-- asked to stop, and its slice is idempotent
+abbrev pub is_tried_again : ℕ → TaskRow → Bool
+is_tried_again retries task = retries == 1 && (is_first_run task.attempt && is_idempotent task)
+
+abbrev pub retried_from : ℕ → ℕ → Attempt → Retried
+retried_from moment slice attempt = record { attempt = attempt; slice = slice; over = moment }
+
+-- the task waits again, at the same slice, which begins anew
+abbrev pub retried_run : ℕ → TaskRow → TaskRow
+retried_run moment task =
+    record task { state = Pending; since = moment; attempt = None; retried = option_map (retried_from moment task.slice) task.attempt }
+
+-- the run ends for good
+abbrev pub died_run : ℕ → TaskRow → TaskRow
+died_run moment task = record task { state = end_state task.attempt BotDied; ended = Some moment }
+
 -- the run ends without a last update
-abbrev pub lost_run : ℕ → TaskRow → TaskRow
-lost_run moment task = record task { state = end_state task.attempt BotDied; ended = Some moment }
+abbrev pub lost_run : ℕ → ℕ → TaskRow → TaskRow
+lost_run retries moment task = if is_tried_again retries task then retried_run moment task else died_run moment task
 
 abbrev pub canceled : ℕ → TaskRow → TaskRow
 canceled moment task = record task { state = Canceled; ended = Some moment }
@@ -80,13 +108,17 @@ killed attempt = record attempt { kill = true }
 abbrev pub kill_marked : TaskRow → TaskRow
 kill_marked task = record task { attempt = option_map killed task.attempt }
 
+-- the number of the next run of a task
+abbrev pub next_try : TaskRow → ℕ
+next_try task = if is_some task.retried then 2 else 1
+
 -- a bot begins the task
 abbrev pub started_run : ℕ → ℕ → List ℕ → TaskRow → TaskRow
 started_run moment bot claim task =
     record task {
       state = Running;
       attempt = Some (record {
-        try_no = 1;
+        try_no = next_try task;
         bot = bot;
         claim = claim;
         begun = moment;
@@ -136,8 +168,8 @@ abbrev pub task_at : ℕ → (TaskRow → TaskRow) → TaskRow → TaskRow
 task_at number change task = change_at no_of_task number change task
 
 -- the task that a bot runs is lost
-abbrev pub lost_run_at : ℕ → ℕ → TaskRow → TaskRow
-lost_run_at moment number task = task_at number (lost_run moment) task
+abbrev pub lost_run_at : ℕ → ℕ → ℕ → TaskRow → TaskRow
+lost_run_at retries moment number task = task_at number (lost_run retries moment) task
 
 abbrev pub run_of_bot : PoolState → ℕ → Option ℕ
 run_of_bot s number = option_and_then (λ bot. bot.task) (bot_of s number)
@@ -154,10 +186,10 @@ ended_run_at moment number chunk last task = task_at number (ended_run moment ch
 -- the row of a task after an entry
 abbrev pub task_after : PoolState → ℕ → EntryKind → TaskRow → TaskRow
 task_after s moment (kind.Slice t to) task = task_at t (expired_slice moment to) task
-task_after s moment (kind.Silence t) task = task_at t (lost_run moment) task
+task_after s moment (kind.Silence t) task = task_at t (lost_run s.settings.retries moment) task
 task_after s moment (kind.Cancel t) task = task_at t (canceled moment) task
 task_after s moment (kind.Kill t) task = task_at t kill_marked task
-task_after s moment (kind.Handshake b id session dims q) task = if_some (lost_run_at moment) (run_of_bot s b) task
+task_after s moment (kind.Handshake b id session dims q) task = if_some (lost_run_at s.settings.retries moment) (run_of_bot s b) task
 task_after s moment (kind.Claim b t claim) task = task_at t (started_run moment b claim) task
 task_after s moment (kind.Update b t try_no chunk last) task =
     if_some (ended_run_at moment t chunk) last (if_some (chunk_at t) (fresh_chunk (attempt_of s t) chunk) task)

@@ -19,6 +19,7 @@ settings =
       most_bots = 4096;
       most_entries = 4194304;
       most_weight = 134217728;
+      retries = 0;
       grants = [];
     }
 

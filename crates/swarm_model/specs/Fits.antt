@@ -1,5 +1,5 @@
 -- Which requests a pool may be asked.
-use Rattle.std.specs.Prelude.{Bool, true, ◌+◌, ◌&&◌, ◌||◌, ◌==◌, ◌^◌, nat_le, List, ℕ, length}
+use Rattle.std.specs.Prelude.{Bool, true, ◌+◌, ◌&&◌, ◌||◌, ◌^◌, nat_le, List, ℕ, length}
 use Rattle.std.specs.List.{list_all}
 use Rattle.std.specs.Option.{option_map_or}
 use Rattle.dimensions.specs.declared.bot_dims.BotDims.{BotDims}
@@ -36,7 +36,7 @@ is_task_number number = is_between 1 262144 number
 
 -- a task of a pool by its number, with the number of a try; 0 names the task itself
 abbrev pub fits_task : ℕ → ℕ → Bool
-fits_task task try_no = is_task_number task && nat_le try_no 1
+fits_task task try_no = is_task_number task && nat_le try_no 2
 
 -- how many rows a page may show
 abbrev pub is_limit : ℕ → Bool
@@ -69,7 +69,7 @@ fits settings (ask.Poll bot dims quarantined) = fits_bot settings bot dims && na
 fits settings (ask.Claim bot claim) = is_name bot && is_name claim
 fits settings (ask.Event bot which message) = is_name bot && fits_message which message
 fits settings (ask.Update bot task try_no chunk last) =
-    is_name bot && (is_task_number task && (try_no == 1 && (option_map_or fits_chunk chunk true && option_map_or fits_last last true)))
+    is_name bot && (is_task_number task && (is_between 1 2 try_no && (option_map_or fits_chunk chunk true && option_map_or fits_last last true)))
 fits settings (ask.Terminate bot) = is_name bot
 fits settings (ask.Bots limit after) = is_limit limit && (is_empty after || is_name after)
 fits settings (ask.Bot bot) = is_name bot

@@ -1,5 +1,5 @@
 -- What a machine keeps.
-use Rattle.std.specs.Prelude.{◌≡◌, ◌⊎◌, ℕ, ⊤, IsTrue, List, Option, Some, None, IfSome, is_some}
+use Rattle.std.specs.Prelude.{◌≡◌, ◌⊎◌, ℕ, zero, ⊤, IsTrue, List, Option, Some, None, IfSome, is_some}
 use Rattle.std.specs.List.{All}
 use Rattle.blob_rows.specs.declared.filled.Filled.{Filled}
 use Rattle.swarm_model.specs.declared.pool_state.PoolState.{PoolState}
@@ -22,7 +22,7 @@ use Rattle.swarm_model.specs.Effects.{opening, new_row, fresh_chunk}
 use Rattle.swarm_model.specs.History.{replay, IsLegal}
 use Rattle.swarm_model.specs.Output.{AreBytesFrom}
 use Rattle.swarm_model.specs.ReuseLaw.{HasSource}
-use Rattle.swarm_model.specs.Soundness.{sent_key, claim_key}
+use Rattle.swarm_model.specs.Soundness.{sent_key, HasKey}
 use Rattle.swarm_model.specs.Verdicts.{verdict}
 
 -- the rows, the log, the entry that is made ready, and the bytes that are held
@@ -47,14 +47,18 @@ pub record Fills (old new : MachineState) (digest bytes : List ℕ) (result : Fi
   pub holds : new ≡ record old { ready = None; held = held_after_fill result digest bytes old.held }
 
 -- what is shown of a task has the state that the log tells of it
-abbrev pub HasVerdict : List Entry → TaskView → Type 0
-HasVerdict log view = verdict log view.task_id ≡ view.state
+abbrev pub HasVerdict : MachineState → TaskView → Type 0
+HasVerdict kept view = verdict kept.pool.settings kept.log view.task_id ≡ view.state
 
--- so has each task of a reply
-abbrev pub ShowsVerdict : MachineState → Reply → Type 0
-ShowsVerdict kept (reply.Result view) = HasVerdict kept.log view
-ShowsVerdict kept (reply.Tasks items cursor) = All (HasVerdict kept.log) items
-ShowsVerdict kept other = ⊤
+-- so has the task that is asked for by its own id, and each task of a page
+abbrev pub ShowsResult : MachineState → Request → TaskView → Type 0
+ShowsResult kept (ask.Result number zero) view = HasVerdict kept view
+ShowsResult kept request view = ⊤
+
+abbrev pub ShowsVerdict : MachineState → Request → Reply → Type 0
+ShowsVerdict kept request (reply.Result view) = ShowsResult kept request view
+ShowsVerdict kept request (reply.Tasks items cursor) = All (HasVerdict kept) items
+ShowsVerdict kept request other = ⊤
 
 -- a task that has ended stays as it is
 abbrev pub KeepsFinals : MachineState → MachineState → Type 0
@@ -75,7 +79,7 @@ abbrev pub ActsOnce : MachineState → List ℕ → Request → Option Entry →
 ActsOnce kept who (ask.New request) entry =
     (task : TaskRow) → task_of kept.pool task.no ≡ Some task → sent_key task ≡ Some (who, request.request_uuid) → entry ≡ None
 ActsOnce kept who (ask.Claim name id) entry =
-    (bot : BotRow) (task : TaskRow) → bot_named kept.pool name ≡ Some bot → task_of kept.pool task.no ≡ Some task → claim_key task ≡ Some (bot.no, id)
+    (bot : BotRow) (task : TaskRow) → bot_named kept.pool name ≡ Some bot → task_of kept.pool task.no ≡ Some task → HasKey task (bot.no, id)
     → SaysContact bot entry
 ActsOnce kept who (ask.Handshake name session dims quarantined) entry =
     (bot : BotRow) → bot_named kept.pool name ≡ Some bot → bot.session ≡ session → SaysContact bot entry

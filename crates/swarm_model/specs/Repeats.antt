@@ -1,5 +1,6 @@
 -- What comes of a request that is sent again.
 use Rattle.std.specs.Prelude.{◌≡◌, ℕ, Bool, false, ◌==◌, ◌⊎◌, List, IsTrue, IsFalse, Option, Some, None, map, is_some, if◌then◌else◌}
+use Rattle.std.specs.Option.{option_map, option_map_or}
 use Rattle.dimensions.specs.declared.bot_dims.BotDims.{BotDims}
 use Rattle.dimensions.specs.Rules.{is_empty}
 use Rattle.task_props.specs.declared.new_task.NewTask.{NewTask}
@@ -8,6 +9,7 @@ use Rattle.swarm_model.specs.declared.pool_settings.PoolSettings.{PoolSettings}
 use Rattle.swarm_model.specs.declared.attempt.Attempt.{Attempt}
 use Rattle.swarm_model.specs.declared.attempt.Chunk.{Chunk}
 use Rattle.swarm_model.specs.declared.attempt.Last.{Last}
+use Rattle.swarm_model.specs.declared.task_state.TaskState.{TaskState}
 use Rattle.swarm_model.specs.declared.task_row.TaskRow.{TaskRow}
 use Rattle.swarm_model.specs.declared.bot_row.BotRow.{BotRow}
 use Rattle.swarm_model.specs.declared.pool_state.PoolState.{PoolState}
@@ -19,7 +21,7 @@ use Rattle.swarm_model.specs.declared.reply.Reply.TheVariants as reply
 use Rattle.swarm_model.specs.declared.rule.Rule.TheVariants as rule
 use Rattle.swarm_model.specs.declared.answer.Answer.{Answer}
 use Rattle.swarm_model.specs.Finding.{is_final, task_of, bot_named}
-use Rattle.swarm_model.specs.Answers.{answer, entry_at, run, named_task, is_kept}
+use Rattle.swarm_model.specs.Answers.{answer, entry_at, run, if_named, named_task, is_kept}
 use Rattle.swarm_model.specs.Effects.{opening, after, fresh_chunk}
 use Rattle.swarm_model.specs.History.{replay, IsCaused}
 use Rattle.swarm_model.specs.Soundness.{runner}
@@ -49,23 +51,27 @@ hears moment pass bot answer = record { reply = answer; entry = Some (entry_at m
 pub record HasClaimed (s : PoolState) (name : List ℕ) (bot : BotRow) (task : TaskRow) (attempt : Attempt) : Type 0 where
   pub named : bot_named s name ≡ Some bot
   pub there : task_of s task.no ≡ Some task
-  pub attempted : task.attempt ≡ Some attempt
+  pub attempted : (task.attempt ≡ Some attempt) ⊎ (option_map (λ lost. lost.attempt) task.retried ≡ Some attempt)
   pub by_bot : attempt.bot ≡ bot.no
+
+-- the state that the run of a try shows
+abbrev pub state_of_try : TaskRow → ℕ → TaskState
+state_of_try task try_no = option_map_or (λ row. row.state) (if_named try_no task) task.state
 
 -- a claim under the id of the attempt that the bot runs tells the run again
 abbrev pub ClaimAgain : Type 0
 ClaimAgain =
     (settings : PoolSettings) (log : List Entry) (who name : List ℕ) (moment pass : ℕ) (bot : BotRow) (task : TaskRow) (attempt : Attempt)
-    → IsCaused (opening settings) log → HasClaimed (replay (opening settings) log) name bot task attempt → runner task ≡ Some bot.no
-    → answer (replay (opening settings) log) who moment pass (ask.Claim name attempt.claim) ≡ hears moment pass bot (run task)
+    → IsCaused (opening settings) log → HasClaimed (replay (opening settings) log) name bot task attempt → task.attempt ≡ Some attempt → runner task ≡ Some bot.no
+    → answer (replay (opening settings) log) who moment pass (ask.Claim name attempt.claim) ≡ hears moment pass bot (run attempt.try_no task)
 
 -- once its attempt has ended it is refused, and adds nothing
 abbrev pub ClaimIsOver : Type 0
 ClaimIsOver =
     (settings : PoolSettings) (log : List Entry) (who name : List ℕ) (moment pass : ℕ) (bot : BotRow) (task : TaskRow) (attempt : Attempt)
-    → IsCaused (opening settings) log → HasClaimed (replay (opening settings) log) name bot task attempt → IsTrue (is_final task.state)
+    → IsCaused (opening settings) log → HasClaimed (replay (opening settings) log) name bot task attempt → IsTrue (is_final (state_of_try task attempt.try_no))
     → answer (replay (opening settings) log) who moment pass (ask.Claim name attempt.claim)
-    ≡ record { reply = reply.No (rule.ClaimOver task.no attempt.try_no task.state); entry = None }
+    ≡ record { reply = reply.No (rule.ClaimOver task.no attempt.try_no (state_of_try task attempt.try_no)); entry = None }
 
 -- a handshake with the session that the bot has says only that the bot was heard
 abbrev pub HandshakeAgain : Type 0

@@ -34,7 +34,8 @@ keeps_rules p =
     && (is_between 1 4096 p.most_bots
     && (is_between 1 4194304 p.most_entries
     && (is_between 1 134217728 p.most_weight
-    && (nat_le (length p.grants) 256 && list_all is_grant p.grants))))))))))
+    && (nat_le p.retries 1
+    && (nat_le (length p.grants) 256 && list_all is_grant p.grants)))))))))))
 
 -- the pools stand in the order of their places, from this one on
 abbrev pub are_placed : ℕ → List PoolSettings → Bool

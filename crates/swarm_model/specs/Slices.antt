@@ -1,6 +1,7 @@
 -- Which slice a task comes to, and which task a bot gets.
 use Rattle.std.specs.Prelude.{ℕ, Bool, false, ◌==◌, ◌&&◌, ◌||◌, not, nat_lt, List, drop, Option, Some, None, slice_get, if◌then◌else◌}
 use Rattle.std.specs.List.{list_any, filter, fold, position_from}
+use Rattle.std.specs.Option.{option_map_or}
 use Rattle.dimensions.specs.declared.dim_set.DimSet.{DimSet}
 use Rattle.dimensions.specs.declared.bot_dims.BotDims.{BotDims}
 use Rattle.dimensions.specs.Rules.{is_empty}
@@ -39,9 +40,13 @@ abbrev pub takes_slice : BotDims → Option Slice → Bool
 takes_slice dims None = false
 takes_slice dims (Some slice) = matches dims slice.properties.dimensions
 
--- a pending task whose current slice a bot of these dimensions matches
-abbrev pub waits_for : BotDims → TaskRow → Bool
-waits_for dims task = has_state Pending task && takes_slice dims (current_slice task)
+-- the run of this bot was lost, and another bot is to run the task
+abbrev pub is_kept_from : ℕ → TaskRow → Bool
+is_kept_from bot task = option_map_or (λ lost. lost.attempt.bot == bot) task.retried false
+
+-- a pending task whose current slice a bot of these dimensions matches, and that is not kept from that bot
+abbrev pub waits_for : ℕ → BotDims → TaskRow → Bool
+waits_for bot dims task = has_state Pending task && (takes_slice dims (current_slice task) && not (is_kept_from bot task))
 
 -- the task with the lower priority number, or at equal ones the lower number
 abbrev pub goes_before : TaskRow → TaskRow → Bool
@@ -52,6 +57,6 @@ abbrev pub foremost : Option TaskRow → TaskRow → Option TaskRow
 foremost None task = Some task
 foremost (Some best) task = if goes_before task best then Some task else Some best
 
--- the task that a bot of these dimensions gets
-abbrev pub first : PoolState → BotDims → Option TaskRow
-first s dims = fold foremost None (filter (waits_for dims) s.tasks)
+-- the task that the bot of a number gets, with these dimensions
+abbrev pub first : PoolState → ℕ → BotDims → Option TaskRow
+first s bot dims = fold foremost None (filter (waits_for bot dims) s.tasks)

@@ -1,5 +1,5 @@
 -- What holds of every pool that a log leads to.
-use Rattle.std.specs.Prelude.{◌≡◌, ◌↔◌, ℕ, Bool, ◌+◌, ◌^◌, ◌≤◌, ◌<◌, ◌&&◌, IsTrue, List, length, map, Option, Some, None, IfSome, is_some, is_none, if◌then◌else◌}
+use Rattle.std.specs.Prelude.{◌≡◌, ◌≢◌, ◌↔◌, ◌⊎◌, ℕ, Bool, ◌+◌, ◌^◌, ◌≤◌, ◌<◌, ◌&&◌, IsTrue, IsFalse, List, length, map, slice_get, Option, Some, None, IfSome, is_some, is_none, if◌then◌else◌}
 use Rattle.std.specs.List.{All, count_by}
 use Rattle.std.specs.Option.{option_map, option_and_then}
 use Rattle.blob_rows.specs.Extents.{AreApart}
@@ -7,9 +7,11 @@ use Rattle.blob_rows.specs.BlobRows.{units_of, has_digest, is_blob, extent_of_ro
 use Rattle.blob_rows.specs.declared.blob_row.BlobRow.{BlobRow}
 use Rattle.dimensions.specs.Rules.{is_empty}
 use Rattle.task_props.specs.Checked.{is_checked}
+use Rattle.task_props.specs.declared.slice.Slice.{Slice}
 use Rattle.swarm_model.specs.declared.pool_settings.PoolSettings.{PoolSettings}
 use Rattle.swarm_model.specs.declared.task_state.TaskState.TheVariants.{Pending, Running}
 use Rattle.swarm_model.specs.declared.attempt.Attempt.{Attempt}
+use Rattle.swarm_model.specs.declared.retried.Retried.{Retried}
 use Rattle.swarm_model.specs.declared.task_row.TaskRow.{TaskRow}
 use Rattle.swarm_model.specs.declared.bot_row.BotRow.{BotRow}
 use Rattle.swarm_model.specs.declared.pool_state.PoolState.{PoolState}
@@ -41,6 +43,24 @@ pub record IsSoundOutput (attempt : Attempt) : Type 0 where
   pub full : All (λ chunk. 1 ≤ chunk.size) attempt.chunks
   pub short : attempt.length ≤ 67108864
 
+-- a run that was tried again is the first of its task, was not asked to stop and has no last update; the
+-- pool tries again, and its slice is one of the task's and idempotent
+pub record IsSoundRetried (s : PoolState) (slices : List Slice) (lost : Retried) : Type 0 where
+  pub setting : s.settings.retries ≡ 1
+  pub slice : Slice
+  pub is_slice : slice_get slices lost.slice ≡ Some slice
+  pub idempotent : IsTrue slice.properties.idempotent
+  pub first : lost.attempt.try_no ≡ 1
+  pub not_killed : IsFalse lost.attempt.kill
+  pub no_last : lost.attempt.last ≡ None
+  pub output : IsSoundOutput lost.attempt
+  pub over : lost.over ≤ s.last
+
+-- the run of a task is its first, or, where one was tried again, its second and by another bot
+abbrev pub IsRightTry : Option Retried → Attempt → Type 0
+IsRightTry None attempt = attempt.try_no ≡ 1
+IsRightTry (Some lost) attempt = (attempt.try_no ≡ 2) × (attempt.bot ≢ lost.attempt.bot)
+
 -- a row holds a checked request and a place of its slices; what began lies behind the last moment,
 -- and the bot that runs the task is there
 pub record IsSoundTask (s : PoolState) (task : TaskRow) : Type 0 where
@@ -50,6 +70,8 @@ pub record IsSoundTask (s : PoolState) (task : TaskRow) : Type 0 where
   pub state : IsTrue (fits_state task)
   pub has_bot : IfSome (runner task) (λ bot. bot ≤ length s.bots)
   pub output : IfSome task.attempt IsSoundOutput
+  pub retried : IfSome task.retried (IsSoundRetried s task.request.task_slices)
+  pub tries : IfSome task.attempt (IsRightTry task.retried)
 
 -- a bot was not heard after the last moment, its handshake is one that the pool may be asked, and
 -- the task that it runs is there
@@ -57,19 +79,31 @@ pub record IsSoundBot (s : PoolState) (bot : BotRow) : Type 0 where
   pub contact : bot.contact ≤ s.last
   pub streak : bot.streak ≤ 63
   pub known : IsTrue (fits s.settings (ask.Handshake bot.name bot.session bot.dims bot.quarantined))
-  pub has_task : IfSome bot.task (λ task. task ≤ length s.tasks)
+  pub has_task : IfSome bot.task (λ task. (1 ≤ task) × (task ≤ length s.tasks))
 
 -- a bot's row names a task exactly where the task runs on the bot
 abbrev pub Agree : BotRow → TaskRow → Type 0
 Agree bot task = (bot.task ≡ Some task.no) ↔ (runner task ≡ Some bot.no)
 
--- the bot of a task's attempt, and the id of its claim
+-- the bot of an attempt, and the id of its claim
+abbrev pub key_of : Attempt → ℕ × List ℕ
+key_of attempt = (attempt.bot, attempt.claim)
+
+-- those of the task's attempt
 abbrev pub claim_key : TaskRow → Option (ℕ × List ℕ)
-claim_key task = option_map (λ attempt. (attempt.bot, attempt.claim)) task.attempt
+claim_key task = option_map key_of task.attempt
+
+-- and of the one that was tried again
+abbrev pub lost_key : TaskRow → Option (ℕ × List ℕ)
+lost_key task = option_map (λ lost. key_of lost.attempt) task.retried
+
+-- the bot claimed the task under the id, for either run
+abbrev pub HasKey : TaskRow → ℕ × List ℕ → Type 0
+HasKey task claim = (claim_key task ≡ Some claim) ⊎ (lost_key task ≡ Some claim)
 
 -- tasks that one bot claimed under one id are one
 abbrev pub AreClaimedApart : TaskRow → TaskRow → Type 0
-AreClaimedApart a b = (claim : ℕ × List ℕ) → claim_key a ≡ Some claim → claim_key b ≡ Some claim → a.no ≡ b.no
+AreClaimedApart a b = (claim : ℕ × List ℕ) → HasKey a claim → HasKey b claim → a.no ≡ b.no
 
 -- the caller who sent a task under a uuid, with the uuid
 abbrev pub sent_key : TaskRow → Option (List ℕ × List ℕ)

@@ -25,11 +25,12 @@ is_chunk_of digest chunk = same chunk.digest digest
 abbrev pub has_chunk : List ℕ → Attempt → Bool
 has_chunk digest attempt = list_any (is_chunk_of digest) attempt.chunks
 
--- a task that waits or runs needs the inputs of all its slices, and the output that is kept of its run
+-- a task that waits or runs needs the inputs of all its slices, and the output that is kept of its runs
 abbrev pub needs : List ℕ → TaskRow → Bool
 needs digest task =
     not (is_final task.state)
-    && (list_any (has_input digest) task.request.task_slices || option_map_or (has_chunk digest) task.attempt false)
+    && (list_any (has_input digest) task.request.task_slices
+    || (option_map_or (has_chunk digest) task.attempt false || option_map_or (λ lost. has_chunk digest lost.attempt) task.retried false))
 
 -- a task needs the blob of this digest
 abbrev pub is_used : PoolState → List ℕ → Bool

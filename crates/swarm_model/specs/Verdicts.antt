@@ -1,8 +1,9 @@
 -- How a task ended, read off the log alone.
-use Rattle.std.specs.Prelude.{◌≡◌, ℕ, zero, suc, Bool, true, false, ◌+◌, ◌==◌, ◌||◌, IsTrue, List, [], ◌∷◌, ◌++◌, map, Option, Some, None}
+use Rattle.std.specs.Prelude.{◌≡◌, ℕ, zero, suc, Bool, true, false, not, ◌+◌, ◌==◌, ◌&&◌, ◌||◌, IsTrue, List, [], ◌∷◌, ◌++◌, map, Option, Some, None, slice_get, if◌then◌else◌}
 use Rattle.std.specs.List.{list_any, count_by, sum_by}
-use Rattle.std.specs.Option.{option_map, option_or, option_and_then}
+use Rattle.std.specs.Option.{option_map, option_map_or, option_or, option_and_then}
 use Rattle.dimensions.specs.Choosing.{when}
+use Rattle.task_props.specs.declared.slice.Slice.{Slice}
 use Rattle.swarm_model.specs.declared.task_state.TaskState.{TaskState}
 use Rattle.swarm_model.specs.declared.task_state.TaskState.TheVariants.{Pending, Running, BotDied, Canceled, Killed}
 use Rattle.swarm_model.specs.declared.task_row.TaskRow.{TaskRow}
@@ -16,56 +17,38 @@ use Rattle.swarm_model.specs.Finding.{is_state, is_final, task_of}
 use Rattle.swarm_model.specs.Effects.{opening, reported}
 use Rattle.swarm_model.specs.History.{replay, IsCaused, states, tally}
 
--- ---- a run
+-- ---- what is told of a task
 
--- the state that an entry gives the run of a task by a bot, where it ends it
-abbrev pub run_end : ℕ → ℕ → EntryKind → Option TaskState
-run_end t b (kind.Silence u) = when (u == t) BotDied
-run_end t b (kind.Handshake c id session dims q) = when (c == b) BotDied
-run_end t b (kind.Update c u try_no chunk last) = option_and_then (λ end. when (u == t) (reported end)) last
-run_end t b entry = None
+-- the slices of a task and the place that it has come to, and whether a bot claimed it
+pub record Told : Type 0 where
+  pub slices : List Slice
+  pub place : ℕ
+  pub claimed : Bool
 
-abbrev pub is_kill : ℕ → EntryKind → Bool
-is_kill t (kind.Kill u) = u == t
-is_kill t entry = false
-
--- a run that was asked to stop before its end was killed
-abbrev pub unless_killed : Bool → TaskState → TaskState
-unless_killed true state = Killed
-unless_killed false state = state
-
--- how the run of a task by a bot stands after the entries that follow its claim, where a kill has come or hasn't
-abbrev pub run_verdict : ℕ → ℕ → Bool → List Entry → TaskState
-run_verdict t b killed [] = Running
-run_verdict t b killed (entry ∷ entries) =
-    option_map (unless_killed killed) (run_end t b entry.kind)
-    otherwise run_verdict t b (killed || is_kill t entry.kind) entries
+abbrev pub nothing_told : Told
+nothing_told = record { slices = []; place = 0; claimed = false }
 
 -- the bot that claims the task by an entry
 abbrev pub claimant : ℕ → EntryKind → Option ℕ
 claimant t (kind.Claim b u claim) = when (u == t) b
 claimant t entry = None
 
--- how the run of a task stands, from its claim on
-abbrev pub claim_verdict : ℕ → List Entry → Option TaskState
-claim_verdict t [] = None
-claim_verdict t (entry ∷ entries) =
-    option_or (option_map (λ b. run_verdict t b false entries) (claimant t entry.kind)) (claim_verdict t entries)
+-- what is told of it after an entry
+abbrev pub told_by : ℕ → EntryKind → Told → Told
+told_by t (kind.New u who request state slice from) told = if u == t then record told { slices = request.task_slices; place = slice } else told
+told_by t (kind.Slice u (outcome.Slice place)) told = if u == t then record told { place = place } else told
+told_by t (kind.Claim b u claim) told = if u == t then record told { claimed = true } else told
+told_by t entry told = told
 
--- ---- a task
+-- the slice that was told last is idempotent
+abbrev pub is_told_idempotent : Told → Bool
+is_told_idempotent told = option_map_or (λ slice. slice.properties.idempotent) (slice_get told.slices told.place) false
 
--- the final state in which an entry accepts the task
-abbrev pub state_at_start : ℕ → EntryKind → Option TaskState
-state_at_start t (kind.New u who request state slice from) = when (u == t) state
-state_at_start t entry = None
+-- a run that is lost is tried again, where the pool retries, the task's claim is its only one so far, and the slice is idempotent
+abbrev pub may_try_again : ℕ → Told → Bool
+may_try_again retries told = retries == 1 && (not told.claimed && is_told_idempotent told)
 
-abbrev pub final_only : Option TaskState → Option TaskState
-final_only None = None
-final_only (Some state) = when (is_final state) state
-
-abbrev pub start_verdict : ℕ → List Entry → Option TaskState
-start_verdict t [] = None
-start_verdict t (entry ∷ entries) = option_or (state_at_start t entry.kind) (start_verdict t entries)
+-- ---- a wait
 
 abbrev pub is_cancel : ℕ → EntryKind → Bool
 is_cancel t (kind.Cancel u) = u == t
@@ -83,15 +66,71 @@ abbrev pub slice_verdict : ℕ → List Entry → Option TaskState
 slice_verdict t [] = None
 slice_verdict t (entry ∷ entries) = option_or (slice_state t entry.kind) (slice_verdict t entries)
 
--- the state of a task, from the log alone: final from the start, or as its run stands, or canceled,
--- or run out of slices, or still waiting
-abbrev pub verdict : List Entry → ℕ → TaskState
-verdict log t =
-    final_only (start_verdict t log)
-    otherwise claim_verdict t log
-    otherwise when (list_any (is_cancel_of t) log) Canceled
-    otherwise slice_verdict t log
+-- how a task stands that waits, or waits again, before these entries, of which none claims it: canceled, or run out
+-- of slices, or still waiting
+abbrev pub wait_verdict : ℕ → List Entry → TaskState
+wait_verdict t entries =
+    when (list_any (is_cancel_of t) entries) Canceled
+    otherwise slice_verdict t entries
     otherwise Pending
+
+-- ---- a run
+
+-- how an entry ends the run of a task by a bot, where it ends it: with a state that is reported, or lost
+abbrev pub run_end : ℕ → ℕ → EntryKind → Option (Option TaskState)
+run_end t b (kind.Silence u) = when (u == t) None
+run_end t b (kind.Handshake c id session dims q) = when (c == b) None
+run_end t b (kind.Update c u try_no chunk last) = option_and_then (λ end. when (u == t) (Some (reported end))) last
+run_end t b entry = None
+
+abbrev pub is_kill : ℕ → EntryKind → Bool
+is_kill t (kind.Kill u) = u == t
+is_kill t entry = false
+
+-- how a task stands whose run has ended: killed, where it was asked to stop before; as it was reported; or, where
+-- it was lost, waiting again or ended with its bot
+abbrev pub end_verdict : ℕ → Bool → Bool → List Entry → Option TaskState → TaskState
+end_verdict t again true entries end = Killed
+end_verdict t again false entries (Some state) = state
+end_verdict t true false entries None = wait_verdict t entries
+end_verdict t false false entries None = BotDied
+
+-- how the run of a task by a bot stands after the entries that follow its claim, where a kill has come or hasn't, and
+-- it is tried again where it is lost or isn't
+abbrev pub run_verdict : ℕ → ℕ → Bool → Bool → List Entry → TaskState
+run_verdict t b again killed [] = Running
+run_verdict t b again killed (entry ∷ entries) =
+    option_map (end_verdict t again killed entries) (run_end t b entry.kind)
+    otherwise run_verdict t b again (killed || is_kill t entry.kind) entries
+
+-- how the last run of a task stands, from its claim on, with what is told of the task before
+abbrev pub claim_verdict : ℕ → ℕ → Told → List Entry → Option TaskState
+claim_verdict retries t told [] = None
+claim_verdict retries t told (entry ∷ entries) =
+    option_or (claim_verdict retries t (told_by t entry.kind told) entries)
+    (option_map (λ b. run_verdict t b (may_try_again retries told) false entries) (claimant t entry.kind))
+
+-- ---- a task
+
+-- the final state in which an entry accepts the task
+abbrev pub state_at_start : ℕ → EntryKind → Option TaskState
+state_at_start t (kind.New u who request state slice from) = when (u == t) state
+state_at_start t entry = None
+
+abbrev pub final_only : Option TaskState → Option TaskState
+final_only None = None
+final_only (Some state) = when (is_final state) state
+
+abbrev pub start_verdict : ℕ → List Entry → Option TaskState
+start_verdict t [] = None
+start_verdict t (entry ∷ entries) = option_or (state_at_start t entry.kind) (start_verdict t entries)
+
+-- the state of a task, from the log alone: final from the start, or as its last run stands, or as its wait does
+abbrev pub verdict : PoolSettings → List Entry → ℕ → TaskState
+verdict settings log t =
+    final_only (start_verdict t log)
+    otherwise claim_verdict settings.retries t nothing_told log
+    otherwise wait_verdict t log
 
 -- ---- all tasks
 
@@ -108,15 +147,15 @@ abbrev pub numbers : ℕ → ℕ → List ℕ
 numbers first zero = []
 numbers first (suc count) = first ∷ numbers (first + 1) count
 
-abbrev pub has_verdict : List Entry → TaskState → ℕ → Bool
-has_verdict log state t = is_state (verdict log t) state
+abbrev pub has_verdict : PoolSettings → List Entry → TaskState → ℕ → Bool
+has_verdict settings log state t = is_state (verdict settings log t) state
 
-abbrev pub verdicts_in : List Entry → TaskState → ℕ
-verdicts_in log state = count_by (has_verdict log state) (numbers 1 (count_by is_new log))
+abbrev pub verdicts_in : PoolSettings → List Entry → TaskState → ℕ
+verdicts_in settings log state = count_by (has_verdict settings log state) (numbers 1 (count_by is_new log))
 
 -- how many of the accepted tasks have each verdict
-abbrev pub verdict_tally : List Entry → List ℕ
-verdict_tally log = map (verdicts_in log) states
+abbrev pub verdict_tally : PoolSettings → List Entry → List ℕ
+verdict_tally settings log = map (verdicts_in settings log) states
 
 -- ---- the laws
 
@@ -124,7 +163,7 @@ verdict_tally log = map (verdicts_in log) states
 abbrev pub VerdictsAreStates : Type 0
 VerdictsAreStates =
     (settings : PoolSettings) (log : List Entry) (t : ℕ) (task : TaskRow) → IsCaused (opening settings) log
-    → task_of (replay (opening settings) log) t ≡ Some task → verdict log t ≡ task.state
+    → task_of (replay (opening settings) log) t ≡ Some task → verdict settings log t ≡ task.state
 
 -- a task that has ended stays as it is, whatever follows
 abbrev pub FinalsStay : Type 0
@@ -137,7 +176,7 @@ FinalsStay =
 abbrev pub TallyCountsVerdicts : Type 0
 TallyCountsVerdicts =
     (settings : PoolSettings) (log : List Entry) → IsCaused (opening settings) log
-    → tally (replay (opening settings) log) ≡ verdict_tally log
+    → tally (replay (opening settings) log) ≡ verdict_tally settings log
 
 -- and adds up to the accepted tasks
 abbrev pub TallyAddsUp : Type 0

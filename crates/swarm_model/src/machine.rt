@@ -7,6 +7,7 @@ ghost use Rattle.swarm_model.specs.Finding.{task_of, bot_of, blob_numbered, blob
 ghost use Rattle.swarm_model.specs.Fits.{fits};
 ghost use Rattle.swarm_model.specs.Answers.{answer};
 ghost use Rattle.swarm_model.specs.Bytes.{nothing_held, brings, held_after};
+ghost use Rattle.swarm_model.specs.Claims.{HasRightRuns};
 ghost use Rattle.swarm_model.specs.Effects.{opening, after};
 ghost use Rattle.swarm_model.specs.Deadlines.{due_entry};
 ghost use Rattle.swarm_model.specs.History.{MayFollow, has_room, tally};
@@ -59,7 +60,7 @@ pub trait Machine: Sized {
         requires not_late { moment ≤ 2 ^ 40 }
         requires nothing_due { due_entry (kept self.now).pool moment pass ≡ None }
         ensures exact { IfOk result (λ a. a ≡ answer (kept self.now).pool who.now moment pass request.now) }
-        ensures verdict { IfOk result (λ a. ShowsVerdict (kept self.now) a.reply) }
+        ensures verdict { IfOk result (λ a. ShowsVerdict (kept self.now) request.now a.reply) }
         ensures repeats { IfOk result (λ a. ActsOnce (kept self.now) who.now request.now a.entry) }
         ensures output { IfOk result (λ a. ShowsOutput (kept self.now) request.now a.reply) }
         ensures outcome { IfOk result (λ a. IfSome a.entry (TakesOutcome (kept self.now))) };
@@ -104,7 +105,7 @@ pub trait Machine: Sized {
     /// How many tasks are in each of the nine states, in the order of [`TaskState`](crate::TaskState).
     fn tally(&self) -> [u64; 9]
         ensures tally { result ≡ tally (kept self.now).pool }
-        ensures verdicts { result ≡ verdict_tally (kept self.now).log }
+        ensures verdicts { result ≡ verdict_tally (kept self.now).pool.settings (kept self.now).log }
         ensures total { sum_by (λ count. count) result ≡ count_by is_new (kept self.now).log };
 
     /// The moment of the last entry, 0 where there is none.
@@ -120,7 +121,8 @@ pub trait Machine: Sized {
         ensures { option_copied result ≡ blob_placed (kept self.now).pool at };
 
     fn task<L: Ledger>(&self, no: u32, steps: &mut Steps<L>) -> Option<&TaskRow>
-        ensures { option_copied result ≡ task_of (kept self.now).pool no };
+        ensures row { option_copied result ≡ task_of (kept self.now).pool no }
+        ensures runs { IfSome (option_copied result) (HasRightRuns (kept self.now).pool (kept self.now).log) };
 
     fn bot(&self, no: u32) -> Option<&BotRow>
         ensures { option_copied result ≡ bot_of (kept self.now).pool no };

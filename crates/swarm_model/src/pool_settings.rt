@@ -24,6 +24,8 @@ pub struct PoolSettings {
     pub most_bots: u32,
     pub most_entries: u32,
     pub most_weight: u32,
+    /// How often a lost run of an idempotent slice is tried again: 0 or 1 times.
+    pub retries: u32,
     pub grants: Seq<Grant>,
 }
 
@@ -57,6 +59,7 @@ impl TryCopy for PoolSettings {
             most_bots: self.most_bots,
             most_entries: self.most_entries,
             most_weight: self.most_weight,
+            retries: self.retries,
             grants: self.grants.try_copy(alloc)?,
         })
     }

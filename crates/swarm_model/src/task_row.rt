@@ -1,4 +1,4 @@
-use crate::{Attempt, Last, TaskState};
+use crate::{Attempt, Last, MaybeRetried, TaskState};
 use dimensions::Text;
 use task_props::{SharedTask, Slice};
 
@@ -16,6 +16,8 @@ pub struct TaskRow {
     pub since: u64,
     /// The run that a bot claimed.
     pub attempt: Option<Attempt>,
+    /// The run that was lost before, and is tried once more.
+    pub retried: MaybeRetried,
     /// The task whose outcome this one took.
     pub source: Option<u32>,
     /// The moment at which the task ended.
@@ -26,7 +28,8 @@ impl TaskRow {
     ghost use Rattle.std.specs.Prelude.{◌≡◌};
     ghost use Rattle.std.specs.Option.{option_copied};
     ghost use Rattle.swarm_model.specs.Finding.{has_state};
-    ghost use Rattle.swarm_model.specs.Slices.{current_slice};
+    ghost use Rattle.swarm_model.specs.Slices.{current_slice, is_kept_from};
+    ghost use Rattle.swarm_model.specs.Effects.{next_try};
     ghost use Rattle.swarm_model.specs.Views.{last_of};
     ghost use Rattle.swarm_model.specs.Answers.{has_try, try_of};
 
@@ -69,6 +72,26 @@ impl TaskRow {
         match &self.attempt {
             None => false,
             Some(attempt) => attempt.try_no == try_no,
+        }
+    }
+
+    /// The number of the task's next run.
+    pub fn next_try(&self) -> u32
+        ensures { result ≡ next_try self.now }
+    {
+        match self.retried.as_ref() {
+            None => 1,
+            Some(_) => 2,
+        }
+    }
+
+    /// Whether the bot of this number ran the task before, so that it doesn't get it again.
+    pub fn is_kept_from(&self, bot: u32) -> bool
+        ensures { result ≡ is_kept_from bot self.now }
+    {
+        match self.retried.as_ref() {
+            None => false,
+            Some(lost) => lost.attempt.bot == bot,
         }
     }
 }

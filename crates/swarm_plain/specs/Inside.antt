@@ -10,7 +10,7 @@ use Rattle.swarm_model.specs.declared.task_state.TaskState.{TaskState}
 use Rattle.swarm_model.specs.Numbers.{AreNumbered}
 use Rattle.swarm_model.specs.Answers.{entry_at}
 use Rattle.swarm_model.specs.Bytes.{held_after}
-use Rattle.swarm_model.specs.Effects.{no_of_task, no_of_bot, new_row, task_at, started_run, ended_run_at, chunk_at, fresh_chunk, if_some, after}
+use Rattle.swarm_model.specs.Effects.{no_of_task, no_of_bot, new_row, task_at, started_run, lost_run_at, ended_run_at, chunk_at, fresh_chunk, if_some, after}
 use Rattle.row_changes.specs.declared.parts.TaskParts.{TaskParts}
 use Rattle.row_changes.specs.declared.parts.TaskParts.TheVariants as parts
 use Rattle.row_changes.specs.Output.{run_of, TakesFresh}
@@ -54,6 +54,10 @@ with_new moment t state slice from other rows = rows
 abbrev pub with_claim : ℕ → ℕ → ℕ → TaskParts → List TaskRow → List TaskRow
 with_claim moment b t (parts.Claim claim) rows = map (task_at t (started_run moment b claim)) rows
 with_claim moment b t other rows = rows
+
+abbrev pub with_loss : ℕ → ℕ → Option ℕ → TaskParts → List TaskRow → List TaskRow
+with_loss moment retries run (parts.Lost room) rows = map (if_some (lost_run_at retries moment) run) rows
+with_loss moment retries run other rows = rows
 
 abbrev pub with_report : ℕ → ℕ → Option Chunk → TaskParts → List TaskRow → List TaskRow
 with_report moment t chunk (parts.Report task same last) rows =

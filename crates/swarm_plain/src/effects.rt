@@ -6,27 +6,45 @@ ghost use Rattle.swarm_model.specs.Effects.{no_of_task, if_some, lost_run_at, ru
 ghost use Rattle.swarm_model.specs.History.{MayFollow};
 ghost use Rattle.swarm_model.specs.Soundness.{IsSound};
 ghost use Rattle.row_changes.specs.Output.{run_of, StaysShort, TakesFresh};
-ghost use Rattle.row_changes.specs.Parts.{task_parts};
+ghost use Rattle.row_changes.specs.Parts.{bot_parts, task_parts};
 ghost use Rattle.pool_changes.specs.Blobs.{IsOfPool, AreBrought, KeepsShort, fresh_in};
-ghost use Rattle.swarm_plain.specs.Inside.{state_of, IsInOrder, HasRoom, HasChunkRoom, IsAfter, with_claim, with_new, with_report};
+ghost use Rattle.swarm_plain.specs.Inside.{state_of, IsInOrder, HasRoom, HasChunkRoom, IsAfter, with_claim, with_loss, with_new, with_report};
 
 use crate::rows::Rows;
 use pool_changes::{blob_effect, change_blobs};
 use reserved_vec::{ReservedVec, SpareBuffer};
 use row_changes::{
-    Cancel, ExpireSlice, LoseRun, MarkKill, StartRun, TaskParts, change_bots, change_row,
-    fresh_chunk, new_row, record_report, row_of, split,
+    BotParts, Cancel, ExpireSlice, LoseRun, MarkKill, StartRun, TaskParts, change_bots, change_row,
+    fresh_chunk, new_row, record_report, row_of,
 };
 use std::alloc::Global;
 use swarm_model::{Chunk, Entry, EntryKind, TaskRow, TaskState};
 
-/// The run of a bot is lost, where it has one.
-fn lose_if_some(tasks: &mut Vec<TaskRow>, moment: u64, run: Option<u32>)
+fn lose_if_some(tasks: &mut Vec<TaskRow>, run: Option<u32>, by: LoseRun)
     requires { AreNumbered no_of_task 1 tasks.old.items }
-    ensures { tasks.new.items ≡ map (if_some (lost_run_at moment) run) tasks.old.items }
+    ensures { tasks.new.items ≡ map (if_some (lost_run_at by.retries by.moment) run) tasks.old.items }
 {
-    if let Some(t) = run {
-        change_row(tasks, t, LoseRun { moment });
+    match run {
+        None => drop(by),
+        Some(t) => change_row(tasks, t, by),
+    }
+}
+
+/// The run of a task is lost, where one is named. The parts are the room in which it is kept.
+fn lose(tasks: &mut Vec<TaskRow>, moment: u64, retries: u32, run: Option<u32>, parts: TaskParts)
+    requires { AreNumbered no_of_task 1 tasks.old.items }
+    ensures { tasks.new.items ≡ with_loss moment retries run parts tasks.old.items }
+{
+    match parts {
+        TaskParts::Lost(room) => {
+            let by = LoseRun {
+                moment,
+                retries,
+                room,
+            };
+            lose_if_some(tasks, run, by);
+        }
+        other => drop(other),
     }
 }
 
@@ -139,7 +157,10 @@ impl Rows {
             EntryKind::Slice { t, to } => {
                 change_row(&mut self.tasks, *t, ExpireSlice { moment, to: *to });
             }
-            EntryKind::Silence { t } => change_row(&mut self.tasks, *t, LoseRun { moment }),
+            EntryKind::Silence { t } => {
+                let run = Some(*t);
+                lose(&mut self.tasks, moment, self.settings.retries, run, parts);
+            }
             EntryKind::New {
                 t,
                 state,
@@ -151,7 +172,7 @@ impl Rows {
             EntryKind::Kill { t } => change_row(&mut self.tasks, *t, MarkKill),
             EntryKind::Handshake { b, .. } => {
                 let run = self.run_of(*b);
-                lose_if_some(&mut self.tasks, moment, run);
+                lose(&mut self.tasks, moment, self.settings.retries, run, parts);
             }
             EntryKind::Claim { b, t, .. } => start(&mut self.tasks, alloc, moment, *b, *t, parts),
             EntryKind::Update { t, chunk, .. } => {
@@ -167,25 +188,27 @@ impl Rows {
         }
     }
 
-    /// What the entry does; the parts of its copy move into the rows, and the bytes of a blob that it
-    /// places are held.
-    pub(crate) fn apply(&mut self, alloc: Global, entry: &Entry, copy: Entry, bytes: Option<&[u8]>)
+    /// What the entry does; its parts move into the rows, and the bytes of a blob that it places are
+    /// held.
+    pub(crate) fn apply(
+        &mut self,
+        alloc: Global,
+        entry: &Entry,
+        task: TaskParts,
+        bot: BotParts,
+        bytes: Option<&[u8]>,
+    )
         requires sound { IsSound (state_of self.old) }
         requires follows { MayFollow (state_of self.old) entry.now }
         requires room { HasRoom self.old }
         requires chunk { HasChunkRoom self.old.tasks.items self.old.spare entry.now.kind }
         requires of_pool { IsOfPool self.old.settings self.old.blobs }
         requires few { self.old.blobs.placed < self.old.settings.most_entries }
-        requires copy { copy ≡ entry.now }
+        requires task { task ≡ task_parts entry.now.kind }
+        requires bot { bot ≡ bot_parts entry.now.kind }
         requires bytes { AreBrought entry.now.kind (option_map (λ b. b.now) bytes) }
         ensures { IsAfter self.old self.new entry.now.moment entry.now.kind (option_map (λ b. b.now) bytes.entry) }
     {
-        let Entry {
-            moment: _,
-            pass: _,
-            kind,
-        } = copy;
-        let (task, bot) = split(kind);
         let effect = blob_effect(&entry.kind, self.fresh_in(&entry.kind));
         let life = self.blob_life();
         // For the proof: the limits of the settings.

@@ -2,11 +2,12 @@ use crate::deadlines::next_deadline;
 use crate::rows::Rows;
 use crate::{pages, scans, sources};
 use content_store::{Filled, Held};
-use dimensions::{BotDims, DimSet, Text, TryCopy};
+use dimensions::{BotDims, DimSet, Text};
+use ghost_values::GhostValue;
 use pool_changes::{bring_bytes, lend_bytes};
 use pool_log::PoolRows;
 use pool_queries::PoolQueries;
-use row_changes::{is_capable, row_of};
+use row_changes::{BotParts, TaskParts, is_capable, row_of};
 use std::alloc::{AllocError, Global};
 use std::marker::Model;
 use std::mem;
@@ -14,13 +15,23 @@ use std::sync::ledger::Ledger;
 use swarm_model::{BlobRow, BotRow, Deadline, Entry, PoolSettings, Steps, TaskRow, TaskState};
 use task_props::Digest;
 
+/// What is made ready of an entry.
+#[derive(Drop)]
+struct Ready {
+    /// The entry for which all lies ready.
+    entry: GhostValue<Entry>,
+    /// What moves into the row of a task.
+    task: TaskParts,
+    /// What moves into the row of a bot.
+    bot: BotParts,
+}
+
 /// Rows of a pool that are scanned.
 #[derive(Drop)]
 pub struct ListRows {
     alloc: Global,
     rows: Rows,
-    /// A copy of the entry for which all lies ready: its texts move into the rows.
-    ready: Option<Entry>,
+    ready: Option<Ready>,
 }
 
 impl Model for ListRows {
@@ -117,10 +128,11 @@ impl PoolQueries for ListRows {
 
     fn first_for<'a, L: Ledger>(
         &'a self,
+        no: u32,
         dims: &BotDims,
         _steps: &mut Steps<L>,
     ) -> Option<&'a TaskRow> {
-        scans::first(self.rows.tasks.as_slice(), dims)
+        scans::first(self.rows.tasks.as_slice(), no, dims)
     }
 
     fn capable(&self, dims: &DimSet) -> bool {
@@ -172,15 +184,22 @@ impl PoolRows for ListRows {
     fn reserve(&mut self, entry: &Entry) -> Result<(), AllocError> {
         drop(self.ready.take());
         self.rows.make_room(&entry.kind)?;
-        let copy = entry.try_copy(self.alloc)?;
-        drop(mem::replace(&mut self.ready, Some(copy)));
+        let ready = Ready {
+            entry: GhostValue::of(entry),
+            task: TaskParts::copied(self.alloc, &entry.kind)?,
+            bot: BotParts::copied(self.alloc, &entry.kind)?,
+        };
+        drop(mem::replace(&mut self.ready, Some(ready)));
         Ok(())
     }
 
     fn apply(&mut self, entry: &Entry, bytes: Option<&[u8]>) {
         match self.ready.take() {
             None => unreachable!(),
-            Some(copy) => self.rows.apply(self.alloc, entry, copy, bytes),
+            Some(ready) => {
+                self.rows
+                    .apply(self.alloc, entry, ready.task, ready.bot, bytes);
+            }
         }
     }
 

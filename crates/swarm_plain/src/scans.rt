@@ -4,13 +4,13 @@ ghost use Rattle.std.specs.List.{find, filter, fold, count_by, list_any};
 ghost use Rattle.std.specs.Option.{option_copied};
 ghost use Rattle.swarm_model.specs.Finding.{is_task, is_bot, is_called, has_state, is_wanted};
 ghost use Rattle.swarm_model.specs.Slices.{waits_for, goes_before, foremost};
-ghost use Rattle.swarm_model.specs.Answers.{is_claimed};
+ghost use Rattle.swarm_model.specs.Answers.{has_claim};
 ghost use Rattle.swarm_model.specs.Reuse.{is_sent};
 ghost use Rattle.swarm_model.specs.Uses.{needs};
 ghost use Rattle.dimensions.specs.Rules.{is_empty};
 
 use dimensions::{BotDims, Text};
-use row_changes::{is_claimed, is_sent, needs, waits_for};
+use row_changes::{has_claim, is_sent, needs, waits_for};
 use swarm_model::{BotRow, TaskRow, TaskState};
 use task_props::Digest;
 
@@ -69,9 +69,9 @@ pub(crate) fn bot_named<'a>(bots: &'a [BotRow], name: &Text) -> Option<&'a BotRo
 
 /// The task that the bot claimed under this id.
 pub(crate) fn claimed<'a>(tasks: &'a [TaskRow], bot: u32, claim: &Text) -> Option<&'a TaskRow>
-    ensures { option_copied result ≡ find (is_claimed bot claim.now) tasks.now }
+    ensures { option_copied result ≡ find (has_claim bot claim.now) tasks.now }
 {
-    tasks.iter().find(|task| is_claimed(bot, claim, task))
+    tasks.iter().find(|task| has_claim(bot, claim, task))
 }
 
 /// The first task with this caller and this uuid.
@@ -114,13 +114,13 @@ fn foremost<'a>(best: Option<&'a TaskRow>, task: &'a TaskRow) -> Option<&'a Task
     }
 }
 
-/// The pending task that a bot of these dimensions gets.
-pub(crate) fn first<'a>(tasks: &'a [TaskRow], dims: &BotDims) -> Option<&'a TaskRow>
-    ensures { option_copied result ≡ fold foremost None (filter (waits_for dims.now) tasks.now) }
+/// The pending task that the bot of this number gets, with these dimensions.
+pub(crate) fn first<'a>(tasks: &'a [TaskRow], bot: u32, dims: &BotDims) -> Option<&'a TaskRow>
+    ensures { option_copied result ≡ fold foremost None (filter (waits_for bot dims.now) tasks.now) }
 {
     let mut best = None;
     for task in tasks {
-        if waits_for(dims, task) {
+        if waits_for(bot, dims, task) {
             best = foremost(best, task);
         }
     }

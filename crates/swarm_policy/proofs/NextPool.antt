@@ -62,10 +62,11 @@ pub next_pool : (before : List PoolSettings) (p : PoolSettings)
     → is_within limit.MostBots p.most_bots ≡ true
     → is_within limit.MostEntries p.most_entries ≡ true
     → is_within limit.MostWeight p.most_weight ≡ true
+    → is_within limit.Retries p.retries ≡ true
     → are_grants p.grants ≡ true
     → is_next_pool before p ≡ true
 unfolding is_next_pool
-next_pool before p few place name own reuse death blob units tasks bots entries weight grants =
+next_pool before p few place name own reuse death blob units tasks bots entries weight retries grants =
     and_from _ _
     (and_from _ _ (le-leb p.place 3 (omega (arith, place)))
     (and_from _ _ name
@@ -76,5 +77,6 @@ next_pool before p few place name own reuse death blob units tasks bots entries 
     (and_from _ _ tasks
     (and_from _ _ bots
     (and_from _ _ entries
-    (and_from _ _ weight grants))))))))))
+    (and_from _ _ weight
+    (and_from _ _ (and_parts (nat_le 0 p.retries) (nat_le p.retries 1) retries).1 grants)))))))))))
     (and_from _ _ (eq-eqb p.place (length before) place) own)

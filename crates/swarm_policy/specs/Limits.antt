@@ -4,7 +4,7 @@ use Rattle.toml.specs.Data.{Data, as_integer, get}
 use Rattle.swarm_model.specs.Words.{is_between}
 use Rattle.json_fields.specs.Readings.{◌>>=◌}
 use Rattle.swarm_policy.specs.declared.limits.Limit.{Limit}
-use Rattle.swarm_policy.specs.declared.limits.Limit.TheVariants.{ReuseAgeSecs, DeathTimeoutSecs, BlobLifeSecs, StoreUnits, MostTasks, MostBots, MostEntries, MostWeight}
+use Rattle.swarm_policy.specs.declared.limits.Limit.TheVariants.{ReuseAgeSecs, DeathTimeoutSecs, BlobLifeSecs, StoreUnits, MostTasks, MostBots, MostEntries, MostWeight, Retries}
 use Rattle.swarm_policy.specs.declared.settings_rule.SettingsRule.{SettingsRule}
 use Rattle.swarm_policy.specs.declared.settings_rule.SettingsRule.TheVariants.{Range}
 use Rattle.swarm_policy.specs.declared.settings_fault.SettingsFault.{SettingsFault}
@@ -27,10 +27,11 @@ row_of MostTasks = record { key = codes "most_tasks"; default = 262144; least = 
 row_of MostBots = record { key = codes "most_bots"; default = 4096; least = 1; most = 4096 }
 row_of MostEntries = record { key = codes "most_entries"; default = 4194304; least = 1; most = 4194304 }
 row_of MostWeight = record { key = codes "most_weight"; default = 134217728; least = 1; most = 134217728 }
+row_of Retries = record { key = codes "retries"; default = 0; least = 0; most = 1 }
 
 -- the limits in the order of the keys of a pool's table
 abbrev pub limits : List Limit
-limits = ReuseAgeSecs ∷ DeathTimeoutSecs ∷ BlobLifeSecs ∷ StoreUnits ∷ MostTasks ∷ MostBots ∷ MostEntries ∷ MostWeight ∷ []
+limits = ReuseAgeSecs ∷ DeathTimeoutSecs ∷ BlobLifeSecs ∷ StoreUnits ∷ MostTasks ∷ MostBots ∷ MostEntries ∷ MostWeight ∷ Retries ∷ []
 
 -- from the least to the most
 abbrev pub is_in_row : Row → ℕ → Bool

@@ -25,6 +25,7 @@ open_pool =
       most_bots = (row_of limit.MostBots).default;
       most_entries = (row_of limit.MostEntries).default;
       most_weight = (row_of limit.MostWeight).default;
+      retries = (row_of limit.Retries).default;
       grants = everyone ∷ [];
     }
 

@@ -54,6 +54,7 @@ pool_of before d = do
   most_bots ← number_at limit.MostBots d
   most_entries ← number_at limit.MostEntries d
   most_weight ← number_at limit.MostWeight d
+  retries ← number_at limit.Retries d
   grants ← grants_at d
   Ok (record {
     place = length before;
@@ -66,6 +67,7 @@ pool_of before d = do
     most_bots = most_bots;
     most_entries = most_entries;
     most_weight = most_weight;
+    retries = retries;
     grants = grants;
   })
 

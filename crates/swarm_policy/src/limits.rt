@@ -24,6 +24,7 @@ pub(crate) enum Limit {
     MostBots,
     MostEntries,
     MostWeight,
+    Retries,
 }
 
 /// What counts for a limit: its key, the number where a table leaves it out, and the range.
@@ -125,6 +126,7 @@ impl Limit {
             Limit::MostBots => Row::new("most_bots", 4096, 1, 4096),
             Limit::MostEntries => Row::new("most_entries", 4_194_304, 1, 4_194_304),
             Limit::MostWeight => Row::new("most_weight", 134_217_728, 1, 134_217_728),
+            Limit::Retries => Row::new("retries", 0, 0, 1),
         }
     }
 

@@ -46,6 +46,7 @@ fn open_pool(alloc: Global) -> Result<PoolSettings, AllocError>
         most_bots: Limit::MostBots.default(),
         most_entries: Limit::MostEntries.default(),
         most_weight: Limit::MostWeight.default(),
+        retries: Limit::Retries.default(),
         grants: Seq::from_vec(vec![in alloc; everyone(alloc)?]?),
     })
 }

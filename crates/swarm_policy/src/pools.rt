@@ -94,6 +94,7 @@ fn unknown_in(pool: &Value) -> Option<&str>
             "most_bots",
             "most_entries",
             "most_weight",
+            "retries",
             "grants",
         ],
     )
@@ -124,6 +125,7 @@ fn read_pool(
         most_bots: Limit::MostBots.read(alloc, pool)?,
         most_entries: Limit::MostEntries.read(alloc, pool)?,
         most_weight: Limit::MostWeight.read(alloc, pool)?,
+        retries: Limit::Retries.read(alloc, pool)?,
         grants: read_grants(alloc, pool)?,
     })
 }

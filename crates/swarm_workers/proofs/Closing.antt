@@ -7,10 +7,10 @@ use Rattle.swarm_model.specs.declared.pool_settings.PoolSettings.{PoolSettings}
 use Rattle.swarm_model.specs.MachineState.{MachineState}
 use Rattle.swarm_model.specs.Effects.{opening}
 use Rattle.swarm_model.specs.History.{IsLegal}
-use Rattle.swarm_history.specs.Machines.{logs_of}
+use Rattle.swarm_history.specs.Machines.{logs_of, pools_of as machine_pools}
 use Rattle.turnstile.specs.declared.turnstile.Turnstile.{Turnstile}
 use Rattle.turnstile.specs.Numbers.{times}
-use Rattle.turnstile.specs.Passes.{opening as begun_with}
+use Rattle.turnstile.specs.Passes.{fixed_of, opening as begun_with}
 use Rattle.shared_doors.specs.Joined.{AreClosed, IsClosed}
 use Rattle.shared_doors.specs.SharedDoors.{pools_of}
 use Rattle.shared_doors.specs.Views.{view_at}
@@ -57,11 +57,13 @@ module _ {V : Type 0} (fixed : V → Lasting) (log : V → List Entry) where
   none_past (t ∷ ts) (v ∷ vs) (kept ∷ machines) closed zero past = absurd (omega (arith, past))
   none_past (t ∷ ts) (v ∷ vs) (kept ∷ machines) closed (suc p) past = none_past ts vs machines closed.1 p (omega (arith, past))
 
-  -- a machine for each pool
-  pub count_closed : (ts : List (Turnstile V Entry Lasting)) (vs : List PoolView) (machines : List MachineState) → AreClosed fixed log ts vs machines → length machines ≡ length ts
-  count_closed [] [] [] closed = refl
-  count_closed [] [] (kept ∷ machines) closed = absurd closed
-  count_closed [] (v ∷ vs) machines closed = absurd closed
-  count_closed (t ∷ ts) [] machines closed = absurd closed
-  count_closed (t ∷ ts) (v ∷ vs) [] closed = absurd closed
-  count_closed (t ∷ ts) (v ∷ vs) (kept ∷ machines) closed = ap suc (count_closed ts vs machines closed.1)
+  -- the machines are those of the pools
+  pub settings_closed : (ts : List (Turnstile V Entry Lasting)) (vs : List PoolView) (machines : List MachineState) → AreClosed fixed log ts vs machines → machine_pools machines ≡ pools_of fixed ts
+  settings_closed [] [] [] closed = refl
+  settings_closed [] [] (kept ∷ machines) closed = absurd closed
+  settings_closed [] (v ∷ vs) machines closed = absurd closed
+  settings_closed (t ∷ ts) [] machines closed = absurd closed
+  settings_closed (t ∷ ts) (v ∷ vs) [] closed = absurd closed
+  settings_closed (t ∷ ts) (v ∷ vs) (kept ∷ machines) closed =
+      ap (λ (s : PoolSettings). s ∷ machine_pools machines) closed.0.settings_are
+      ∙ ap (λ (rest : List PoolSettings). (fixed_of fixed t).settings ∷ rest) (settings_closed ts vs machines closed.1)

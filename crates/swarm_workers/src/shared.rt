@@ -2,7 +2,7 @@
 ghost use Rattle.std.specs.Prelude.{◌≡◌, ◌≤◌, length, map, MatchResult, IfOk, IsTrue};
 ghost use Rattle.sw_base.specs.Listeners.{FailsToListen};
 ghost use Rattle.swarm_model.specs.Settings.{are_settings};
-ghost use Rattle.swarm_history.specs.Machines.{logs_of};
+ghost use Rattle.swarm_history.specs.Machines.{logs_of, pools_of};
 ghost use Rattle.swarm_workers.specs.Shared.{ServesShared};
 
 use crate::WorkStop;
@@ -51,7 +51,7 @@ pub fn serve_shared<
     ensures serves { MatchResult result
         (λ served. ServesShared address.now workers connections settings.now (C.ahead clock.now) (N.state listener.old) (N.state listener.new) (logs_of (map M.kept served.1.items)) served.0)
         (λ fault. FailsToListen fault (N.state listener.old) (N.state listener.new)) }
-    ensures count { IfOk result (λ served. length served.1.items ≡ length settings.now.pools) }
+    ensures pools { IfOk result (λ served. pools_of (map M.kept served.1.items) ≡ settings.now.pools) }
 {
     let (server, passes) = Server::<M, K>::new(alloc, settings, keepers)?;
     let (first, others) = split_all(alloc, &server, passes, workers)?;

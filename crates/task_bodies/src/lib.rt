@@ -3,7 +3,7 @@
 //!
 //! [`read_task`] reads the request for a task; [`read_cancel`], [`read_task_id`], [`read_list`] and
 //! [`read_count`] read the bodies of CancelTask, GetResult, ListTasks and CountTasks, [`read_blobs`]
-//! and [`read_stdout`] those of FindMissing and GetStdout, and [`read_properties_at`] the properties of
+//! and [`read_stdout`] those of FindMissing and GetStdout, and [`take_properties_at`] the properties of
 //! a slice. Each gives what the body says or the first rule that it breaks, exactly as its definition
 //! says, but for want of memory: `missing`, `type` and `unknown` are tried for all fields in their
 //! order, then the other rules. `specs/` has a module a call: `Tasks`, which reads its
@@ -30,6 +30,6 @@ pub use cancels::read_cancel;
 pub use counts::read_count;
 pub use lists::{ListBody, read_list};
 pub use results::read_task_id;
-pub use slice_properties::read_properties_at;
+pub use slice_properties::take_properties_at;
 pub use stdouts::{StdoutBody, read_stdout};
 pub use tasks::read_task;

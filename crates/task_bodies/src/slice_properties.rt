@@ -8,9 +8,9 @@ ghost use Rattle.task_bodies.specs.SliceProperties.{pair_in, cache_in, input_in,
 
 use dimensions::{Seq, Text};
 use json_fields::{
-    TakeFields, below, broken, read_flag, read_number, read_object, read_optional_number,
-    take_object, take_objects, take_optional_objects, take_optional_texts, take_required_text,
-    take_text, take_texts, unknown_key,
+    TakeFields, below, broken, read_flag, read_number, read_optional_number, take_object,
+    take_objects, take_optional_objects, take_optional_texts, take_required_text, take_text,
+    take_texts, unknown_key,
 };
 use serde_json::Value;
 use std::alloc::Global;
@@ -194,28 +194,15 @@ fn take_properties_below(
     }
 }
 
-/// The properties at a key, where they must be, not checked yet: they are taken out of the slice.
+/// The properties at a key, where they must be, not checked yet: they are taken out of the object.
 #[tactic(auto, unfolding(crate::specs::SliceProperties::properties_at))]
-pub(crate) fn take_properties_at(
+pub fn take_properties_at(
     alloc: Global,
-    mut slice: Value,
+    mut object: Value,
     key: &str,
 ) -> Result<RawProperties, PropFault>
-    ensures { Reads result (properties_at key.now (view slice)) }
+    ensures { Reads result (properties_at key.now (view object)) }
 {
-    let properties = take_object(alloc, &mut slice, key)?;
-    take_properties_below(alloc, properties, key)
-}
-
-/// The properties at a key, where they must be, not checked yet. They are copied once.
-#[tactic(auto, unfolding(crate::specs::SliceProperties::properties_at))]
-pub fn read_properties_at(
-    alloc: Global,
-    slice: &Value,
-    key: &str,
-) -> Result<RawProperties, PropFault>
-    ensures { Reads result (properties_at key.now (view slice.now)) }
-{
-    let properties = read_object(alloc, slice, key)?.clone()?;
+    let properties = take_object(alloc, &mut object, key)?;
     take_properties_below(alloc, properties, key)
 }

@@ -9,7 +9,7 @@ use serde_json::Value;
 use std::alloc::Global;
 use task_props::PropFault;
 
-/// The task or its run, by the number of its id, and which bytes of the output are asked for.
+/// The task or one of its runs, by the number of its id, and which bytes of the output are asked for.
 #[derive(Clone, Copy)]
 pub struct StdoutBody {
     pub id: u32,
@@ -34,7 +34,7 @@ fn read_length(alloc: Global, number: i128) -> Result<u32, PropFault>
 #[tactic(auto, unfolding(crate::specs::Stdouts::stdout_in))]
 pub fn read_stdout(alloc: Global, body: &Value) -> Result<StdoutBody, PropFault>
     ensures exact { Reads result (stdout_in (view body.now)) }
-    ensures try_no { IfOk result (λ asked. asked.id % 16 ≤ 1) }
+    ensures try_no { IfOk result (λ asked. asked.id % 16 ≤ 2) }
     ensures offset { IfOk result (λ asked. asked.offset ≤ 67108864) }
     ensures length { IfOk result (λ asked. (nat_le 1 asked.length && nat_le asked.length 65536) ≡ true) }
 {

@@ -1,10 +1,12 @@
 //! What a task is: its properties, its slices, the request for it, and the rules on their fields.
 //!
-//! Every type here is plain data that contracts see field by field. [`properties_value`] is the
-//! JSON object that every format of properties has (`specs/Shown.antt`). [`Properties::canonical`]
-//! is the compact JSON of `specs/Canonical.antt`, and [`Properties::hash`] its SHA-256
-//! (FIPS 180-4), by which a run is known again. `is_checked` of `specs/Checked.antt` says which
-//! tasks keep the rules (`FieldRules`, `ItemRules`, `Paths` and `Slices`): the texts of checked
+//! Every type here is plain data that contracts see field by field. Who keeps a request has a share
+//! of it ([`SharedTask`]); contracts see the request itself.
+//!
+//! [`properties_value`] is the JSON object that every format of properties has (`specs/Shown.antt`).
+//! [`Properties::canonical`] is the compact JSON of `specs/Canonical.antt`, and [`Properties::hash`]
+//! its SHA-256 (FIPS 180-4), by which a run is known again. `is_checked` of `specs/Checked.antt` says
+//! which tasks keep the rules (`FieldRules`, `ItemRules`, `Paths` and `Slices`): the texts of checked
 //! properties are equal exactly where the properties are. `task_checks` reads a request by these
 //! rules. The crate stands on `dimensions`.
 #![tactic(auto)]

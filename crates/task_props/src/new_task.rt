@@ -1,6 +1,5 @@
 use crate::Slice;
-use dimensions::{Seq, Text, TryCopy};
-use std::alloc::{AllocError, Global};
+use dimensions::{Seq, Text};
 
 /// A request for a task, after `swarming.v2.NewTaskRequest`. Lower priority numbers run first.
 #[derive(Debug, PartialEq, Drop)]
@@ -25,17 +24,5 @@ impl NewTask {
             Some(slice) => slice.pool(),
             None => "",
         }
-    }
-}
-
-impl TryCopy for NewTask {
-    fn try_copy(&self, alloc: Global) -> Result<NewTask, AllocError> {
-        Ok(NewTask {
-            name: self.name.try_copy(alloc)?,
-            priority: self.priority,
-            bot_ping_tolerance_secs: self.bot_ping_tolerance_secs,
-            request_uuid: self.request_uuid.try_copy(alloc)?,
-            task_slices: self.task_slices.try_copy(alloc)?,
-        })
     }
 }

@@ -10,7 +10,8 @@ use std::sync::Arc;
 
 /// A request for a task that all who keep it share. Contracts see the request.
 ///
-/// A copy counts one more owner and takes no memory.
+/// A copy counts one more owner and takes no memory; `proofs/Sending.antt` shows that it may cross
+/// threads.
 #[derive(Drop)]
 pub struct SharedTask {
     task: Arc<NewTask, Global>,
@@ -29,10 +30,9 @@ impl SharedTask {
     pub fn new(alloc: Global, task: NewTask) -> Result<SharedTask, AllocError>
         ensures { IfOk result (λ shared. shared ≡ task) }
     {
-        match Arc::new(alloc, task) {
-            Ok(task) => Ok(SharedTask { task }),
-            Err(_) => Err(AllocError),
-        }
+        Ok(SharedTask {
+            task: Arc::new(alloc, task)?,
+        })
     }
 }
 

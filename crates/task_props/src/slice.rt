@@ -1,6 +1,4 @@
 use crate::Properties;
-use dimensions::TryCopy;
-use std::alloc::{AllocError, Global};
 
 /// One way to run a task, tried for `expiration_secs` before the next.
 #[derive(Debug, PartialEq, Drop)]
@@ -19,15 +17,5 @@ impl Slice {
         ensures { result.now ≡ pool_of self.now.properties.dimensions }
     {
         self.properties.dimensions.pool()
-    }
-}
-
-impl TryCopy for Slice {
-    fn try_copy(&self, alloc: Global) -> Result<Slice, AllocError> {
-        Ok(Slice {
-            expiration_secs: self.expiration_secs,
-            wait_for_capacity: self.wait_for_capacity,
-            properties: self.properties.try_copy(alloc)?,
-        })
     }
 }

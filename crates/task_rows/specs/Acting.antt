@@ -23,10 +23,10 @@ abbrev pub ComesFromRun : PoolState → ℕ → EntryKind → Type 0
 ComesFromRun s number (kind.Handshake b id session dims q) = run_of_bot s b ≡ Some number
 ComesFromRun s number entry = ⊤
 
--- the rows after the entry are those of every such pool in which the entry belongs to the run
-abbrev pub IsAfterRun : List TaskRow → ℕ → Entry → List TaskRow → Type 0
-IsAfterRun old number entry new =
-    (s : PoolState) → s.tasks ≡ old → ComesFromRun s number entry.kind → new ≡ (after s entry).tasks
+-- the rows after the entry are those of every such pool that retries so often, and in which the entry belongs to the run
+abbrev pub IsAfterRun : ℕ → List TaskRow → ℕ → Entry → List TaskRow → Type 0
+IsAfterRun retries old number entry new =
+    (s : PoolState) → s.tasks ≡ old → s.settings.retries ≡ retries → ComesFromRun s number entry.kind → new ≡ (after s entry).tasks
 
 -- ---- which entries change the row of a number
 

@@ -10,7 +10,7 @@ use Rattle.task_rows.specs.declared.rows.TaskRows.TheInside.{Inside}
 use Rattle.task_rows.specs.Plain.{TaskRowsState}
 
 abbrev pub kept_of : Inside → TaskRowsState
-kept_of rows = record { rows = rows.rows.items; ready = rows.ready }
+kept_of rows = record { rows = rows.rows.items; ready = rows.ready; retries = rows.retries }
 
 -- there is room for what is made ready
 abbrev pub HasRoom : List TaskRow → ℕ → ℕ → TaskParts → Type 0

@@ -59,9 +59,10 @@ pub(crate) fn start(
 }
 
 /// The run of the task of a number ends: with the last report that the entry's parts are, or
-/// without one.
+/// without one, in a pool that retries so often.
 pub(crate) fn end_run(
     rows: &mut Vec<TaskRow>,
+    retries: u32,
     no: u32,
     entry: &Entry,
     parts: TaskParts,
@@ -72,7 +73,7 @@ pub(crate) fn end_run(
     requires parts { parts ≡ task_parts entry.now.kind }
     requires room { HasRoom rows.old.items (vec_capacity rows.old) spare.old parts }
     requires short { StaysShort (run_of rows.old.items no) (chunk_in entry.now.kind) }
-    ensures rows { IsAfterRun rows.old.items no entry.now rows.new.items }
+    ensures rows { IsAfterRun retries rows.old.items no entry.now rows.new.items }
     ensures numbered { AreNumbered no_of_task 1 rows.new.items }
 {
     let moment = entry.moment;
@@ -80,11 +81,19 @@ pub(crate) fn end_run(
         TaskParts::Report {
             task: _,
             chunk,
-            last: Some(last),
-        } => record_report(rows, moment, no, chunk, Some(last), spare),
+            last,
+        } => record_report(rows, moment, no, chunk, last, spare),
+        TaskParts::Lost(room) => {
+            let run = LoseRun {
+                moment,
+                retries,
+                room,
+            };
+            change(rows, no, run);
+        }
         other => {
             drop(other);
-            change(rows, no, LoseRun { moment });
+            unreachable!()
         }
     }
 }

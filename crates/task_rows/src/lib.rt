@@ -1,13 +1,15 @@
 //! The rows of a pool's tasks, found by number.
 //!
-//! [`TaskRows`] is seen as two things (`specs/Plain.antt`): the rows, and what is made ready of an
-//! entry. What answers a request reads a row through [`ReadRows`](swarm_model::ReadRows), at one
-//! step a reading; what a machine keeps beside the rows it reads by `uncounted_row`, at none.
-//! An entry changes at most one row, by one of seven calls, each of which asks only what it needs
-//! of the entry and of that row (`specs/Acting.antt`), and ensures that the rows are those after
-//! the entry of every pool that had them before. `reserve` is the only call that takes memory: the
-//! texts that it copied move into the rows, and the chunks of a run grow in room that it made. The
-//! crate stands on `row_changes`; `swarm_machine` keeps the tasks of a pool in one [`TaskRows`].
+//! [`TaskRows`] is seen as three things (`specs/Plain.antt`): the rows, what is made ready of an
+//! entry, and how often the pool tries a lost run again. What answers a request reads a row through
+//! [`ReadRows`](swarm_model::ReadRows), at one step a reading; what a machine keeps beside the rows
+//! it reads by `uncounted_row`, at none. An entry changes at most one row, by one of seven calls,
+//! each of which asks only what it needs of the entry and of that row (`specs/Acting.antt`), and
+//! ensures that the rows are those after the entry of every pool that had them before; where a run
+//! ends, of every such pool that retries as often. `reserve` is the only call that takes memory: the
+//! texts that it copied move into the rows, the chunks of a run grow in room that it made, and so is
+//! a run kept that is tried again. The crate stands on `row_changes`; `swarm_machine` keeps the
+//! tasks of a pool in one [`TaskRows`].
 #![tactic(auto)]
 
 mod in_place;

@@ -23,6 +23,8 @@ use swarm_model::{Chunk, Entry, EntryKind, ReadRows, Steps, TaskRow};
 #[derive(Drop)]
 pub struct TaskRows {
     alloc: Global,
+    /// How often the pool tries a run again that is lost.
+    retries: u32,
     rows: Vec<TaskRow>,
     /// A larger buffer for the run whose chunks fill their own.
     spare: SpareBuffer<Chunk>,
@@ -43,12 +45,13 @@ impl Model for TaskRows {
 }
 
 impl TaskRows {
-    /// No task yet. It takes no memory.
-    pub fn new(alloc: Global) -> TaskRows
-        ensures { result ≡ record { rows = []; ready = None } }
+    /// No task yet, in a pool that retries so often. It takes no memory.
+    pub fn new(alloc: Global, retries: u32) -> TaskRows
+        ensures { result ≡ record { rows = []; ready = None; retries = retries } }
     {
         TaskRows {
             alloc,
+            retries,
             rows: Vec::new(alloc),
             spare: SpareBuffer::new(alloc),
             ready: None,
@@ -96,6 +99,7 @@ impl TaskRows {
         requires next { no ≡ length self.old.rows + 1 }
         ensures rows { IsAfter self.old.rows entry.now self.new.rows }
         ensures ready { self.new.ready ≡ None }
+        ensures retries { self.new.retries ≡ self.old.retries }
     {
         match self.ready.take() {
             None => unreachable!(),
@@ -112,6 +116,7 @@ impl TaskRows {
         requires claims { Claims no entry.now.kind }
         ensures rows { IsAfter self.old.rows entry.now self.new.rows }
         ensures ready { self.new.ready ≡ None }
+        ensures retries { self.new.retries ≡ self.old.retries }
     {
         match self.ready.take() {
             None => unreachable!(),
@@ -126,24 +131,29 @@ impl TaskRows {
         requires short { StaysShort (run_of self.old.rows no) (chunk_in entry.now.kind) }
         ensures rows { IsAfter self.old.rows entry.now self.new.rows }
         ensures ready { self.new.ready ≡ None }
+        ensures retries { self.new.retries ≡ self.old.retries }
     {
         drop(self.ready.take());
         keep_chunk(&mut self.rows, no, chunk_of(entry), &mut self.spare);
     }
 
     /// The run ends: with its last report, whose chunk is kept likewise, with its bot's silence, or
-    /// with its bot's next session. An entry with a session doesn't name the task: the rows are
-    /// those of the pools in which its bot runs the task.
+    /// with its bot's next session. The rows are those of the pools that retry so often; and as an
+    /// entry with a session doesn't name the task, of those in which its bot runs the task.
     pub fn finish(&mut self, no: u32, entry: &Entry)
         requires ready { self.old.ready ≡ Some (task_parts entry.now.kind) }
         requires ends { EndsRun no entry.now.kind }
         requires short { StaysShort (run_of self.old.rows no) (chunk_in entry.now.kind) }
-        ensures rows { IsAfterRun self.old.rows no entry.now self.new.rows }
+        ensures rows { IsAfterRun self.old.retries self.old.rows no entry.now self.new.rows }
         ensures ready { self.new.ready ≡ None }
+        ensures retries { self.new.retries ≡ self.old.retries }
     {
         match self.ready.take() {
             None => unreachable!(),
-            Some(parts) => end_run(&mut self.rows, no, entry, parts, &mut self.spare),
+            Some(parts) => {
+                let retries = self.retries;
+                end_run(&mut self.rows, retries, no, entry, parts, &mut self.spare);
+            }
         }
     }
 
@@ -153,6 +163,7 @@ impl TaskRows {
         requires cancels { Cancels no entry.now.kind }
         ensures rows { IsAfter self.old.rows entry.now self.new.rows }
         ensures ready { self.new.ready ≡ None }
+        ensures retries { self.new.retries ≡ self.old.retries }
     {
         drop(self.ready.take());
         let moment = entry.moment;
@@ -165,6 +176,7 @@ impl TaskRows {
         requires kills { Kills no entry.now.kind }
         ensures rows { IsAfter self.old.rows entry.now self.new.rows }
         ensures ready { self.new.ready ≡ None }
+        ensures retries { self.new.retries ≡ self.old.retries }
     {
         drop(self.ready.take());
         change(&mut self.rows, no, MarkKill);
@@ -177,6 +189,7 @@ impl TaskRows {
         requires few { IfSome (row_of self.old.rows no) HasFewSlices }
         ensures rows { IsAfter self.old.rows entry.now self.new.rows }
         ensures ready { self.new.ready ≡ None }
+        ensures retries { self.new.retries ≡ self.old.retries }
     {
         drop(self.ready.take());
         let moment = entry.moment;

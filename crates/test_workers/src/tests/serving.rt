@@ -1,5 +1,5 @@
 //! Workers that serve links in memory.
-ghost use Rattle.std.specs.Prelude.{◌≡◌, ◌≤◌, length, IfOk, IsTrue};
+ghost use Rattle.std.specs.Prelude.{◌≡◌, ◌≤◌, map, IfOk, IsTrue};
 ghost use Rattle.sw_base.specs.Listeners.{IsGiven};
 ghost use Rattle.swarm_model.specs.Settings.{are_settings};
 
@@ -11,7 +11,7 @@ use std::thread::Threads;
 use sw_base::{Acceptor, Listener, MemoryAcceptor, MemoryListener, StartFault, StepClock};
 use swarm_keeper::NoKeeper;
 use swarm_machine::Pool;
-use swarm_model::Settings;
+use swarm_model::{Machine, Settings};
 use swarm_workers::{WorkStop, serve_shared};
 use test_sessions::no_keepers;
 
@@ -71,7 +71,7 @@ pub fn serve_links<R: Threads + Wait + Sync, N: Listener>(
 ) -> Result<(WorkStop, Vec<Pool>), StartFault>
     requires rules { IsTrue (are_settings settings.now) }
     requires workers { (1 ≤ workers) × (workers ≤ 32) }
-    ensures { IfOk result (λ served. length served.1.items ≡ length settings.now.pools) }
+    ensures { IfOk result (λ served. map (λ m. m.pool.settings) (map ⟦<Pool as Machine>⟧.kept served.1.items) ≡ settings.now.pools) }
 {
     let keepers = no_keepers(alloc, settings.pools.as_slice())?;
     serve_shared::<Pool, NoKeeper, R, StepClock, N>(

@@ -1,4 +1,5 @@
 use Rattle.std.proofs.Common.{◌≡◌, ℕ, ◌+◌, ◌<◌, length, map, sym, ap, ◌∙◌, subst, arith, Option}
+use Rattle.dim_queue.specs.Taking.{taker}
 use Rattle.dim_queue.specs.declared.waiting.Waiting.{Waiting}
 use Rattle.dim_queue.specs.Plain.{QueueState, queue_at}
 use Rattle.dim_queue.specs.QueueList.{state_of, IsFirstOf, MayTakeFrom, first_match, earlier_of}
@@ -8,7 +9,7 @@ use Rattle.dim_queue.proofs.queue_list.first_for.Goals as goal
 
 pub loop-at-preserved : goal.loop-at-preserved
 loop-at-preserved c =
-    let bot = c.args.bot.now in
+    let bot = taker c.args.no c.args.bot.now in
     let queues = c.args.queues.now in
     let states = map state_of queues in
     let at = c.loop-at.at in
@@ -23,4 +24,4 @@ loop-at-preserved c =
 pub returns : goal.returns
 returns c =
     let e : c.loop-at.at ≡ length c.args.queues.now = omega arith in
-    subst (λ (n : ℕ). IsFirstOf (MayTakeFrom c.args.bot.now (map state_of c.args.queues.now) n) c.loop-at.best) e c.loop-at.invariant
+    subst (λ (n : ℕ). IsFirstOf (MayTakeFrom (taker c.args.no c.args.bot.now) (map state_of c.args.queues.now) n) c.loop-at.best) e c.loop-at.invariant

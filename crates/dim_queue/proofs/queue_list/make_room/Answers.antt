@@ -8,4 +8,4 @@ returns-clause-room c =
     subst (λ (n : ℕ). OnOk c.reserve.result (0 < n)) (sym (new_room c.args.queues.now c.args.at c.requires c.reserve.new.self)) c.reserve.ensures.room
 
 pub returns-clause-same : goal.returns-clause-same
-returns-clause-same c = as_before c.args.queues.now c.args.at c.requires c.reserve.new.self c.index-queues-at.result c.reserve.ensures.dims c.reserve.ensures.tasks
+returns-clause-same c = as_before c.args.queues.now c.args.at c.requires c.reserve.new.self c.index-queues-at.result c.reserve.ensures.set c.reserve.ensures.tasks

@@ -24,7 +24,7 @@ pub returns-clause-others : goal.returns-clause-others
 returns-clause-others c =
     let queues = c.args.queues.now in
     let low = room_low queues c.args.at c.requires.room in
-    same_others queues c.args.at low c.add.new.self c.index-queues-at.result c.add.ensures.dims
+    same_others queues c.args.at low c.add.new.self c.index-queues-at.result c.add.ensures.set
 
 pub returns-clause-order : goal.returns-clause-order
 returns-clause-order c =

@@ -9,7 +9,7 @@ pub returns-clause-others : goal.returns-clause-others
 returns-clause-others c =
     let queues = c.args.queues.now in
     let low = task_low queues c.args.at c.args.waiting c.requires.there in
-    same_others queues c.args.at low c.remove.new.self c.index-queues-at.result c.remove.ensures.dims
+    same_others queues c.args.at low c.remove.new.self c.index-queues-at.result c.remove.ensures.set
 
 pub returns-clause-order : goal.returns-clause-order
 returns-clause-order c =

@@ -5,4 +5,4 @@ use Rattle.swarm_model.specs.Slices.{waits_for, foremost}
 use Rattle.swarm_plain.proofs.scans.first.Given as goal
 
 abbrev pub invariant-loop-task : goal.invariant-loop-task
-invariant-loop-task l = option_copied l.best ≡ fold foremost None (filter (waits_for l.dims) (take l.task-index l.tasks))
+invariant-loop-task l = option_copied l.best ≡ fold foremost None (filter (waits_for l.bot l.dims) (take l.task-index l.tasks))

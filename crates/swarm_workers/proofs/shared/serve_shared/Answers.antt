@@ -1,9 +1,8 @@
-use Rattle.std.proofs.Common.{arith, sym, ◌∙◌}
-use Rattle.std.proofs.lemmas.List.{length-map}
+use Rattle.std.proofs.Common.{arith, ◌∙◌}
 use Rattle.shared_doors.specs.Machines.{lasting_in}
 use Rattle.swarm_workers.specs.Crews.{HasWorked}
 use Rattle.swarm_workers.proofs.Crewing.{same_settings, new_settings, new_calls, as_many, some_of, out_enough, above_map, below_map, written, count_written, doors_after, alone_after, served_all}
-use Rattle.swarm_workers.proofs.Closing.{kept_at, none_past, count_closed}
+use Rattle.swarm_workers.proofs.Closing.{kept_at, none_past, settings_closed}
 use Rattle.swarm_workers.proofs.shared.serve_shared.Goals as goal
 
 pub run_workers-requires-clause-settings : goal.run_workers-requires-clause-settings
@@ -59,5 +58,5 @@ returns-clause-serves g c =
     (none_past (lasting_in g.M.Machine.kept) _ _ _ _ c.in-Ok.ensures.closed)
     c.end_workers-stop.ensures.shuts c.end_workers-stop.ensures.stop
 
-pub returns-clause-count : goal.returns-clause-count
-returns-clause-count g c = sym (length-map c.in-Ok.machines.items _) ∙ count_closed (lasting_in g.M.Machine.kept) _ _ _ _ c.in-Ok.ensures.closed ∙ c.in_ok-server.ensures.count
+pub returns-clause-pools : goal.returns-clause-pools
+returns-clause-pools g c = settings_closed (lasting_in g.M.Machine.kept) _ _ _ _ c.in-Ok.ensures.closed ∙ c.in_ok-server.ensures.settings

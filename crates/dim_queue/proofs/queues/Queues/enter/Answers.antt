@@ -2,7 +2,8 @@ use Rattle.std.proofs.Common.{◌≡◌, ℕ, length, map, sym, ap, ◌∙◌, s
 use Rattle.std.proofs.lemmas.List.{length-map}
 use Rattle.std.specs.Option.{option_map}
 use Rattle.std.specs.HashMap.{get}
-use Rattle.dimensions.specs.declared.dim_set.DimSet.{DimSet}
+use Rattle.dim_queue.specs.Taking.{set_with}
+use Rattle.dim_queue.specs.declared.queue_set.QueueSet.{QueueSet}
 use Rattle.dim_queue.specs.declared.waiting.Waiting.{Waiting}
 use Rattle.dim_queue.specs.Plain.{QueuesState, queue_at, Enters, IsAbsent}
 use Rattle.dim_queue.specs.QueueList.{state_of}
@@ -14,7 +15,7 @@ pub push_waiting-requires-clause-new : goal.push_waiting-requires-clause-new
 push_waiting-requires-clause-new c =
     let states = map state_of c.self.inside.queues.items in
     let absent = subst (λ (k : QueuesState). IsAbsent c.args.no k.queues) (sym c.self.view_is) c.requires.absent in
-    λ w there e. absent w (queue_at states c.in-Some.at).dims (waits_at c.in-Some.at w there) (ap (λ (v : Waiting). v.number) e)
+    λ w there e. absent w (queue_at states c.in-Some.at).set (waits_at c.in-Some.at w there) (ap (λ (v : Waiting). v.number) e)
 
 pub invariant_of-self : goal.invariant_of-self
 invariant_of-self c =
@@ -39,12 +40,12 @@ returns-clause-enters c =
     let old = map state_of i.queues.items in
     let new = map state_of c.push_waiting.new.queues.items in
     let absent = subst (λ (k : QueuesState). IsAbsent c.args.no k.queues) (sym c.self.view_is) c.requires.absent in
-    let dims : Option ℕ → Option DimSet = option_map (λ (k : ℕ). (queue_at old k).dims) in
-    let made : dims i.ready ≡ Some c.args.dims.now = ap (λ (k : QueuesState). k.ready) c.self.view_is ∙ c.requires.ready in
-    let both : Some (queue_at old c.in-Some.at).dims ≡ Some c.args.dims.now = ap dims c.in-Some.ensures.value ∙ made in
-    let its : (queue_at old c.in-Some.at).dims ≡ c.args.dims.now = cc (both) in
-    subst (λ (k : QueuesState). Enters (one_at c.args.priority c.args.no) c.args.dims.now k.queues new) c.self.view_is
-    (enter_waits old new (get nat_eq i.places) (get nat_eq c.insert_reserved.new.places) c.in-Some.at c.args.priority c.args.no c.self.invariant.placed c.self.invariant.known c.insert_reserved.ensures.own c.insert_reserved.ensures.others c.push_waiting.ensures.others c.push_waiting.ensures.adds absent c.args.dims.now its)
+    let sets : Option ℕ → Option QueueSet = option_map (λ (k : ℕ). (queue_at old k).set) in
+    let made : sets i.ready ≡ Some (set_with c.args.dims.now c.args.but) = ap (λ (k : QueuesState). k.ready) c.self.view_is ∙ c.requires.ready in
+    let both : Some (queue_at old c.in-Some.at).set ≡ Some (set_with c.args.dims.now c.args.but) = ap sets c.in-Some.ensures.value ∙ made in
+    let its : (queue_at old c.in-Some.at).set ≡ set_with c.args.dims.now c.args.but = cc (both) in
+    subst (λ (k : QueuesState). Enters (one_at c.args.priority c.args.no) (set_with c.args.dims.now c.args.but) k.queues new) c.self.view_is
+    (enter_waits old new (get nat_eq i.places) (get nat_eq c.insert_reserved.new.places) c.in-Some.at c.args.priority c.args.no c.self.invariant.placed c.self.invariant.known c.insert_reserved.ensures.own c.insert_reserved.ensures.others c.push_waiting.ensures.others c.push_waiting.ensures.adds absent (set_with c.args.dims.now c.args.but) its)
 
 pub returns-clause-count : goal.returns-clause-count
 returns-clause-count c =

@@ -26,7 +26,7 @@ returns-clause-verdict g c =
     let own = c.args.self.now in
     let kept = machine_of own in
     let decided = c.in_ok-reply.ensures.value ∙ ap (λ (kept : KeptPool). decide kept.pool c.args.who.now c.args.moment c.args.request.now) c.self.view_is in
-    subst (λ (r : Reply). ShowsVerdict kept r) (sym (ap (λ (t : Decision). t.reply) decided))
+    subst (λ (r : Reply). ShowsVerdict kept c.args.request.now r) (sym (ap (λ (t : Decision). t.reply) decided))
     (shows_verdict kept (history_of _ own c.self.view_is c.self.invariant.replay_of) c.args.who.now c.args.moment c.args.pass c.args.request.now)
 
 pub returns-clause-repeats : goal.returns-clause-repeats

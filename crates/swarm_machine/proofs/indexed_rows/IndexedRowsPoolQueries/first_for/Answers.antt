@@ -13,7 +13,7 @@ returns-in-None-clause-value g c =
     let s = state_of c.self.inside.rows in
     rw (← c.self.view_is)
     (ap (λ (o : Option Waiting). option_and_then (λ (w : Waiting). task_of s w.number) o) (sym c.in-None.is)
-    ∙ first_is_next s (kept_sound c.self.inside c.self.invariant) c.self.inside.indexes.queues.queues c.self.invariant.indexed.queues c.args.dims.now c.first_for.result c.first_for.ensures)
+    ∙ first_is_next s (kept_sound c.self.inside c.self.invariant) c.self.inside.indexes.queues.queues c.self.invariant.indexed.queues c.args.no c.args.dims.now c.first_for.result c.first_for.ensures)
 
 pub returns-in-Some-clause-value : goal.returns-in-Some-clause-value
 returns-in-Some-clause-value g c =
@@ -22,4 +22,4 @@ returns-in-Some-clause-value g c =
     rw (← c.self.view_is)
     (found
     ∙ ap (λ (o : Option Waiting). option_and_then (λ (w : Waiting). task_of s w.number) o) (sym c.in-Some.is)
-    ∙ first_is_next s (kept_sound c.self.inside c.self.invariant) c.self.inside.indexes.queues.queues c.self.invariant.indexed.queues c.args.dims.now c.first_for.result c.first_for.ensures)
+    ∙ first_is_next s (kept_sound c.self.inside c.self.invariant) c.self.inside.indexes.queues.queues c.self.invariant.indexed.queues c.args.no c.args.dims.now c.first_for.result c.first_for.ensures)

@@ -1,5 +1,5 @@
 -- The tasks, the bots and the blobs are changed.
-use Rattle.std.proofs.Common.{◌≡◌, ℕ, Bor, ap, refl, ◌∙◌, List, Option}
+use Rattle.std.proofs.Common.{◌≡◌, ℕ, Bor, ap, refl, sym, ◌∙◌, List, Option}
 use Rattle.std.specs.Option.{option_map}
 use Rattle.blob_rows.specs.BlobRows.{BlobRowsState}
 use Rattle.content_store.specs.StoredRows.{rows_in}
@@ -43,7 +43,7 @@ returns c =
     let k = e.kind in
     let bytes = option_map (λ (b : Bor (List ℕ)). b.now) c.args.bytes in
     let pool = c.requires.of_settings.blobs in
-    let tasks = c.change_tasks.ensures s refl c.run_to_end-run.ensures in
+    let tasks = c.change_tasks.ensures.rows s refl (sym c.requires.of_settings.tasks) c.run_to_end-run.ensures in
     let bots = c.apply.ensures.rows s refl in
     let effect : c.blob_effect-effect.result ≡ blob_effect s k = c.blob_effect-effect.ensures ∙ ap (λ (fresh : Option Chunk). effect_of fresh k) c.fresh_in.ensures in
     let own : rows_in old.blobs ≡ blobs_in s = λ i. (let x : BlobRowsState = record { rows = old.blobs.rows; placed = old.blobs.placed; units = pool.units i } in x) in
@@ -56,6 +56,7 @@ returns c =
           ∙ ap (λ (p : PoolState). let x : PoolState = record p { last = m; tasks = (after s e).tasks; bots = (after s e).bots } in x) by_blob;
       held = c.change_blobs.ensures.held ∙ ap (λ (f : BlobEffect). held_with f old.blobs.rows bytes (held_in old.blobs)) effect ∙ held_is s k bytes (held_in old.blobs);
       of_settings = record {
+        tasks = c.change_tasks.ensures.retries ∙ c.requires.of_settings.tasks;
         blobs = record { units = c.change_blobs.ensures.units ∙ pool.units; names = c.change_blobs.ensures.names ∙ pool.names };
         bots = ap (λ (r : RegistryState). r.most) c.apply.ensures.rest ∙ c.requires.of_settings.bots;
       };

@@ -1,7 +1,6 @@
 -- The rows go on by what an entry does that may come next.
-use Rattle.std.proofs.Common.{◌≡◌, ℕ, List, Bor, Option, Some, IfSome, sym, ap, ◌∙◌, subst}
+use Rattle.std.proofs.Common.{ℕ, List, Bor, sym, ap, ◌∙◌}
 use Rattle.std.specs.Option.{option_map}
-use Rattle.swarm_model.specs.declared.entry.Entry.{Entry}
 use Rattle.content_store.specs.Contents.{bytes_of}
 use Rattle.swarm_model.specs.Bytes.{held_after}
 use Rattle.swarm_model.specs.Effects.{after}
@@ -10,8 +9,7 @@ use Rattle.pool_log.specs.Reached.{MayComeNext}
 use Rattle.pool_log.specs.Plain.{RowsState}
 use Rattle.pool_log.proofs.Reached.{few_placed, reached_after}
 use Rattle.swarm_plain.specs.Inside.{state_of}
-use Rattle.swarm_plain.specs.Invariant.{IsMadeReady}
-use Rattle.swarm_plain.proofs.Holding.{kept_sound}
+use Rattle.swarm_plain.proofs.Holding.{kept_sound, made_for}
 use Rattle.swarm_plain.proofs.list_rows.ListRowsPoolRows.apply.Goals as goal
 
 pub apply-requires-clause-sound : goal.apply-requires-clause-sound
@@ -29,20 +27,25 @@ apply-requires-clause-few c = few_placed (state_of c.self.inside.rows) c.args.en
 pub apply-requires-clause-bytes : goal.apply-requires-clause-bytes
 apply-requires-clause-bytes c = brought_is c.args.entry.now.kind c.args.bytes c.requires.bytes
 
-pub apply-requires-clause-copy : goal.apply-requires-clause-copy
-apply-requires-clause-copy c =
-    let some : Some c.in-Some.copy ≡ Some c.args.entry.now = sym c.in-Some.is ∙ c.take.ensures.value ∙ ap (λ (kept : RowsState). kept.ready) c.self.view_is ∙ c.requires.ready in
-    cc (some)
+pub apply-requires-clause-task : goal.apply-requires-clause-task
+apply-requires-clause-task c =
+    let ready = ap (λ (kept : RowsState). kept.ready) c.self.view_is ∙ c.requires.ready in
+    (made_for c.self.inside.rows c.self.inside.ready c.in-Some.ready c.args.entry.now c.self.invariant.prepared (sym c.take.ensures.value ∙ c.in-Some.is) ready).task
+
+pub apply-requires-clause-bot : goal.apply-requires-clause-bot
+apply-requires-clause-bot c =
+    let ready = ap (λ (kept : RowsState). kept.ready) c.self.view_is ∙ c.requires.ready in
+    (made_for c.self.inside.rows c.self.inside.ready c.in-Some.ready c.args.entry.now c.self.invariant.prepared (sym c.take.ensures.value ∙ c.in-Some.is) ready).bot
 
 pub apply-requires-clause-room : goal.apply-requires-clause-room
 apply-requires-clause-room c =
     let ready = ap (λ (kept : RowsState). kept.ready) c.self.view_is ∙ c.requires.ready in
-    (subst (λ (o : Option Entry). IfSome o (IsMadeReady c.self.inside.rows)) ready c.self.invariant.prepared).room
+    (made_for c.self.inside.rows c.self.inside.ready c.in-Some.ready c.args.entry.now c.self.invariant.prepared (sym c.take.ensures.value ∙ c.in-Some.is) ready).room
 
 pub apply-requires-clause-chunk : goal.apply-requires-clause-chunk
 apply-requires-clause-chunk c =
     let ready = ap (λ (kept : RowsState). kept.ready) c.self.view_is ∙ c.requires.ready in
-    (subst (λ (o : Option Entry). IfSome o (IsMadeReady c.self.inside.rows)) ready c.self.invariant.prepared).chunk
+    (made_for c.self.inside.rows c.self.inside.ready c.in-Some.ready c.args.entry.now c.self.invariant.prepared (sym c.take.ensures.value ∙ c.in-Some.is) ready).chunk
 
 pub invariant_of-self : goal.invariant_of-self
 invariant_of-self c =

@@ -1,5 +1,5 @@
 -- The tasks, the bots and the blobs are changed.
-use Rattle.std.proofs.Common.{◌≡◌, ℕ, Bor, ap, sym, ◌∙◌, List, Option}
+use Rattle.std.proofs.Common.{◌≡◌, ℕ, Bor, ap, sym, ◌∙◌, List, Option, vec_len, vec_capacity}
 use Rattle.std.specs.Option.{option_map}
 use Rattle.blob_rows.specs.BlobRows.{BlobRowsState}
 use Rattle.content_store.specs.StoredRows.{BlobsState, rows_in}
@@ -15,7 +15,7 @@ use Rattle.pool_changes.specs.Blobs.{held_in, blob_effect, effect_of, rows_with,
 use Rattle.swarm_plain.specs.Inside.{state_of}
 use Rattle.swarm_plain.proofs.Holding.{in_order}
 use Rattle.pool_changes.proofs.BlobEffects.{with_blobs_is, held_is, can_change, keeps_short}
-use Rattle.swarm_plain.proofs.RowEffects.{state_after}
+use Rattle.swarm_plain.proofs.RowEffects.{state_after, room_for}
 use Rattle.swarm_plain.proofs.rows.Rows.apply.Goals as goal
 
 pub fresh_in-requires : goal.fresh_in-requires
@@ -26,6 +26,12 @@ change_tasks-requires-clause-order c = in_order c.args.self.now c.requires.sound
 
 pub change_tasks-requires-clause-short : goal.change_tasks-requires-clause-short
 change_tasks-requires-clause-short c = keeps_short (state_of c.args.self.now) c.args.entry.now c.requires.follows
+
+pub change_bots-requires-clause-room : goal.change_bots-requires-clause-room
+change_bots-requires-clause-room c =
+    let bots = c.change_tasks.new.self.bots in
+    let same = ap (λ (rows : Rows). rows.bots) c.change_tasks.ensures.rest in
+    room_for bots.items (vec_len bots) (vec_capacity bots) c.args.entry.now.kind (rw same c.requires.room.bot)
 
 pub change_blobs-requires-clause-may : goal.change_blobs-requires-clause-may
 change_blobs-requires-clause-may c =
