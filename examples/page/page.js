@@ -99,12 +99,13 @@ async function countsOf(pool, known = {}) {
     return sum === counts.ALL ? counts : { ...counts, ...await countAll(ENDED) };
 }
 
-// The output of a task so far, or its end: what was read before, and what came since.
+// The output of a task so far, or its end: what was read before, and what came since. A second run begins anew.
 async function outputOf(task, known) {
     const begin = Math.max(0, task.output_length - OUTPUT_SHOWN);
-    const it = known ?? { offset: begin, isCut: begin > 0, text: "", decoder: new TextDecoder() };
+    const anew = { run: task.run_id, offset: begin, isCut: begin > 0, text: "", decoder: new TextDecoder() };
+    const it = known?.run === task.run_id ? known : anew;
     while (it.offset < task.output_length) {
-        const told = await ask("Tasks/GetStdout", { task_id: task.task_id, offset: it.offset });
+        const told = await ask("Tasks/GetStdout", { task_id: task.run_id ?? task.task_id, offset: it.offset });
         const piece = Uint8Array.from(atob(told.output), (character) => character.charCodeAt(0));
         if (!piece.length) break;
         it.offset += piece.length;
