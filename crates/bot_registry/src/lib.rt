@@ -7,7 +7,8 @@
 //! that comes next after a name are found by bisection, and for each set of dimensions that a task
 //! asked for the number of fit bots that match it, which tells whether some bot could run it.
 //! An entry counts anew for the one bot that it changes. Each call's documentation says its cost.
-//! `reserve` is the only call that takes memory.
+//! Of what an entry needs only `reserve` takes memory. Rows that were kept elsewhere come one after
+//! the other by `load`, in the order of their numbers.
 //!
 //! It stands on `row_changes`. `swarm_machine` keeps the bots of a pool in a [`Registry`].
 #![tactic(auto)]

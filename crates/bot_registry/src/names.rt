@@ -84,7 +84,7 @@ fn insert(numbers: &mut Vec<u32>, place: usize, number: u32)
 }
 
 /// Adds the number of a bot that comes for the first time.
-fn add(rows: &[BotRow], numbers: &mut Vec<u32>, number: u32, name: &Text)
+pub(crate) fn add(rows: &[BotRow], numbers: &mut Vec<u32>, number: u32, name: &Text)
     requires numbered { AreNumbered no_of_bot 1 rows.now }
     requires named { AreByName (map no_of_bot rows.now) (map name_of rows.now) numbers.old.items }
     requires next { number ≡ length rows.now + 1 }

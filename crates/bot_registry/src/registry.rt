@@ -1,4 +1,4 @@
-ghost use Rattle.std.specs.Prelude.{◌≡◌, [], length, Some, None, OnOk, OnErr};
+ghost use Rattle.std.specs.Prelude.{◌≡◌, ◌+◌, ◌<◌, [], ◌∷◌, ◌++◌, length, Some, None, OnOk, OnErr};
 ghost use Rattle.std.specs.List.{list_any};
 ghost use Rattle.std.specs.Option.{option_copied, option_map};
 ghost use Rattle.swarm_model.specs.Slices.{could_run};
@@ -122,6 +122,30 @@ impl Registry {
         self.demands.add_sets(self.alloc, &self.rows, &entry.kind)?;
         let parts = BotParts::copied(self.alloc, &entry.kind)?;
         drop(mem::replace(&mut self.ready, Some(parts)));
+        Ok(())
+    }
+
+    /// Adds the next row, as it was kept, with a name that no other has. What was made ready is
+    /// dropped, and the sets that are known are forgotten: each is counted again at the next new
+    /// task that asks for it. It costs a bisection over the bots and the move of the numbers behind
+    /// its own.
+    ///
+    /// # Errors
+    ///
+    /// Where memory is wanting, the rows are as they were.
+    pub fn load(&mut self, row: BotRow) -> Result<(), AllocError>
+        requires room { length self.old.rows < self.old.most }
+        requires next { row.no ≡ length self.old.rows + 1 }
+        requires fresh { row_named self.old.rows row.name ≡ None }
+        ensures ok { OnOk result (self.new ≡ record self.old { rows = self.old.rows ++ row ∷ []; ready = None }) }
+        ensures err { OnErr result (self.new ≡ record self.old { ready = None }) }
+    {
+        drop(self.ready.take());
+        self.rows.reserve(1)?;
+        self.by_name.reserve(1)?;
+        drop(mem::replace(&mut self.demands, Demands::new(self.alloc)));
+        names::add(&self.rows, &mut self.by_name, row.no, &row.name);
+        self.rows.push_reserved(row);
         Ok(())
     }
 

@@ -15,7 +15,7 @@ use Rattle.blob_rows.specs.BlobRows.{units_of}
 use Rattle.blob_rows.proofs.LeastPlaces.{least_place-free}
 use Rattle.placed_list.proofs.Listing.{map-insert, map-remove, All-insert, All-remove}
 use Rattle.region.specs.Plain.{RegionState}
-use Rattle.region.specs.FreeUnits.{IsFreeBeside, AreInUse}
+use Rattle.region.specs.FreeUnits.{IsFreeBeside, AreInUse, least_extent}
 use Rattle.region.proofs.Overlaps.{insert-apart}
 use Rattle.region.proofs.InUse.{remove-is}
 use Rattle.content_store.specs.Contents.{Content, extent_of, content_of, with_content, unfilled_content, without_content}
@@ -34,22 +34,27 @@ extents_in bytes [] = refl
 extents_in bytes (slot ∷ slots) = ap (λ (l : List Extent). extent_of_slot slot ∷ l) (extents_in bytes slots)
 
 -- an extent that is found, by its parts
-pub found_parts : (n : ℕ) (o : Option ℕ) (e : Extent) → Some e ≡ option_map (extent_at n) o → (o ≡ Some e.at) × (e ≡ extent_at n e.at)
+found_parts : (n : ℕ) (o : Option ℕ) (e : Extent) → Some e ≡ option_map (extent_at n) o → (o ≡ Some e.at) × (e ≡ extent_at n e.at)
 found_parts n None e is = absurd (cc)
 found_parts n (Some at) e is =
     let same : e ≡ extent_at n at = cc in
     let place : at ≡ e.at = ap (λ (x : Extent). x.at) (sym same) in
     (ap (λ (k : ℕ). Some k) place, same ∙ ap (λ (k : ℕ). extent_at n k) place)
 
+-- units from a place on lie inside, and the extents leave them free
+abbrev pub IsRoom : List Extent → ℕ → ℕ → ℕ → Type 0
+IsRoom extents units n place = (place + n ≤ units) × (is_free extents n place ≡ true)
+
+pub found_room : (extents : List Extent) (units n : ℕ) (e : Extent) → Some e ≡ least_extent extents units n → (IsRoom extents units n e.at) × (e ≡ extent_at n e.at)
+found_room extents units n e is =
+    let parts = found_parts n (least_place extents units n) e is in (least_place-free extents units n e.at parts.0, parts.1)
+
 -- ---- a slot more
 
 module _ (layout : RegionState) (slots : List Slot) (i : ℕ) (slot : Slot) (laid : AreLaidOut layout slots) (belongs : BelongsAt (map digest_of slots) slot.digest i)
-    (least : least_place (map extent_of_slot slots) layout.units (units_of slot.size) ≡ Some slot.at) where
+    (room : IsRoom (map extent_of_slot slots) layout.units (units_of slot.size) slot.at) where
   within : i ≤ length slots
   within = omega (arith, belongs.within, length-map slots digest_of)
-
-  free : (slot.at + units_of slot.size ≤ layout.units) × (is_free (map extent_of_slot slots) (units_of slot.size) slot.at ≡ true)
-  free = least_place-free (map extent_of_slot slots) layout.units (units_of slot.size) slot.at least
 
   pub added-laid : (next : RegionState) → next.units ≡ layout.units →
       IsFreeBeside next (insert (map extent_of_slot slots) i (extent_of_slot slot)) → AreLaidOut next (insert slots i slot)
@@ -58,8 +63,8 @@ module _ (layout : RegionState) (slots : List Slot) (i : ℕ) (slot : Slot) (lai
       let low : i ≤ length extents = omega (arith, within, length-map slots extent_of_slot) in
       record {
         sorted = subst (λ (l : List (List ℕ)). IsStrictlySortedBy digest_cmp l) (sym (map-insert digest_of slots i slot)) (insert-sorted slot.digest (map digest_of slots) i laid.sorted belongs);
-        apart = subst (λ (l : List Extent). AreApart l) (sym (map-insert extent_of_slot slots i slot)) (insert-apart extents i (extent_of_slot slot) low laid.apart free.1);
-        inside = subst (λ (n : ℕ). All (λ s. s.at + units_of s.size ≤ n) (insert slots i slot)) (sym units) (All-insert (λ s. s.at + units_of s.size ≤ layout.units) slots i slot free.0 laid.inside);
+        apart = subst (λ (l : List Extent). AreApart l) (sym (map-insert extent_of_slot slots i slot)) (insert-apart extents i (extent_of_slot slot) low laid.apart room.1);
+        inside = subst (λ (n : ℕ). All (λ s. s.at + units_of s.size ≤ n) (insert slots i slot)) (sym units) (All-insert (λ s. s.at + units_of s.size ≤ layout.units) slots i slot room.0 laid.inside);
         beside = subst (λ (l : List Extent). IsFreeBeside next l) (sym (map-insert extent_of_slot slots i slot)) beside;
       }
 

@@ -6,7 +6,7 @@ use Rattle.std.proofs.lemmas.List.{map_push, length-map}
 use Rattle.std.proofs.lemmas.List.Sums.{sum_by-cons, sum_by_push}
 use Rattle.dimensions.proofs.Counting.{list_any-map}
 use Rattle.blob_rows.specs.declared.extent.Extent.{Extent}
-use Rattle.blob_rows.specs.Places.{least_place}
+use Rattle.blob_rows.specs.Places.{overlaps, is_free, least_place}
 use Rattle.blob_rows.specs.SameItems.{SameItems}
 use Rattle.blob_rows.proofs.SameItems.{pass, list_any-same, filter-same, length-same}
 use Rattle.blob_rows.proofs.LeastPlaces.{least_place-same}
@@ -47,13 +47,17 @@ module _ (rows : List BlobRow) (placed : ℕ) (held : List Content) (stored : Ar
   pub length_is : length rows ≡ length held
   length_is = sym (length-map rows stored_row) ∙ length-same (map stored_row rows) (map stored_content held) stored.same ∙ length-map held stored_content
 
-  pub place_is : (units n : ℕ) → least_place (map extent_of_row rows) units n ≡ least_place (map extent_of held) units n
-  place_is units n =
-      let same : SameItems (map extent_of_row rows) (map extent_of held) =
+  same_extents : SameItems (map extent_of_row rows) (map extent_of held)
+  same_extents =
       subst (λ (l : List Extent). SameItems l (map extent_of held)) (extents_of_rows rows)
       (subst (λ (l : List Extent). SameItems (map extent_in (map stored_row rows)) l) (extents_of_held held)
-      (map-same extent_in (map stored_row rows) (map stored_content held) stored.same)) in
-      least_place-same (map extent_of_row rows) (map extent_of held) units n same
+      (map-same extent_in (map stored_row rows) (map stored_content held) stored.same))
+
+  pub place_is : (units n : ℕ) → least_place (map extent_of_row rows) units n ≡ least_place (map extent_of held) units n
+  place_is units n = least_place-same (map extent_of_row rows) (map extent_of held) units n same_extents
+
+  pub free_is : (n place : ℕ) → is_free (map extent_of_row rows) n place ≡ is_free (map extent_of held) n place
+  free_is n place = ap not (list_any-same (overlaps place n) (map extent_of_row rows) (map extent_of held) same_extents)
 
   -- ---- a row more
 

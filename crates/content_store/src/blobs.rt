@@ -1,9 +1,11 @@
-ghost use Rattle.std.specs.Prelude.{◌≡◌, ◌+◌, ◌<◌, ◌≤◌, ◌^◌, [], map, length, slice_get, None, IfOk, IfSome, IsTrue};
+ghost use Rattle.std.specs.Prelude.{◌≡◌, ◌+◌, ◌<◌, ◌≤◌, ◌^◌, ◌++◌, ◌∷◌, [], map, length, slice_get, None, IfOk, IfSome, IsTrue};
 ghost use Rattle.std.specs.List.{filter, All};
 ghost use Rattle.std.specs.Option.{option_map, option_copied};
 ghost use Rattle.sha2.specs.Sha256.{sha256};
-ghost use Rattle.blob_rows.specs.BlobRows.{blob_of, blob_numbered, is_other, longer_kept, put, put_result};
-ghost use Rattle.content_store.specs.Contents.{bytes_of, is_held_with_size};
+ghost use Rattle.blob_rows.specs.Places.{is_free};
+ghost use Rattle.blob_rows.specs.Extents.{extent_at};
+ghost use Rattle.blob_rows.specs.BlobRows.{blob_of, blob_numbered, is_other, longer_kept, units_of, extent_of_row, new_blob, put, put_result};
+ghost use Rattle.content_store.specs.Contents.{bytes_of, is_held_with_size, unfilled_content, with_content};
 ghost use Rattle.content_store.specs.Plain.{hold_result, held_after_hold, fill_result, held_after_fill};
 ghost use Rattle.content_store.specs.StoredRows.{AreStored, held_without, rows_in};
 
@@ -115,6 +117,42 @@ impl Blobs {
             digest,
             size,
         );
+    }
+
+    /// Counts so many blobs as ever placed, no fewer than before: the next one gets the number behind.
+    pub fn raise_placed(&mut self, placed: u32)
+        requires { self.old.placed ≤ placed }
+        ensures { self.new ≡ record self.old { placed = placed } }
+    {
+        self.placed = placed;
+    }
+
+    /// Adds the row of a blob that is not present, with the number that comes next. Its content lies at
+    /// the units from a place on, which are inside and in the extent of no row; its bytes are to be
+    /// brought by `fill`. The row is added at the end, as a new one of `put` is.
+    pub fn put_at(&mut self, deadline: u64, digest: &Digest, size: u32, at: u32)
+        requires fresh { blob_of self.old.rows digest.now ≡ None }
+        requires few { length self.old.rows < self.old.store.names }
+        requires number { self.old.placed + 1 < 2 ^ 32 }
+        requires inside { at + units_of size ≤ self.old.store.units }
+        requires free { IsTrue (is_free (map extent_of_row self.old.rows) (units_of size) at) }
+        ensures rows { self.new.rows ≡ self.old.rows ++ new_blob (rows_in self.old) deadline digest.now size at ∷ [] }
+        ensures placed { self.new.placed ≡ self.old.placed + 1 }
+        ensures store { self.new.store ≡ record self.old.store {
+          held = with_content (unfilled_content digest.now size (self.old.placed + 1) (extent_at (units_of size) at)) self.old.store.held;
+        } }
+        ensures stored { AreStored self.new.rows self.new.placed self.new.store.held }
+    {
+        row_changing::add_at(
+            &mut self.rows,
+            &mut self.store,
+            self.placed,
+            deadline,
+            digest,
+            size,
+            at,
+        );
+        self.placed += 1;
     }
 
     /// Keeps the row of a number for so many seconds more: a bisection of the rows.

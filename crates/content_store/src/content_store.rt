@@ -1,10 +1,12 @@
-ghost use Rattle.std.specs.Prelude.{◌≡◌, [], map, length, IfOk, IfSome, IsTrue};
+ghost use Rattle.std.specs.Prelude.{◌≡◌, ◌+◌, ◌≤◌, ◌<◌, false, [], map, length, IfOk, IfSome, IsTrue};
 ghost use Rattle.std.specs.List.Sorted.{IsStrictlySortedBy};
 ghost use Rattle.std.specs.Option.{option_map};
 ghost use Rattle.sha2.specs.Sha256.{sha256};
-ghost use Rattle.blob_rows.specs.Extents.{AreApart};
+ghost use Rattle.blob_rows.specs.Places.{is_free};
+ghost use Rattle.blob_rows.specs.Extents.{extent_at, AreApart};
 ghost use Rattle.blob_rows.specs.Digests.{digest_cmp};
-ghost use Rattle.content_store.specs.Contents.{extent_of, number_of, is_held, is_held_with_size, bytes_of, without_content};
+ghost use Rattle.blob_rows.specs.BlobRows.{units_of};
+ghost use Rattle.content_store.specs.Contents.{extent_of, number_of, is_held, is_held_with_size, bytes_of, unfilled_content, with_content, without_content};
 ghost use Rattle.content_store.specs.Plain.{hold_result, held_after_hold, fill_result, held_after_fill};
 
 use crate::slot::Slot;
@@ -86,6 +88,22 @@ impl ContentStore {
             size,
             number,
         )
+    }
+
+    /// Holds a name that is not held, for a content of so many bytes at the units from a place on, which
+    /// lie inside and which no content has. Its bytes are to be brought by `fill`.
+    pub fn hold_at(&mut self, digest: &Digest, size: u32, number: u32, at: u32)
+        requires fresh { is_held self.old.held digest.now ≡ false }
+        requires few { length self.old.held < self.old.names }
+        requires inside { at + units_of size ≤ self.old.units }
+        requires free { IsTrue (is_free (map extent_of self.old.held) (units_of size) at) }
+        ensures holds { self.new ≡ record self.old {
+          held = with_content (unfilled_content digest.now size number (extent_at (units_of size) at)) self.old.held;
+        } }
+        ensures apart { AreApart (map extent_of self.new.held) }
+        ensures sorted { IsStrictlySortedBy digest_cmp (map (λ c. c.digest) self.new.held) }
+    {
+        holding::hold_at(&mut self.region, &mut self.slots, digest, size, number, at);
     }
 
     /// Brings the bytes of a held name, which are hashed and then copied to their place. Nothing

@@ -1,13 +1,15 @@
 //! Names come and go, over the parts of a store.
-ghost use Rattle.std.specs.Prelude.{◌≡◌, ℕ, ◌≤◌, ◌<◌, List, map, length};
-ghost use Rattle.std.specs.List.{remove, Contains};
+ghost use Rattle.std.specs.Prelude.{◌≡◌, ℕ, ◌+◌, ◌≤◌, ◌<◌, true, false, List, map, length, IsTrue};
+ghost use Rattle.std.specs.List.{insert, remove, Contains};
 ghost use Rattle.std.specs.List.Sorted.{IsStrictlySortedBy};
 ghost use Rattle.blob_rows.specs.declared.extent.Extent.{Extent};
-ghost use Rattle.blob_rows.specs.Extents.{without_extent};
+ghost use Rattle.blob_rows.specs.Places.{is_free, overlaps};
+ghost use Rattle.blob_rows.specs.Extents.{extent_at, without_extent};
 ghost use Rattle.blob_rows.specs.Digests.{digest_cmp};
 ghost use Rattle.blob_rows.specs.BlobRows.{units_of};
+ghost use Rattle.region.specs.Plain.{is_free_unit};
 ghost use Rattle.region.specs.FreeUnits.{IsFreeBeside, AreInUse, least_extent, with_placed};
-ghost use Rattle.content_store.specs.Contents.{number_of, is_held, without_content};
+ghost use Rattle.content_store.specs.Contents.{number_of, is_held, unfilled_content, with_content, without_content};
 ghost use Rattle.content_store.specs.Plain.{hold_result, held_after_hold};
 ghost use Rattle.content_store.specs.Slots.{digest_of, extent_of_slot, content_in, state_in, BelongsAt, AreLaidOut, AreThere};
 
@@ -32,6 +34,20 @@ fn place_for(region: &mut Region, size: u32) -> Option<Extent>
     ensures units { region.new.units ≡ region.old.units }
 {
     region.place(units_of(size))
+}
+
+/// Takes the units of a content of this size into use that begin at a place, each of which is free.
+fn take_at(region: &mut Region, size: u32, at: u32)
+    requires inside { at + units_of size ≤ region.old.units }
+    requires free { (unit : ℕ) → overlaps unit 1 (extent_at (units_of size) at) ≡ true → is_free_unit region.old unit ≡ true }
+    ensures adds { (extents : List Extent) (index : ℕ) → IsFreeBeside region.old extents →
+        IsFreeBeside region.new (insert extents index (extent_at (units_of size) at)) }
+    ensures units { region.new.units ≡ region.old.units }
+{
+    region.place_at(Extent {
+        at,
+        units: units_of(size),
+    });
 }
 
 /// Makes the extent of a slot free again.
@@ -147,6 +163,68 @@ pub(crate) fn hold(
             }
             add(region, slots, index, digest, size, number)
         }
+    }
+}
+
+/// Holds a new name, which belongs at a place of the list, for a content at units that are free.
+fn add_at(
+    region: &mut Region,
+    slots: &mut PlacedList<Slot>,
+    index: usize,
+    digest: &Digest,
+    size: u32,
+    number: u32,
+    at: u32,
+)
+    requires laid_out { AreLaidOut region.old slots.old.items }
+    requires belongs { BelongsAt (map digest_of slots.old.items) digest.now index }
+    requires room { length slots.old.items < slots.old.room }
+    requires inside { at + units_of size ≤ region.old.units }
+    requires free { IsTrue (is_free (map extent_of_slot slots.old.items) (units_of size) at) }
+    ensures holds { (bytes : List ℕ) → map (content_in bytes) slots.new.items ≡
+        with_content (unfilled_content digest.now size number (extent_at (units_of size) at)) (map (content_in bytes) slots.old.items) }
+    ensures laid_out { AreLaidOut region.new slots.new.items }
+    ensures there { (bytes : List ℕ) → AreThere bytes slots.old.items → AreThere bytes slots.new.items }
+    ensures units { region.new.units ≡ region.old.units }
+    ensures room { slots.new.room ≡ slots.old.room }
+{
+    take_at(region, size, at);
+    slots.insert_reserved(
+        index,
+        Slot {
+            digest: *digest,
+            size,
+            number,
+            at,
+            is_filled: false,
+        },
+    );
+}
+
+/// Holds a name that is not held, for a content at units that are free.
+pub(crate) fn hold_at(
+    region: &mut Region,
+    slots: &mut PlacedList<Slot>,
+    digest: &Digest,
+    size: u32,
+    number: u32,
+    at: u32,
+)
+    requires laid_out { AreLaidOut region.old slots.old.items }
+    requires fresh { (bytes : List ℕ) × (is_held (map (content_in bytes) slots.old.items) digest.now ≡ false) }
+    requires room { length slots.old.items < slots.old.room }
+    requires inside { at + units_of size ≤ region.old.units }
+    requires free { IsTrue (is_free (map extent_of_slot slots.old.items) (units_of size) at) }
+    ensures holds { (bytes : List ℕ) → map (content_in bytes) slots.new.items ≡
+        with_content (unfilled_content digest.now size number (extent_at (units_of size) at)) (map (content_in bytes) slots.old.items) }
+    ensures laid_out { AreLaidOut region.new slots.new.items }
+    ensures there { (bytes : List ℕ) → AreThere bytes slots.old.items → AreThere bytes slots.new.items }
+    ensures units { region.new.units ≡ region.old.units }
+    ensures room { slots.new.room ≡ slots.old.room }
+{
+    match place_of(slots, digest) {
+        Ok(_) => unreachable!(),
+        Err(index) => add_at(region, slots, index, digest, size, number, at),
     }
 }
 

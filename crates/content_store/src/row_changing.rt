@@ -1,16 +1,20 @@
 //! Puts and removals, over the rows and the store.
-ghost use Rattle.std.specs.Prelude.{◌≡◌, ℕ, ◌+◌, ◌<◌, ◌≤◌, ◌^◌, ◌++◌, ◌∷◌, [], false, map, length, None, slice_index_or, slice_set};
+ghost use Rattle.std.specs.Prelude.{◌≡◌, ℕ, ◌+◌, ◌<◌, ◌≤◌, ◌^◌, ◌++◌, ◌∷◌, [], false, map, length, None, IsTrue, slice_index_or, slice_set};
 ghost use Rattle.std.specs.List.{filter, remove, All};
 ghost use Rattle.std.specs.VecDeque.{deque_len, deque_capacity};
-ghost use Rattle.blob_rows.specs.BlobRows.{blob_of, blob_numbered, is_other, renewed, longer_kept, put};
+ghost use Rattle.blob_rows.specs.Places.{is_free};
+ghost use Rattle.blob_rows.specs.Extents.{extent_at};
+ghost use Rattle.blob_rows.specs.BlobRows.{blob_of, blob_numbered, is_other, renewed, longer_kept, units_of, new_blob, put};
 ghost use Rattle.blob_rows.specs.declared.blob_row.BlobRow.{BlobRow};
-ghost use Rattle.content_store.specs.Contents.{is_held};
+ghost use Rattle.content_store.specs.Contents.{extent_of, is_held, unfilled_content, with_content};
 ghost use Rattle.content_store.specs.Plain.{hold_result, held_after_hold};
 ghost use Rattle.content_store.specs.RowOrder.{NumbersRise};
 ghost use Rattle.content_store.specs.StoredRows.{AreStored, held_without, rows_beside};
 
 use crate::row_places::{place_of_digest, place_of_number};
+use crate::slot::units_of;
 use crate::{BlobRow, ContentStore, Digest, Held};
+use region::Extent;
 use std::collections::VecDeque;
 
 /// Adds a row for which there is room.
@@ -64,6 +68,52 @@ fn add(
         }
         _ => placed,
     }
+}
+
+/// The row of a blob that lies at a place.
+fn new_row(number: u32, deadline: u64, digest: &Digest, size: u32, at: u32) -> BlobRow
+    ensures { result ≡ record { no = number; digest = digest.now; size = size; extent = extent_at (units_of size) at; deadline = deadline } }
+{
+    BlobRow {
+        no: number,
+        digest: *digest,
+        size,
+        extent: Extent {
+            at,
+            units: units_of(size),
+        },
+        deadline,
+    }
+}
+
+/// Adds a blob that is not present, with the number that comes next, at units that are free.
+pub(crate) fn add_at(
+    rows: &mut VecDeque<BlobRow>,
+    store: &mut ContentStore,
+    placed: u32,
+    deadline: u64,
+    digest: &Digest,
+    size: u32,
+    at: u32,
+)
+    requires stored { AreStored rows.old.items placed store.old.held }
+    requires rising { NumbersRise rows.old.items }
+    requires fresh { is_held store.old.held digest.now ≡ false }
+    requires few { length store.old.held < store.old.names }
+    requires room { deque_len rows.old < deque_capacity rows.old }
+    requires number { placed + 1 < 2 ^ 32 }
+    requires inside { at + units_of size ≤ store.old.units }
+    requires free { IsTrue (is_free (map extent_of store.old.held) (units_of size) at) }
+    ensures rows { rows.new.items ≡ rows.old.items ++ new_blob (rows_beside rows.old.items placed store.old) deadline digest.now size at ∷ [] }
+    ensures store { store.new ≡ record store.old {
+      held = with_content (unfilled_content digest.now size (placed + 1) (extent_at (units_of size) at)) store.old.held;
+    } }
+    ensures stored { AreStored rows.new.items (placed + 1) store.new.held }
+    ensures rising { NumbersRise rows.new.items }
+    ensures room { deque_capacity rows.old ≤ deque_capacity rows.new }
+{
+    store.hold_at(digest, size, placed + 1, at);
+    push(rows, new_row(placed + 1, deadline, digest, size, at));
 }
 
 /// Keeps the row at a place until then.

@@ -12,6 +12,7 @@ pub(crate) fn take_front(sizes: &mut HoleSizes, at: u32, units: u32)
     requires some { 1 ≤ units }
     requires room { units ≤ size_at sizes.old at }
     requires few { length sizes.old < 2 ^ 32 }
+    ensures holes { AreHoles sizes.new }
     ensures taken { IsTaken sizes.old sizes.new at units }
     ensures count { length sizes.new ≡ length sizes.old }
 {
@@ -59,4 +60,29 @@ pub(crate) fn give_back(sizes: &mut HoleSizes, extent: Extent)
         sizes.set(behind, 0);
     }
     sizes.set(start, behind + size_behind - start);
+}
+
+/// Takes the units of an extent into use, which lie in one hole: first all units of the hole up to the
+/// end of the extent, of which those before the extent then become free again.
+pub(crate) fn take_inside(sizes: &mut HoleSizes, start: u32, extent: Extent)
+    requires holes { AreHoles sizes.old }
+    requires some { 1 ≤ extent.units }
+    requires behind { start ≤ extent.at }
+    requires room { extent.at + extent.units ≤ start + size_at sizes.old start }
+    requires few { length sizes.old < 2 ^ 32 }
+    ensures holes { AreHoles sizes.new }
+    ensures taken { (unit : ℕ) → is_in_hole sizes.new unit ≡ (is_in_hole sizes.old unit && not (overlaps unit 1 extent)) }
+    ensures count { length sizes.new ≡ length sizes.old }
+{
+    let before = extent.at - start;
+    take_front(sizes, start, before + extent.units);
+    if before > 0 {
+        give_back(
+            sizes,
+            Extent {
+                at: start,
+                units: before,
+            },
+        );
+    }
 }

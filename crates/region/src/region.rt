@@ -1,7 +1,9 @@
-ghost use Rattle.std.specs.Prelude.{◌≡◌, ℕ, ◌≤◌, List, [], IfOk};
-ghost use Rattle.std.specs.List.{Contains};
+ghost use Rattle.std.specs.Prelude.{◌≡◌, ℕ, ◌+◌, ◌≤◌, true, List, [], IfOk};
+ghost use Rattle.std.specs.List.{insert, Contains};
 ghost use Rattle.blob_rows.specs.declared.extent.Extent.{Extent};
+ghost use Rattle.blob_rows.specs.Places.{overlaps};
 ghost use Rattle.blob_rows.specs.Extents.{without_extent};
+ghost use Rattle.region.specs.Plain.{is_free_unit};
 ghost use Rattle.region.specs.FreeUnits.{IsFreeBeside, AreInUse, least_extent, with_placed};
 
 use crate::hole_sizes::HoleSizes;
@@ -74,6 +76,23 @@ impl Region {
                 holes::take_front(&mut self.sizes, at, units);
                 Some(Extent { at, units })
             }
+        }
+    }
+
+    /// Takes the units of an extent into use, each of which is free. The hole in which they lie is
+    /// looked for from the first of them downwards, by one number for each band without one; then it
+    /// looks at the units of a few bands.
+    pub fn place_at(&mut self, extent: Extent)
+        requires some { 1 ≤ extent.units }
+        requires inside { extent.at + extent.units ≤ self.old.units }
+        requires free { (unit : ℕ) → overlaps unit 1 extent ≡ true → is_free_unit self.old unit ≡ true }
+        ensures adds { (extents : List Extent) (index : ℕ) → IsFreeBeside self.old extents →
+            IsFreeBeside self.new (insert extents index extent) }
+        ensures units { self.new.units ≡ self.old.units }
+    {
+        match self.sizes.last_before(extent.at + 1) {
+            None => unreachable!(),
+            Some(start) => holes::take_inside(&mut self.sizes, start, extent),
         }
     }
 

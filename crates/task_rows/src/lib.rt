@@ -6,10 +6,11 @@
 //! it reads by `uncounted_row`, at none. An entry changes at most one row, by one of seven calls,
 //! each of which asks only what it needs of the entry and of that row (`specs/Acting.antt`), and
 //! ensures that the rows are those after the entry of every pool that had them before; where a run
-//! ends, of every such pool that retries as often. `reserve` is the only call that takes memory: the
-//! texts that it copied move into the rows, the chunks of a run grow in room that it made, and so is
-//! a run kept that is tried again. The crate stands on `row_changes`; `swarm_machine` keeps the
-//! tasks of a pool in one [`TaskRows`].
+//! ends, of every such pool that retries as often. Of what an entry needs only `reserve` takes
+//! memory: the texts that it copied move into the rows, the chunks of a run grow in room that it
+//! made, and so is a run kept that is tried again. Rows that were kept elsewhere come one after the
+//! other by `load`, in the order of their numbers. The crate stands on `row_changes`;
+//! `swarm_machine` keeps the tasks of a pool in one [`TaskRows`].
 #![tactic(auto)]
 
 mod in_place;

@@ -1,4 +1,4 @@
-ghost use Rattle.std.specs.Prelude.{◌≡◌, ◌+◌, [], length, Some, None, IfSome, OnOk, OnErr};
+ghost use Rattle.std.specs.Prelude.{◌≡◌, ◌+◌, [], ◌∷◌, ◌++◌, length, Some, None, IfSome, OnOk, OnErr};
 ghost use Rattle.std.specs.Option.{option_copied};
 ghost use Rattle.swarm_model.specs.Effects.{fresh_chunk};
 ghost use Rattle.row_changes.specs.Output.{run_of, StaysShort};
@@ -89,6 +89,22 @@ impl TaskRows {
         make_room(&mut self.rows, &mut self.spare, entry)?;
         let parts = TaskParts::copied(self.alloc, &entry.kind)?;
         drop(mem::replace(&mut self.ready, Some(parts)));
+        Ok(())
+    }
+
+    /// Adds the next row, as it was kept. What was made ready is dropped.
+    ///
+    /// # Errors
+    ///
+    /// Where memory is wanting, the rows are as they were.
+    pub fn load(&mut self, row: TaskRow) -> Result<(), AllocError>
+        requires next { row.no ≡ length self.old.rows + 1 }
+        ensures ok { OnOk result (self.new ≡ record self.old { rows = self.old.rows ++ row ∷ []; ready = None }) }
+        ensures err { OnErr result (self.new ≡ record self.old { ready = None }) }
+    {
+        drop(self.ready.take());
+        self.rows.reserve(1)?;
+        self.rows.push_reserved(row);
         Ok(())
     }
 
