@@ -11,7 +11,7 @@ use Rattle.swarm_model.specs.declared.reply.Part.{Part}
 use Rattle.swarm_model.specs.declared.reply.Reply.{Reply}
 use Rattle.swarm_model.specs.declared.reply.Reply.TheVariants as reply
 use Rattle.swarm_model.specs.declared.rule.Rule.{Rule}
-use Rattle.swarm_model.specs.Effects.{opening}
+use Rattle.swarm_model.specs.Bases.{Base, empty_base, front}
 use Rattle.swarm_model.specs.Finding.{blob_of}
 use Rattle.swarm_model.specs.History.{replay}
 use Rattle.swarm_model.specs.Points.{Call, Growth, IsPoint, IsStopped}
@@ -23,10 +23,12 @@ use Rattle.pool_doors.specs.declared.door.Answered.{Answered}
 abbrev pub Logs : Type 0
 Logs = ℕ → List Entry
 
--- How a door writes: the number that its entries bear at each place, and whether it writes to the logs alone. And of the log at each
--- place an identity, the numbers that were joined in the door's pass, and how many passes were made, where that pass has the number 0:
--- doors with one identity at a place write to one log. A door that writes alone tells none of that, [], [] and 0.
+-- How a door writes: where the log at each place begins, the number that its entries bear there, and whether it writes to the logs
+-- alone. And of the log at each place an identity, the numbers that were joined in the door's pass, and how many passes were made,
+-- where that pass has the number 0: doors with one identity at a place write to one log. A door that writes alone tells none of that,
+-- [], [] and 0.
 pub record Writer : Type 0 where
+  pub starts : ℕ → Base
   pub numbers : ℕ → ℕ
   pub alone : Bool
   pub logs : ℕ → List ℕ
@@ -49,17 +51,18 @@ abbrev pub Elsewhere : ℕ → Logs → Logs → Type 0
 Elsewhere place old new = (p : ℕ) → p ≢ place → new p ≡ old p
 
 -- where the records of a pool are told, each blob in them is one that the pool's log leaves
-abbrev pub HasNoOthers : PoolSettings → Option Tables → List Entry → Type 0
-HasNoOthers pool told log = IfSome told (λ t. All (λ blob. IsTrue (is_some (blob_of (replay (opening pool) log) blob.0))) t.blobs)
+abbrev pub HasNoOthers : Base → Option Tables → List Entry → Type 0
+HasNoOthers start told log = IfSome told (λ t. All (λ blob. IsTrue (is_some (blob_of (replay start.rows log) blob.0))) t.blobs)
 
 -- this holds of the pool at a place
-abbrev pub HasNoOthersAt : List PoolSettings → List (Option Tables) → Logs → ℕ → Type 0
-HasNoOthersAt pools records logs place =
-    IfSome (slice_get pools place) (λ pool. IfSome (slice_get records place) (λ told. HasNoOthers pool told (logs place)))
+abbrev pub HasNoOthersAt : List PoolSettings → (ℕ → Base) → List (Option Tables) → Logs → ℕ → Type 0
+HasNoOthersAt pools starts records logs place =
+    IfSome (slice_get pools place) (λ pool. IfSome (slice_get records place) (λ told. HasNoOthers (starts place) told (logs place)))
 
 -- wherever the records had no other blobs, they have none still
 abbrev pub AddsNoOthers : DoorState → DoorState → Type 0
-AddsNoOthers old new = (p : ℕ) → HasNoOthersAt old.settings.pools old.records old.seen p → HasNoOthersAt new.settings.pools new.records new.seen p
+AddsNoOthers old new =
+    (p : ℕ) → HasNoOthersAt old.settings.pools old.writer.starts old.records old.seen p → HasNoOthersAt new.settings.pools new.writer.starts new.records new.seen p
 
 -- bytes of the part's digest, as many as the part needs
 abbrev pub IsPieceOf : Part → List ℕ → Type 0
@@ -86,26 +89,26 @@ abbrev pub IsRefusal : Reply → Type 0
 IsRefusal answered = (why : Rule) × (answered ≡ reply.No why)
 
 -- a request was answered at its point of the log; a refusal adds no entry of its own
-pub record IsAnsweredCall (pool : PoolSettings) (call : Call) (old new : List Entry) (growth : Growth) (answered : Answered) : Type 0 where
-  pub point : IsPoint (opening pool) call old new growth answered.reply
+pub record IsAnsweredCall (start : Base) (call : Call) (old new : List Entry) (growth : Growth) (answered : Answered) : Type 0 where
+  pub point : IsPoint start call old new growth answered.reply
   pub refused : IsRefusal answered.reply → growth.own ≡ None
-  pub front : answered.front ≡ length new
+  pub front : answered.front ≡ front start new
   pub pieces : ArePieces answered.reply answered.pieces
 
 -- a request was answered, or its call stopped
-abbrev pub EndsAs : PoolSettings → Call → List Entry → List Entry → Growth → Result Answered CallFault → Type 0
-EndsAs pool call old new growth (Ok answered) = IsAnsweredCall pool call old new growth answered
-EndsAs pool call old new growth (Err fault) = IsStopped (opening pool) call old new growth (is_log_full fault)
+abbrev pub EndsAs : Base → Call → List Entry → List Entry → Growth → Result Answered CallFault → Type 0
+EndsAs start call old new growth (Ok answered) = IsAnsweredCall start call old new growth answered
+EndsAs start call old new growth (Err fault) = IsStopped start call old new growth (is_log_full fault)
 
 -- one call of a pool, before which a door that writes alone adds nothing
-pub record IsPoolCall (pool : PoolSettings) (alone : Bool) (call : Call) (old new : List Entry) (growth : Growth) (result : Result Answered CallFault) : Type 0 where
-  pub ends : EndsAs pool call old new growth result
+pub record IsPoolCall (start : Base) (alone : Bool) (call : Call) (old new : List Entry) (growth : Growth) (result : Result Answered CallFault) : Type 0 where
+  pub ends : EndsAs start call old new growth result
   pub no_others : IsTrue alone → growth.others ≡ []
 
 -- one call, of the pool at a place
 pub record IsCall (old new : DoorState) (place : ℕ) (call : Call) (result : Result Answered CallFault) : Type 0 where
   pub growth : Growth
-  pub done : IsSomeAnd (slice_get old.settings.pools place) (λ pool. IsPoolCall pool old.writer.alone call (old.seen place) (new.seen place) growth result)
+  pub done : IsSomeAnd (slice_get old.settings.pools place) (λ pool. IsPoolCall (old.writer.starts place) old.writer.alone call (old.seen place) (new.seen place) growth result)
   pub elsewhere : Elsewhere place old.seen new.seen
   pub no_other_blobs : AddsNoOthers old new
   pub settings : new.settings ≡ old.settings
@@ -114,10 +117,11 @@ pub record IsCall (old new : DoorState) (place : ℕ) (call : Call) (result : Re
   pub keeper : CountsKeeper result old.faults new.faults
   pub calls : new.calls ≤ old.calls + 1
 
--- a door of these settings that has seen these logs, writes alone, and was not called
+-- a door of these settings that has seen these logs, to which nothing led, writes alone, and was not called
 pub record IsFreshDoor (settings : Settings) (logs : Logs) (door : DoorState) : Type 0 where
   pub settings_are : door.settings ≡ settings
   pub seen : (p : ℕ) → door.seen p ≡ logs p
+  pub starts : (p : ℕ) → IfSome (slice_get settings.pools p) (λ pool. door.writer.starts p ≡ empty_base pool)
   pub numbers : (p : ℕ) → door.writer.numbers p ≡ 0
   pub alone : IsTrue door.writer.alone
   pub calls : door.calls ≡ 0

@@ -19,7 +19,7 @@ pub enum CallFault {
 /// A reply at its point of the log.
 #[derive(Drop)]
 pub struct Answered {
-    /// The length of the log as the call ends.
+    /// The length of the log as the call ends, with the entries that led to its base.
     pub front: u64,
     pub reply: Reply,
     /// The bytes of the blobs that the reply names, in their order.

@@ -9,6 +9,7 @@ use Rattle.swarm_model.specs.Effects.{opening}
 use Rattle.swarm_model.specs.History.{replay, IsLegal}
 use Rattle.swarm_model.specs.MachineState.{MachineState, IsHistory}
 use Rattle.swarm_model.specs.Soundness.{IsSound}
+use Rattle.swarm_model.proofs.Histories.{replayed_from_opening, legal_from_opening}
 use Rattle.pool_laws.proofs.Sound.{sound_always}
 use Rattle.entry_lines.specs.Lines.{entry_of_line}
 use Rattle.pool_loading.specs.declared.loading.LoadStop.{LoadStop}
@@ -24,7 +25,7 @@ stop_is (Err e) stop other passed is = let same : e ≡ other = cc in sym passed
 -- a pool of a log has few blobs
 pub few_blobs : (kept : MachineState) → IsHistory kept → length kept.pool.blobs ≤ 262144
 few_blobs kept h =
-    let sound : IsSound kept.pool = subst IsSound (sym h.replayed) (sound_always kept.pool.settings kept.log h.legal.caused) in
+    let sound : IsSound kept.pool = subst IsSound (sym (replayed_from_opening kept h)) (sound_always kept.pool.settings kept.log (legal_from_opening kept h).caused) in
     sound.few_blobs
 
 -- the log is as long as its lines
@@ -39,12 +40,12 @@ refused_line settings (Some t) at h = inl h
 module _ (settings : PoolSettings) (tables : Option Tables) (kept : MachineState) (r : IsReplay settings tables kept) (all : AreAll tables kept.log) where
   lacks_bytes : (t : Tables) → AreLinesOf t.lines kept.log → LacksBlob t kept.pool → LacksBytes settings t
   lacks_bytes t read lacks =
-      let pool : kept.pool ≡ replay (opening settings) kept.log = subst (λ (x : PoolSettings). kept.pool ≡ replay (opening x) kept.log) r.settings_are r.history.replayed in
+      let pool : kept.pool ≡ replay (opening settings) kept.log = subst (λ (x : PoolSettings). kept.pool ≡ replay (opening x) kept.log) r.settings_are (replayed_from_opening kept r.history) in
       let of_log : LacksBlob t (replay (opening settings) kept.log) = subst (LacksBlob t) pool lacks in
       record {
         log = kept.log;
         read = read;
-        legal = subst (λ (x : PoolSettings). IsLegal (opening x) kept.log) r.settings_are r.history.legal;
+        legal = subst (λ (x : PoolSettings). IsLegal (opening x) kept.log) r.settings_are (legal_from_opening kept r.history);
         place = of_log.place;
         row = of_log.row;
         there = of_log.there;

@@ -6,6 +6,7 @@ use Rattle.swarm_model.specs.declared.pool_state.PoolState.{PoolState}
 use Rattle.swarm_model.specs.Effects.{opening, after}
 use Rattle.swarm_model.specs.History.{replay, IsCaused, MayFollow}
 use Rattle.swarm_model.specs.MachineState.{MachineState, IsHistory}
+use Rattle.swarm_model.proofs.Histories.{replayed_from_opening}
 use Rattle.entry_lines.specs.Lines.{entry_of_line}
 use Rattle.pool_loading.specs.Lines.{Refuses}
 
@@ -19,5 +20,5 @@ module _ (line : List ℕ) (kept : MachineState) (history : IsHistory kept) (ent
   pub refuses_entry : (b : Bool) → b ≡ false → (MayFollow kept.pool entry → b ≡ true) → Refuses line kept
   refuses_entry b refused tells e reads legal =
       let same : entry ≡ e = same_Some entry e (sym is ∙ reads) in
-      let follows : MayFollow kept.pool e = subst (λ (s : PoolState). MayFollow s e) (sym history.replayed) (caused_last (opening kept.pool.settings) kept.log e legal.caused) in
+      let follows : MayFollow kept.pool e = subst (λ (s : PoolState). MayFollow s e) (sym (replayed_from_opening kept history)) (caused_last (opening kept.pool.settings) kept.log e legal.caused) in
       absurd (true≢false (sym (tells (subst (MayFollow kept.pool) (sym same) follows)) ∙ refused))

@@ -8,6 +8,7 @@ use Rattle.swarm_model.specs.declared.pool_settings.PoolSettings.{PoolSettings}
 use Rattle.swarm_model.specs.Effects.{opening}
 use Rattle.swarm_model.specs.History.{IsLegal}
 use Rattle.swarm_model.specs.MachineState.{MachineState, IsHistory}
+use Rattle.swarm_model.proofs.Histories.{legal_from_opening}
 use Rattle.entry_lines.specs.Lines.{entry_of_line}
 use Rattle.pool_loading.specs.Records.{AreLinesOf, IsFirstRefused, IsRefused}
 use Rattle.pool_loading.specs.Lines.{AddsLine, AreAll, AreFirst, HoldsNothing, IsReplay, Refuses}
@@ -75,7 +76,7 @@ replay_refused settings None kept line at r is there refuses = tt
 replay_refused settings (Some t) kept line at r is there refuses = record {
   log = kept.log;
   read = rw is r.lines;
-  legal = subst (λ (x : PoolSettings). IsLegal (opening x) kept.log) r.settings_are r.history.legal;
+  legal = subst (λ (x : PoolSettings). IsLegal (opening x) kept.log) r.settings_are (legal_from_opening kept r.history);
   line = line;
   there = sym there;
   refused = subst (λ (x : PoolSettings). IsRefused x kept.log line) r.settings_are refuses;

@@ -7,8 +7,9 @@ use Rattle.swarm_model.specs.Bytes.{HeldBytes, with_bytes}
 use Rattle.swarm_model.specs.MachineState.{MachineState}
 use Rattle.pool_loading.specs.Records.{HasBytes}
 
--- rows and log stay
+-- rows and log stay, and where the log begins
 pub record KeepsLog (old new : MachineState) : Type 0 where
+  pub start : new.start ≡ old.start
   pub pool : new.pool ≡ old.pool
   pub log : new.log ≡ old.log
 

@@ -9,6 +9,7 @@ ghost use Rattle.pool_loading.specs.Records.{HasBytes};
 ghost use Rattle.pool_loading.specs.Filling.{KeepsLog, HoldsKept, HoldsMore, IsFilledTo, LacksBlob};
 
 use crate::loading::LoadStop;
+use crate::replaying::line_count;
 use blob_rows::Filled;
 use dimensions::Seq;
 use swarm_keeper::{Keeper, KeeperFault};
@@ -94,7 +95,7 @@ fn fill_next<M: Machine, K: Keeper>(
     };
     if !fill_one(machine, keeper, &digest)? {
         return Err(LoadStop::Refused {
-            at: machine.length(),
+            at: line_count(machine),
         });
     }
     Ok(true)

@@ -27,6 +27,14 @@ fn line_at<K: Keeper>(keeper: &mut K, at: u64) -> Result<Option<Text>, LoadStop>
     }
 }
 
+/// How many lines a machine has taken up: nothing led to its log, whose length is their number.
+#[tactic(auto, using(swarm_model::proofs::Histories::front_is_length))]
+pub(crate) fn line_count<M: Machine>(machine: &M) -> u64
+    ensures { result ≡ length (M.kept machine.now).log }
+{
+    machine.length()
+}
+
 fn add_at<M: Machine>(
     alloc: Global,
     machine: &mut M,
@@ -68,7 +76,7 @@ fn load_next<M: Machine, K: Keeper>(
     ensures stays { K.tables keeper.new ≡ K.tables keeper.old }
     ensures grows { K.faults keeper.old ≤ K.faults keeper.new }
 {
-    let at = machine.length();
+    let at = line_count(machine);
     match line_at(keeper, at)? {
         None => Ok(false),
         Some(line) => {

@@ -4,7 +4,7 @@ ghost use Rattle.std.specs.List.{list_any};
 ghost use Rattle.std.specs.Option.{option_copied, option_map_or};
 ghost use Rattle.swarm_model.specs.Effects.{is_idempotent, is_first_run, is_tried_again};
 ghost use Rattle.swarm_model.specs.Slices.{could_run, takes_slice, waits_for};
-ghost use Rattle.swarm_model.specs.Answers.{is_claim, is_claimed, was_claimed, has_claim};
+ghost use Rattle.swarm_model.specs.Answers.{was_claimed, has_claim};
 ghost use Rattle.swarm_model.specs.Reuse.{is_sent};
 ghost use Rattle.swarm_model.specs.Uses.{is_file_of, has_input, is_chunk_of, has_chunk, needs};
 
@@ -19,28 +19,12 @@ pub fn is_capable(bots: &[BotRow], dims: &DimSet) -> bool
     bots.iter().any(|bot| bot.could_run(dims))
 }
 
-fn is_claim(bot: u32, claim: &Text, attempt: &Attempt) -> bool
-    ensures { result ≡ is_claim bot claim.now attempt.now }
-{
-    attempt.bot == bot && attempt.claim == *claim
-}
-
-/// Whether the bot claimed the run of the task under this id.
-fn is_claimed(bot: u32, claim: &Text, task: &TaskRow) -> bool
-    ensures { result ≡ is_claimed bot claim.now task.now }
-{
-    match &task.attempt {
-        Some(attempt) => is_claim(bot, claim, attempt),
-        None => false,
-    }
-}
-
-/// Whether it claimed the run that was lost before.
+/// Whether the bot claimed the run that was lost before.
 fn was_claimed(bot: u32, claim: &Text, task: &TaskRow) -> bool
     ensures { result ≡ was_claimed bot claim.now task.now }
 {
     match task.retried.as_ref() {
-        Some(lost) => is_claim(bot, claim, &lost.attempt),
+        Some(lost) => lost.attempt.is_claim(bot, claim),
         None => false,
     }
 }
@@ -49,7 +33,7 @@ fn was_claimed(bot: u32, claim: &Text, task: &TaskRow) -> bool
 pub fn has_claim(bot: u32, claim: &Text, task: &TaskRow) -> bool
     ensures { result ≡ has_claim bot claim.now task.now }
 {
-    is_claimed(bot, claim, task) || was_claimed(bot, claim, task)
+    task.is_claimed(bot, claim) || was_claimed(bot, claim, task)
 }
 
 /// Whether the caller sent the task under this uuid.

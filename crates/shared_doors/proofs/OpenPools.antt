@@ -10,6 +10,7 @@ use native.Mathlib.Decide.{ℕ_discrete}
 use Rattle.swarm_model.specs.declared.entry.Entry.{Entry}
 use Rattle.swarm_model.specs.declared.pool_settings.PoolSettings.{PoolSettings}
 use Rattle.swarm_model.specs.declared.pool_settings.Settings.{Settings}
+use Rattle.swarm_model.specs.Bases.{empty_base}
 use Rattle.swarm_model.specs.Bytes.{nothing_held}
 use Rattle.swarm_model.specs.Effects.{opening as new_pool}
 use Rattle.swarm_model.specs.MachineState.{MachineState}
@@ -29,7 +30,7 @@ use Rattle.shared_doors.proofs.Joining.{known_same}
 
 -- what a new machine keeps
 abbrev pub new_state : PoolSettings → MachineState
-new_state pool = record { pool = new_pool pool; log = []; ready = None; held = nothing_held }
+new_state pool = record { start = empty_base pool; pool = new_pool pool; log = []; ready = None; held = nothing_held }
 
 abbrev pub whole : PoolSettings → Lasting
 whole pool = record { settings = pool; is_whole = true }

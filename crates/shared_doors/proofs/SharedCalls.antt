@@ -2,25 +2,27 @@
 use Rattle.std.proofs.Common.{◌≡◌, ℕ, zero, suc, ◌+◌, ◌<◌, ◌≤◌, false, List, [], ◌∷◌, map, length, get_or, set, refl, arith, ap, sym, subst, ◌∙◌, Option, Some, None, Result, Ok, Err, IsTrue}
 use Rattle.std.specs.Prelude.{IfSome, IsSomeAnd, IsErrOf, slice_get}
 use Rattle.std.specs.List.{All}
-use Rattle.std.proofs.lemmas.List.{get_or-map, length-map}
+use Rattle.std.proofs.lemmas.List.{get_or-map, get_or_default, length-map}
 use Rattle.std.proofs.Math.Seq.{map-set_same}
 use Rattle.swarm_keeper.specs.Tables.{Tables}
 use Rattle.swarm_model.specs.declared.entry.Entry.{Entry}
 use Rattle.swarm_model.specs.declared.pool_settings.PoolSettings.{PoolSettings}
 use Rattle.swarm_model.specs.declared.request.Request.{Request}
+use Rattle.swarm_model.specs.Bases.{Base, empty_base}
 use Rattle.swarm_model.specs.Fits.{fits}
 use Rattle.swarm_model.specs.Points.{Call, Growth}
 use Rattle.pool_doors.specs.declared.door.Answered.{Answered}
 use Rattle.pool_doors.specs.declared.door.CallFault.{CallFault}
 use Rattle.pool_doors.specs.declared.door.CallFault.TheVariants as fault
 use Rattle.pool_doors.specs.Doors.{CountsKeeper, HasNoOthers, HasNoOthersAt, IsPoolCall, IsCall, Logs, Writer}
+use Rattle.swarm_history.specs.Machines.{no_pool}
 use Rattle.turnstile.specs.declared.pass.Pass.{Pass}
 use Rattle.turnstile.specs.declared.turnstile.Turnstile.{Turnstile}
 use Rattle.turnstile.specs.Passes.{fixed_of, number, seen, told, turns}
 use Rattle.shared_doors.specs.declared.view.Lasting.{Lasting}
 use Rattle.shared_doors.specs.declared.view.PoolView.{PoolView}
 use Rattle.shared_doors.specs.Lasting.{IsStanding}
-use Rattle.shared_doors.specs.SharedDoors.{IsTurnCall, identities_of, most_of, pools_of, shared_door}
+use Rattle.shared_doors.specs.SharedDoors.{IsTurnCall, identities_of, most_of, pools_of, shared_door, start_of}
 use Rattle.shared_doors.specs.Views.{AreOf, look, nothing, view_at, view_or, views}
 use Rattle.shared_doors.proofs.ByPlace.{changed_at, seen_at, stays_at, views_back}
 
@@ -56,13 +58,14 @@ none_at P [] p holds = tt
 none_at P (pool ∷ all) zero holds = holds
 none_at P (pool ∷ all) (suc p) holds = none_at P all p holds
 
-none_of : (o : Option PoolSettings) (all : List PoolSettings) (logs : Logs) (p : ℕ) → IfSome o (λ pool. IfSome (slice_get (map untold all) p) (λ told. HasNoOthers pool told (logs p)))
-none_of None all logs p = tt
-none_of (Some pool) all logs p = none_at (λ told. HasNoOthers pool told (logs p)) all p tt
+none_of : (o : Option PoolSettings) (all : List PoolSettings) (starts : ℕ → Base) (logs : Logs) (p : ℕ)
+    → IfSome o (λ pool. IfSome (slice_get (map untold all) p) (λ told. HasNoOthers (starts p) told (logs p)))
+none_of None all starts logs p = tt
+none_of (Some pool) all starts logs p = none_at (λ told. HasNoOthers (starts p) told (logs p)) all p tt
 
 -- keepers that tell nothing have no other blobs
-none_told : (pools : List PoolSettings) (logs : Logs) (p : ℕ) → HasNoOthersAt pools (map untold pools) logs p
-none_told pools logs p = none_of (slice_get pools p) pools logs p
+none_told : (pools : List PoolSettings) (starts : ℕ → Base) (logs : Logs) (p : ℕ) → HasNoOthersAt pools starts (map untold pools) logs p
+none_told pools starts logs p = none_of (slice_get pools p) pools starts logs p
 
 never_keeper : (result : Result Answered CallFault) (before now : ℕ) → ¬ IsErrOf result fault.Keeper → CountsKeeper result before now
 never_keeper (Ok answered) before now never = tt
@@ -70,8 +73,8 @@ never_keeper (Err fault.Memory) before now never = tt
 never_keeper (Err fault.LogFull) before now never = tt
 never_keeper (Err fault.Keeper) before now never = absurd (never refl)
 
-abbrev numbered : (ℕ → List ℕ) → List ℕ → (ℕ → List ℕ) → (ℕ → ℕ) → Writer
-numbered logs ns joined made = record { numbers = λ p. get_or ns p 0; alone = false; logs = logs; joined = joined; made = made }
+abbrev numbered : List PoolSettings → (ℕ → List ℕ) → List ℕ → (ℕ → List ℕ) → (ℕ → ℕ) → Writer
+numbered pools logs ns joined made = record { starts = start_of pools; numbers = λ p. get_or ns p 0; alone = false; logs = logs; joined = joined; made = made }
 
 -- what a pass keeps is kept at each place
 kept_at : {A : Type 0} (f : PoolView → A) (vs : List PoolView) (place : ℕ) (w : PoolView) → f w ≡ f (view_at vs place)
@@ -91,21 +94,29 @@ same_writer store pools logs vs place w number numbers made =
     let joined_same : joined_now ≡ (λ p. (view_at vs p).numbers) = λ i p. kept_at (λ (v : PoolView). v.numbers) vs place w numbers p i in
     let made_now : ℕ → ℕ = λ p. (view_at (set vs place w) p).made in
     let made_same : made_now ≡ (λ p. (view_at vs p).made) = λ i p. kept_at (λ (v : PoolView). v.made) vs place w made p i in
-    ap (λ (l : List ℕ). numbered logs l joined_now made_now) (map-set_same (λ (v : PoolView). v.number) vs place w nothing number)
-    ∙ ap (λ (f : ℕ → List ℕ). numbered logs (map (λ (v : PoolView). v.number) vs) f made_now) joined_same
-    ∙ ap (λ (f : ℕ → ℕ). numbered logs (map (λ (v : PoolView). v.number) vs) (λ p. (view_at vs p).numbers) f) made_same
+    ap (λ (l : List ℕ). numbered pools logs l joined_now made_now) (map-set_same (λ (v : PoolView). v.number) vs place w nothing number)
+    ∙ ap (λ (f : ℕ → List ℕ). numbered pools logs (map (λ (v : PoolView). v.number) vs) f made_now) joined_same
+    ∙ ap (λ (f : ℕ → ℕ). numbered pools logs (map (λ (v : PoolView). v.number) vs) (λ p. (view_at vs p).numbers) f) made_same
+
+-- a call of the pool at a place is one of a log that begins where nothing led to
+call_at : (pools : List PoolSettings) (place : ℕ) (pool : PoolSettings) (call : Call) (old new : List Entry) (growth : Growth) (result : Result Answered CallFault)
+    → place < length pools → get_or pools place pool ≡ pool → IsPoolCall (empty_base pool) false call old new growth result
+    → IsSomeAnd (slice_get pools place) (λ p. IsPoolCall (start_of pools place) false call old new growth result)
+call_at pools place pool call old new growth result low at did =
+    and_at (λ p. IsPoolCall (start_of pools place) false call old new growth result) pools place pool low at
+    (subst (λ (p : PoolSettings). IsPoolCall (empty_base p) false call old new growth result) (sym (get_or_default pools place no_pool pool low ∙ at)) did)
 
 called : (store : Option (List ℕ)) (pools : List PoolSettings) (logs : ℕ → List ℕ) (vs : List PoolView) (place : ℕ) (call : Call) (result : Result Answered CallFault) (pool : PoolSettings) (w : PoolView)
     → place < length pools → place < length vs → get_or pools place pool ≡ pool
     → w ≡ record (view_at vs place) { turns = (view_at vs place).turns + 1; seen = w.seen } → ¬ IsErrOf result fault.Keeper
-    → (growth : Growth) → IsPoolCall pool false call (view_at vs place).seen w.seen growth result
+    → (growth : Growth) → IsPoolCall (empty_base pool) false call (view_at vs place).seen w.seen growth result
     → IsCall (shared_door store pools logs vs) (shared_door store pools logs (set vs place w)) place call result
 called store pools logs vs place call result pool w low low_view at next never growth did = record {
   growth = growth;
-  done = and_at (λ (pool : PoolSettings). IsPoolCall pool false call (view_at vs place).seen (view_at (set vs place w) place).seen growth result) pools place pool low at
-      (subst (λ (v : PoolView). IsPoolCall pool false call (view_at vs place).seen v.seen growth result) (sym (changed_at vs (set vs place w) place w low_view refl)) did);
+  done = call_at pools place pool call (view_at vs place).seen (view_at (set vs place w) place).seen growth result low at
+      (subst (λ (v : PoolView). IsPoolCall (empty_base pool) false call (view_at vs place).seen v.seen growth result) (sym (changed_at vs (set vs place w) place w low_view refl)) did);
   elsewhere = λ p other. ap (λ (v : PoolView). v.seen) (stays_at vs (set vs place w) place w refl p other);
-  no_other_blobs = λ p has. none_told pools (λ q. (view_at (set vs place w) q).seen) p;
+  no_other_blobs = λ p has. none_told pools (start_of pools) (λ q. (view_at (set vs place w) q).seen) p;
   settings = refl;
   writer = same_writer store pools logs vs place w (ap (λ (v : PoolView). v.number) next) (ap (λ (v : PoolView). v.numbers) next) (ap (λ (v : PoolView). v.made) next);
   faults = omega arith;
@@ -152,7 +163,7 @@ module _ {V : Type 0} (fixed : V → Lasting) (ts : List (Turnstile V Entry Last
 
     pub door_call : (store : Option (List ℕ)) (who : List ℕ) (moment : ℕ) (front : Option ℕ) (request : Request) (result : Result Answered CallFault) (next : Pass V Entry Lasting)
         → look next ≡ record (look pass) { turns = turns pass + 1; seen = seen next } → ¬ IsErrOf result fault.Keeper
-        → IsTurnCall (fixed_of fixed t).settings (record { pass = number pass; caller = who; moment = moment; after = front; request = request }) (seen pass) (seen next) (told pass) result
+        → IsTurnCall (empty_base (fixed_of fixed t).settings) (record { pass = number pass; caller = who; moment = moment; after = front; request = request }) (seen pass) (seen next) (told pass) result
         → IsCall (shared_door store (pools_of fixed ts) (identities_of ts) (views items)) (shared_door store (pools_of fixed ts) (identities_of ts) (views (set (set items place None) place (Some next)))) place
         (record { pass = get_or (map (λ (v : PoolView). v.number) (views items)) place 0; caller = who; moment = moment; after = front; request = request }) result
     door_call store who moment front request result next rest never did =
@@ -163,4 +174,4 @@ module _ {V : Type 0} (fixed : V → Lasting) (ts : List (Turnstile V Entry Last
         (subst (λ vs. IsCall (shared_door store (pools_of fixed ts) (identities_of ts) old) (shared_door store (pools_of fixed ts) (identities_of ts) vs) place (the_call (number pass)) result) (sym (views_back fixed ts items place None next))
         (called store (pools_of fixed ts) (identities_of ts) old place (the_call (number pass)) result pool (look next) low_pools low_view pool_at
         (subst (λ (v : PoolView). look next ≡ record v { turns = v.turns + 1; seen = seen next }) (sym here) rest) never did.growth
-        (subst (λ (v : PoolView). IsPoolCall pool false (the_call (number pass)) v.seen (seen next) did.growth result) (sym here) did.done)))
+        (subst (λ (v : PoolView). IsPoolCall (empty_base pool) false (the_call (number pass)) v.seen (seen next) did.growth result) (sym here) did.done)))

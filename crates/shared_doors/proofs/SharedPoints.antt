@@ -7,10 +7,9 @@ use Rattle.std.proofs.lemmas.Bool.{false≢true}
 use Rattle.std.proofs.lemmas.List.{append_assoc}
 use Rattle.sw_base.specs.Faults.{Rose}
 use Rattle.swarm_model.specs.declared.entry.Entry.{Entry}
-use Rattle.swarm_model.specs.declared.pool_settings.PoolSettings.{PoolSettings}
 use Rattle.swarm_model.specs.declared.pool_state.PoolState.{PoolState}
 use Rattle.swarm_model.specs.declared.reply.Reply.{Reply}
-use Rattle.swarm_model.specs.Effects.{opening}
+use Rattle.swarm_model.specs.Bases.{Base, front}
 use Rattle.swarm_model.specs.History.{replay, moment_of}
 use Rattle.swarm_model.specs.MachineState.{MachineState}
 use Rattle.swarm_model.specs.Points.{Call, Growth, added, IsByOther, Grows, IsPoint, IsSettled, IsStopped, IsFrontAhead, IsServed, LacksRoom, is_ahead, next_entry, taken_by, Finds}
@@ -19,7 +18,7 @@ use Rattle.pool_doors.specs.declared.door.CallFault.{CallFault}
 use Rattle.pool_doors.specs.declared.door.CallFault.TheVariants as fault
 use Rattle.pool_doors.specs.Doors.{is_log_full, CountsKeeper, IsAnsweredCall, IsPoolCall}
 use Rattle.swarm_history.specs.Settling.{IsPointAlone, IsOwnStop, HasFrontAndPieces}
-use Rattle.swarm_history.proofs.OwnPoints.{answered_call}
+use Rattle.swarm_history.proofs.OwnPoints.{answered_call, told_front}
 use Rattle.turnstile.specs.Numbers.{Continues}
 use Rattle.shared_doors.specs.SharedDoors.{IsTurnCall}
 
@@ -27,7 +26,7 @@ use Rattle.shared_doors.specs.SharedDoors.{IsTurnCall}
 abbrev after : List Entry → Growth → Growth
 after others growth = record growth { others = others }
 
-module _ (start : PoolState) (call : Call) (seen others : List Entry) (by_others : AllByRecursion (IsByOther call.pass) others) where
+module _ (start : Base) (call : Call) (seen others : List Entry) (by_others : AllByRecursion (IsByOther call.pass) others) where
   grows : (new : List Entry) (g : Growth) → Grows start call.pass (seen ++ others) new g → g.others ≡ [] → Grows start call.pass seen new (after others g)
   grows new g h none = record {
     legal = h.legal;
@@ -46,63 +45,63 @@ module _ (start : PoolState) (call : Call) (seen others : List Entry) (by_others
   pub shared_point : (new : List Entry) (reply : Reply) → (p : IsPointAlone start call (seen ++ others) new reply) → IsPoint start call seen new (after others p.growth) reply
   shared_point new reply p = record {
     grows = grows new p.growth p.point.grows p.no_others;
-    finds = refound (length (seen ++ others)) (replay start (seen ++ others)) p.growth reply (is_ahead (length (seen ++ others)) call.after)
-        (subst (λ (log : List Entry). Finds log (replay start log) call p.growth reply) (found p.growth p.no_others) p.point.finds);
+    finds = refound (front start (seen ++ others)) (replay start.rows (seen ++ others)) p.growth reply (is_ahead (front start (seen ++ others)) call.after)
+        (subst (λ (log : List Entry). Finds (front start log) (replay start.rows log) call p.growth reply) (found p.growth p.no_others) p.point.finds);
   }
 
   pub shared_stop : (new : List Entry) (full : Bool) → (p : IsOwnStop start call (seen ++ others) new full) → IsStopped start call seen new (after others p.growth) full
   shared_stop new full p = record {
     grows = grows new p.growth p.stop.grows p.no_others;
     no_own = p.stop.no_own;
-    not_ahead = subst (λ (log : List Entry). is_ahead (length log) call.after ≡ false) (found p.growth p.no_others) p.stop.not_ahead;
-    due_first = subst (λ (log : List Entry). AllByRecursion (IsSettled call.pass (moment_of (replay start log) call.moment)) p.growth.settled) (found p.growth p.no_others) p.stop.due_first;
-    full = subst (λ (log : List Entry). OnTrue full (LacksRoom start new (next_entry (replay start new) (taken_by (replay start log) call)))) (found p.growth p.no_others) p.stop.full;
+    not_ahead = subst (λ (log : List Entry). is_ahead (front start log) call.after ≡ false) (found p.growth p.no_others) p.stop.not_ahead;
+    due_first = subst (λ (log : List Entry). AllByRecursion (IsSettled call.pass (moment_of (replay start.rows log) call.moment)) p.growth.settled) (found p.growth p.no_others) p.stop.due_first;
+    full = subst (λ (log : List Entry). OnTrue full (LacksRoom start.rows new (next_entry (replay start.rows new) (taken_by (replay start.rows log) call)))) (found p.growth p.no_others) p.stop.full;
   }
 
-module _ (pool : PoolSettings) (call : Call) (seen others : List Entry) (by_others : AllByRecursion (IsByOther call.pass) others) (told : ℕ) (fresh : told ≤ length (seen ++ others)) where
-  shared_call : (new : MachineState) (result : Result Answered CallFault)
-      → IfOk result (λ a. IsPointAlone (opening pool) call (seen ++ others) new.log a.reply) → IfOk result (HasFrontAndPieces new)
-      → IfErr result (λ f. IsOwnStop (opening pool) call (seen ++ others) new.log (is_log_full f))
-      → IsTurnCall pool call seen new.log told result
-  shared_call new (Ok a) point shows stop =
-      let one : IsPoolCall pool false call (seen ++ others) new.log point.growth (Ok a) = answered_call point shows.front shows.pieces in
-      let ends : IsAnsweredCall pool call (seen ++ others) new.log point.growth a = one.ends in
+module _ (start : Base) (call : Call) (seen others : List Entry) (by_others : AllByRecursion (IsByOther call.pass) others) (told : ℕ) (fresh : told ≤ length (seen ++ others)) where
+  shared_call : (new : MachineState) (result : Result Answered CallFault) → new.start ≡ start
+      → IfOk result (λ a. IsPointAlone start call (seen ++ others) new.log a.reply) → IfOk result (HasFrontAndPieces new)
+      → IfErr result (λ f. IsOwnStop start call (seen ++ others) new.log (is_log_full f))
+      → IsTurnCall start call seen new.log told result
+  shared_call new (Ok a) same point shows stop =
+      let one : IsPoolCall start false call (seen ++ others) new.log point.growth (Ok a) = answered_call point (told_front new a same shows) shows.pieces in
+      let ends : IsAnsweredCall start call (seen ++ others) new.log point.growth a = one.ends in
       record {
         growth = after others point.growth;
         done = record {
           ends = record {
-            point = shared_point (opening pool) call seen others by_others new.log a.reply point;
+            point = shared_point start call seen others by_others new.log a.reply point;
             refused = ends.refused;
-            front = shows.front;
+            front = ends.front;
             pieces = shows.pieces;
           };
           no_others = λ alone. absurd (false≢true alone);
         };
         fresh = fresh;
       }
-  shared_call new (Err f) point shows stop = record {
+  shared_call new (Err f) same point shows stop = record {
     growth = after others stop.growth;
     done = record {
-      ends = shared_stop (opening pool) call seen others by_others new.log (is_log_full f) stop;
+      ends = shared_stop start call seen others by_others new.log (is_log_full f) stop;
       no_others = λ alone. absurd (false≢true alone);
     };
     fresh = fresh;
   }
 
 -- the same of a call that a turn found
-pub turn_call : (pool pool_there : PoolSettings) (call call_there : Call) (seen found log new : List Entry) (there : MachineState) (told : ℕ) (result : Result Answered CallFault)
-    → Continues (λ e. e.pass) call.pass seen found → told ≤ length found → pool_there ≡ pool → call_there ≡ call → log ≡ found → there.log ≡ new
-    → IfOk result (λ a. IsPointAlone (opening pool_there) call_there log there.log a.reply) → IfOk result (HasFrontAndPieces there)
-    → IfErr result (λ f. IsOwnStop (opening pool_there) call_there log there.log (is_log_full f))
-    → IsTurnCall pool call seen new told result
-turn_call pool pool_there call call_there seen found log new there told result c fresh pool_is call_is log_is new_is point shows stop =
-    let P : PoolSettings → Call → List Entry → Type 0 = λ p k l. IfOk result (λ a. IsPointAlone (opening p) k l there.log a.reply) in
-    let S : PoolSettings → Call → List Entry → Type 0 = λ p k l. IfErr result (λ f. IsOwnStop (opening p) k l there.log (is_log_full f)) in
-    subst (λ l. IsTurnCall pool call seen l told result) new_is
-    (shared_call pool call seen c.others c.by_others told (subst (λ (l : List Entry). told ≤ length l) c.parts fresh) there result
-    (subst (λ l. P pool call l) (log_is ∙ c.parts) (subst (λ k. P pool k log) call_is (subst (λ p. P p call_there log) pool_is point)))
+pub turn_call : (start start_there : Base) (call call_there : Call) (seen found log new : List Entry) (there : MachineState) (told : ℕ) (result : Result Answered CallFault)
+    → Continues (λ e. e.pass) call.pass seen found → told ≤ length found → start_there ≡ start → there.start ≡ start_there → call_there ≡ call → log ≡ found → there.log ≡ new
+    → IfOk result (λ a. IsPointAlone start_there call_there log there.log a.reply) → IfOk result (HasFrontAndPieces there)
+    → IfErr result (λ f. IsOwnStop start_there call_there log there.log (is_log_full f))
+    → IsTurnCall start call seen new told result
+turn_call start start_there call call_there seen found log new there told result c fresh start_is same call_is log_is new_is point shows stop =
+    let P : Base → Call → List Entry → Type 0 = λ b k l. IfOk result (λ a. IsPointAlone b k l there.log a.reply) in
+    let S : Base → Call → List Entry → Type 0 = λ b k l. IfErr result (λ f. IsOwnStop b k l there.log (is_log_full f)) in
+    subst (λ l. IsTurnCall start call seen l told result) new_is
+    (shared_call start call seen c.others c.by_others told (subst (λ (l : List Entry). told ≤ length l) c.parts fresh) there result (same ∙ start_is)
+    (subst (λ l. P start call l) (log_is ∙ c.parts) (subst (λ k. P start k log) call_is (subst (λ b. P b call_there log) start_is point)))
     shows
-    (subst (λ l. S pool call l) (log_is ∙ c.parts) (subst (λ k. S pool k log) call_is (subst (λ p. S p call_there log) pool_is stop))))
+    (subst (λ l. S start call l) (log_is ∙ c.parts) (subst (λ k. S start k log) call_is (subst (λ b. S b call_there log) start_is stop))))
 
 -- a desk whose keeper never fails stops by none
 pub never_fails : (result : Result Answered CallFault) → CountsKeeper result 0 0 → ¬ IsErrOf result fault.Keeper

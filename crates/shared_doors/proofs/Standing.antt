@@ -15,6 +15,7 @@ use Rattle.swarm_model.specs.Settings.{is_grant, is_pool_name, keeps_rules}
 use Rattle.swarm_model.specs.Words.{is_between}
 use Rattle.swarm_history.specs.Records.{AreMachineRecords}
 use Rattle.swarm_history.specs.Settling.{Adds, IsUnchanged}
+use Rattle.swarm_history.proofs.OwnPoints.{few_history}
 use Rattle.shared_doors.specs.declared.view.Lasting.{Lasting}
 use Rattle.shared_doors.specs.Lasting.{are_held, lasting_of}
 
@@ -49,7 +50,7 @@ few_entries p rules =
 -- a log to which an entry was added was short
 pub short_log : (old new : MachineState) (entry : Entry) → IsTrue (keeps_rules old.pool.settings) → Adds old new entry → length old.log < 2 ^ 32
 short_log old new entry rules added =
-    let few : length new.log ≤ new.pool.settings.most_entries = added.history.legal.few in
+    let few : length new.log ≤ new.pool.settings.most_entries = few_history new added.history in
     let most = few_entries old.pool.settings rules in
     let grown = ap length added.log ∙ length_push old.log entry in
     let same = ap (λ (p : PoolSettings). p.most_entries) added.settings in

@@ -1,9 +1,11 @@
 -- A turn at the machine of a pool.
 use Rattle.std.specs.Prelude.{Bool, [], None, IsTrue}
 use Rattle.swarm_model.specs.declared.entry.Entry.{Entry}
+use Rattle.swarm_model.specs.Bases.{empty_base}
 use Rattle.swarm_model.specs.Bytes.{nothing_held}
 use Rattle.swarm_model.specs.Effects.{opening}
 use Rattle.swarm_model.specs.MachineState.{MachineState}
+use Rattle.swarm_history.specs.Machines.{no_pool}
 use Rattle.turnstile.specs.declared.turn.Turn.{Turn}
 use Rattle.turnstile.specs.Passes.{IsTurn, IsRaised, fixed_of, lock_of}
 use Rattle.shared_doors.specs.declared.view.Lasting.{Lasting}
@@ -11,25 +13,7 @@ use Rattle.shared_doors.specs.Lasting.{lasting_of, IsStanding}
 
 -- what is kept where there is no machine
 abbrev pub no_state : MachineState
-no_state = record {
-  pool = opening (record {
-    place = 0;
-    name = [];
-    reuse_age_secs = 0;
-    death_timeout_secs = 0;
-    blob_life_secs = 0;
-    store_units = 0;
-    most_tasks = 0;
-    most_bots = 0;
-    most_entries = 0;
-    most_weight = 0;
-    retries = 0;
-    grants = [];
-  });
-  log = [];
-  ready = None;
-  held = nothing_held;
-}
+no_state = record { start = empty_base no_pool; pool = opening no_pool; log = []; ready = None; held = nothing_held }
 
 module _ {V : Type 0} where
   -- A turn at a machine whose keeper never fails. Its settings keep their rules, each blob has its bytes, and nothing of its log

@@ -2,10 +2,12 @@
 use Rattle.std.specs.Prelude.{◌≤◌, ℕ, false, List, [], ◌∷◌, ◌++◌, length, map, max, slice_index_or, Option, None, Result}
 use Rattle.swarm_model.specs.declared.entry.Entry.{Entry}
 use Rattle.swarm_model.specs.declared.pool_settings.PoolSettings.{PoolSettings}
+use Rattle.swarm_model.specs.Bases.{Base, empty_base}
 use Rattle.swarm_model.specs.Points.{Call, Growth}
 use Rattle.pool_doors.specs.declared.door.Answered.{Answered}
 use Rattle.pool_doors.specs.declared.door.CallFault.{CallFault}
 use Rattle.pool_doors.specs.Doors.{DoorState, IsPoolCall}
+use Rattle.swarm_history.specs.Machines.{no_pool}
 use Rattle.turnstile.specs.declared.turnstile.Turnstile.{Turnstile}
 use Rattle.turnstile.specs.Passes.{fixed_of, identity_of}
 use Rattle.shared_doors.specs.declared.view.Lasting.{Lasting}
@@ -20,6 +22,10 @@ pools_of {V = V} fixed turnstiles = map (λ (t : Turnstile V Entry Lasting). (fi
 abbrev pub identities_of : {V : Type 0} → List (Turnstile V Entry Lasting) → ℕ → List ℕ
 identities_of {V = V} turnstiles place = slice_index_or (map (λ (t : Turnstile V Entry Lasting). identity_of t) turnstiles) place []
 
+-- where the log of the pool at each place begins: nothing led to it
+abbrev pub start_of : List PoolSettings → ℕ → Base
+start_of pools place = empty_base (slice_index_or pools place no_pool)
+
 -- the greatest number of a list
 abbrev pub most_of : List ℕ → ℕ
 most_of [] = 0
@@ -33,6 +39,7 @@ shared_door store pools logs views = record {
   seen = λ p. (view_at views p).seen;
   records = map (λ pool. None) pools;
   writer = record {
+    starts = start_of pools;
     numbers = λ p. slice_index_or (map (λ v. v.number) views) p 0;
     alone = false;
     logs = logs;
@@ -45,7 +52,7 @@ shared_door store pools logs views = record {
 
 -- One call in a turn of a pass, which had seen the old log and was told a front. The turn finds the old log with entries of others
 -- behind it, and no fewer entries than the front.
-pub record IsTurnCall (pool : PoolSettings) (call : Call) (old new : List Entry) (told : ℕ) (result : Result Answered CallFault) : Type 0 where
+pub record IsTurnCall (start : Base) (call : Call) (old new : List Entry) (told : ℕ) (result : Result Answered CallFault) : Type 0 where
   pub growth : Growth
-  pub done : IsPoolCall pool false call old new growth result
+  pub done : IsPoolCall start false call old new growth result
   pub fresh : told ≤ length (old ++ growth.others)

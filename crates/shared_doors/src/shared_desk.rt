@@ -1,4 +1,5 @@
 ghost use Rattle.std.specs.Prelude.{◌≡◌, ◌<◌, ◌+◌, ◌^◌, None, [], IsTrue, IsErrOf};
+ghost use Rattle.swarm_model.specs.Bases.{empty_base};
 ghost use Rattle.swarm_model.specs.Bytes.{Carries};
 ghost use Rattle.swarm_model.specs.Fits.{fits};
 ghost use Rattle.swarm_history.specs.Calls.{call_of};
@@ -99,7 +100,7 @@ pub(crate) fn take_turn<M: Machine + Drop, K: Keeper + Drop, R: Wait>(
     requires carries { Carries call.now.request.now call.now.bytes.now }
 
     ensures own { IsPassOf (lasting_in M.kept) turnstile.now result.1 }
-    ensures done { IsTurnCall (fixed_of (lasting_in M.kept) turnstile.now).settings (call_of (number pass) call.now)
+    ensures done { IsTurnCall (empty_base (fixed_of (lasting_in M.kept) turnstile.now).settings) (call_of (number pass) call.now)
         (seen pass) (seen result.1) (told pass) result.0 }
 
     // Sure keepers never fail.

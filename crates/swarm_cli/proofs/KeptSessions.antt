@@ -13,7 +13,7 @@ use Rattle.swarm_keeper.specs.Stores.{StoreState}
 use Rattle.swarm_model.specs.declared.pool_settings.Settings.{Settings}
 use Rattle.swarm_model.specs.declared.pool_settings.PoolSettings.{PoolSettings}
 use Rattle.swarm_model.specs.MachineState.{MachineState}
-use Rattle.pool_doors.specs.Doors.{DoorState, IsFreshDoor, HasNoOthersAt, AddsNoOthers}
+use Rattle.pool_doors.specs.Doors.{DoorState, Writer, IsFreshDoor, HasNoOthersAt, AddsNoOthers}
 use Rattle.swarm_http.specs.Answered.{KeepsDoor}
 use Rattle.swarm_history.specs.Machines.{logs_of}
 use Rattle.swarm_history.specs.Records.{AreKept, IsFirstBadRecord}
@@ -36,12 +36,14 @@ use Rattle.swarm_cli.proofs.Counts.{counts_some, rose_above}
 -- ---- over keepers
 
 -- where the records had no other blobs, they have none in the end
-pub others_kept : {settings : Settings} {before after : List (Option Tables)} (d e : DoorState) → d.settings ≡ settings → e.settings ≡ d.settings → d.records ≡ before → after ≡ e.records
-    → AddsNoOthers d e → (p : ℕ) → HasNoOthersAt settings.pools before d.seen p → HasNoOthersAt settings.pools after e.seen p
-others_kept {settings = settings} d e is same told then adds p has =
-    let start : HasNoOthersAt d.settings.pools d.records d.seen p = rw (is, told) has in
-    subst (λ (r : List (Option Tables)). HasNoOthersAt settings.pools r e.seen p) (sym then)
-    (subst (λ (s : Settings). HasNoOthersAt s.pools e.records e.seen p) (same ∙ is) (adds p start))
+pub others_kept : {settings : Settings} {before after : List (Option Tables)} (d e : DoorState) → d.settings ≡ settings → e.settings ≡ d.settings → e.writer ≡ d.writer
+    → d.records ≡ before → after ≡ e.records
+    → AddsNoOthers d e → (p : ℕ) → HasNoOthersAt settings.pools d.writer.starts before d.seen p → HasNoOthersAt settings.pools d.writer.starts after e.seen p
+others_kept {settings = settings} d e is same writes told then adds p has =
+    let start : HasNoOthersAt d.settings.pools d.writer.starts d.records d.seen p = rw (is, told) has in
+    subst (λ (r : List (Option Tables)). HasNoOthersAt settings.pools d.writer.starts r e.seen p) (sym then)
+    (subst (λ (w : Writer). HasNoOthersAt settings.pools w.starts e.records e.seen p) writes
+    (subst (λ (s : Settings). HasNoOthersAt s.pools e.writer.starts e.records e.seen p) (same ∙ is) (adds p start)))
 
 -- a command was carried out over the records
 pub kept_ran : {M : Type 0} (kept : M → MachineState) (machines items : List M) (what : DoorCommand) (settings : Settings) (records_before records_after : List (Option Tables)) (faults : ℕ) (o m : Streams) (t : LinkState)
@@ -59,7 +61,7 @@ kept_ran {M = M} kept machines items what settings records_before records_after 
   does = does_all what before after o m t result status (summary_of pools (logs_of (map kept machines))) used_so concluded
       (summary_is settings before after pools (logs_of (map kept machines)) pools_are fresh.settings_are (λ p. ap (λ (l : List M). logs_of (map kept l) p) are ∙ logs p));
   lines_after = lines_then;
-  no_other_blobs = others_kept before after fresh.settings_are keeps.settings records told keeps.no_other_blobs;
+  no_other_blobs = others_kept before after fresh.settings_are keeps.settings keeps.writer records told keeps.no_other_blobs;
   faults_are = sym counted;
 }
 

@@ -15,4 +15,4 @@ logs_grow {v = v} alone x p = let o = x.once p in o.grown ∙ ap (λ (l : List E
 
 -- a door that has seen nothing
 pub fresh_of_nothing : {settings : Settings} {door : DoorState} → IsFreshDoor settings door.seen door → ((p : ℕ) → door.seen p ≡ []) → IsFreshDoor settings (λ p. []) door
-fresh_of_nothing n nothing = record { settings_are = n.settings_are; seen = nothing; numbers = n.numbers; alone = n.alone; calls = n.calls }
+fresh_of_nothing n nothing = record { settings_are = n.settings_are; seen = nothing; starts = n.starts; numbers = n.numbers; alone = n.alone; calls = n.calls }

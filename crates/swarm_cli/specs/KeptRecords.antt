@@ -24,7 +24,8 @@ pub record DoesOver (work : ServerWork) (settings : Settings) (records_before re
   pub lines_before : AreKept records_before before.seen
   pub does : CarriesOutWork work before after o u status
   pub lines_after : AreKept records_after after.seen
-  pub no_other_blobs : (p : ℕ) → HasNoOthersAt settings.pools records_before before.seen p → HasNoOthersAt settings.pools records_after after.seen p
+  pub no_other_blobs : (p : ℕ) → HasNoOthersAt settings.pools before.writer.starts records_before before.seen p
+      → HasNoOthersAt settings.pools before.writer.starts records_after after.seen p
   pub faults_are : after.faults ≡ faults
 
 -- the line for refused records: the place of the pool, and that of the line

@@ -1,9 +1,10 @@
 -- What a commit adds to what was made ready.
-use Rattle.std.proofs.Common.{◌≡◌, ◌++◌, ◌≤◌, ℕ, List, [], ◌∷◌, Option, None, Some, IsTrue, is_some, ap, sym, subst, ◌∙◌}
+use Rattle.std.proofs.Common.{◌≡◌, ◌++◌, ◌-◌, ◌<◌, ◌≤◌, ℕ, List, [], ◌∷◌, Option, None, Some, IsTrue, is_some, length, arith, ap, sym, subst, ◌∙◌}
 use Rattle.std.specs.List.{AllByRecursion}
-use Rattle.std.proofs.lemmas.List.{append_assoc}
+use Rattle.std.proofs.lemmas.List.{append_assoc, length_push}
 use Rattle.swarm_keeper.specs.Tables.{Tables}
 use Rattle.swarm_model.specs.declared.entry.Entry.{Entry}
+use Rattle.swarm_model.specs.declared.pool_settings.PoolSettings.{PoolSettings}
 use Rattle.swarm_model.specs.Bytes.{HeldBytes, new_digest}
 use Rattle.swarm_model.specs.Effects.{after}
 use Rattle.swarm_model.specs.History.{MayFollow}
@@ -16,12 +17,14 @@ use Rattle.swarm_history.specs.Records.{AreMachineRecords, KeepsEntry, HoldsNoOt
 use Rattle.swarm_history.specs.Settling.{Adds, Settles, with_entry}
 use Rattle.swarm_history.proofs.KeptMachines.{told_after}
 use Rattle.swarm_history.proofs.Others.{keeps_no_others}
+use Rattle.swarm_history.proofs.OwnPoints.{few_history}
 
 pub adds_from : (old ready new : MachineState) (entry : Entry) (held : HeldBytes)
     → ready ≡ record old { ready = Some entry }
     → new ≡ record ready { pool = after ready.pool entry; log = ready.log ++ entry ∷ []; ready = None; held = held }
     → IsHistory new → Adds old new entry
 adds_from old ready new entry held r e h = record {
+  start = ap (λ k. k.start) e ∙ ap (λ k. k.start) r;
   log = ap (λ k. k.log) e ∙ ap (λ k. k.log ++ entry ∷ []) r;
   settings = ap (λ k. k.pool.settings) e ∙ (settings_same ready.pool entry.moment entry.kind ∙ ap (λ k. k.pool.settings) r);
   last = ap (λ k. k.pool.last) e;
@@ -37,12 +40,22 @@ pub settles_more : (pass moment : ℕ) (old mid new : MachineState) (entry : Ent
     → Settles pass moment old new
 settles_more pass moment old mid new entry s is a = record {
   settled = s.settled ++ entry ∷ [];
+  start = a.start ∙ s.start;
   log = a.log ∙ ap (λ (l : List Entry). l ++ entry ∷ []) s.log ∙ append_assoc old.log s.settled (entry ∷ []);
   due_first = all_push (IsSettled pass moment) s.settled entry s.due_first is;
   settings = a.settings ∙ s.settings;
   last = subst (λ (n : ℕ). n ≤ moment) (sym a.last) is.2;
   history = a.history;
 }
+
+-- an entry that is added takes one of those that the log has room for
+pub fewer_left : (old new : MachineState) (entry : Entry) → Adds old new entry
+    → new.pool.settings.most_entries - length new.log < old.pool.settings.most_entries - length old.log
+fewer_left old new entry a =
+    let few = few_history new a.history in
+    let grown = ap length a.log ∙ length_push old.log entry in
+    let same = ap (λ (p : PoolSettings). p.most_entries) a.settings in
+    omega (arith, few, grown, same)
 
 -- each blob has its bytes still
 pub adds_held : (old ready new : MachineState) (entry : Entry) (bytes : Option (List ℕ))
@@ -65,7 +78,7 @@ module _ (old ready new : MachineState) (entry : Entry) (bytes : Option (List �
       (told_after ready told now entry bytes keeps (λ places. whole (subst (λ (k : MachineState). IsTrue (is_some (new_digest k.pool entry.kind))) r places)) (told_ready told old ready (Some entry) r are))
 
   history_ready : IsHistory old → IsHistory ready
-  history_ready h = rw r (record { replayed = h.replayed; legal = h.legal })
+  history_ready h = rw r (record { opened = h.opened; replayed = h.replayed; legal = h.legal })
 
   pub adds_no_others : IsHistory old → IsSound old.pool → MayFollow old.pool entry → HoldsNoOthers told old → HoldsNoOthers now new
   adds_no_others h sound follows none =
@@ -73,5 +86,5 @@ module _ (old ready new : MachineState) (entry : Entry) (bytes : Option (List �
       (subst (λ (k : MachineState). IsSound k.pool) (sym r) sound)
       (subst (λ (k : MachineState). MayFollow k.pool entry) (sym r) follows)
       (ap (λ k. k.log) e)
-      (ap (λ k. k.pool.settings) e ∙ settings_same ready.pool entry.moment entry.kind)
+      (ap (λ k. k.start) e)
       keeps (subst (HoldsNoOthers told) (sym r) none)

@@ -7,12 +7,13 @@ use Rattle.std.proofs.lemmas.List.Elements.{All-push}
 use Rattle.swarm_keeper.specs.Tables.{Tables}
 use Rattle.swarm_model.specs.declared.pool_settings.Settings.{Settings}
 use Rattle.swarm_model.specs.declared.pool_settings.PoolSettings.{PoolSettings}
+use Rattle.swarm_model.specs.Bases.{empty_base}
 use Rattle.swarm_model.specs.MachineState.{MachineState, AreHeld}
 use Rattle.pool_loading.specs.declared.loading.LoadStop.{LoadStop}
 use Rattle.pool_loading.specs.declared.loading.LoadStop.TheVariants as stop
 use Rattle.pool_loading.specs.Records.{IsLoaded, AreRefusedAt}
 use Rattle.pool_doors.specs.Doors.{IsFreshDoor}
-use Rattle.swarm_history.specs.Machines.{pools_of, logs_of, own_door}
+use Rattle.swarm_history.specs.Machines.{pools_of, logs_of, start_at, starts_of, own_door}
 use Rattle.swarm_history.specs.Records.{AreRecordsOf, AreLoaded, AreLoadable, IsBadStore, IsFirstBadRecord, fault_of}
 use Rattle.swarm_history.proofs.Keepers.{no_machines}
 
@@ -97,6 +98,15 @@ loaded_pools (pool ∷ pools) [] (m ∷ machines) all are = absurd are
 loaded_pools (pool ∷ pools) (told ∷ tables) (m ∷ machines) all are =
     ap (λ (p : PoolSettings). p ∷ pools_of machines) are.0.settings_are ∙ ap (λ (rest : List PoolSettings). pool ∷ rest) (loaded_pools pools tables machines (omega arith) are.1)
 
+-- each log begins where nothing led to
+loaded_starts : (pools : List PoolSettings) (tables : List (Option Tables)) (machines : List MachineState) → length machines ≡ length pools
+    → AreLoaded pools tables machines → (p : ℕ) → IfSome (slice_get pools p) (λ pool. start_at (starts_of machines) p ≡ empty_base pool)
+loaded_starts [] tables machines all are p = tt
+loaded_starts (pool ∷ pools) tables [] all are p = absurd (omega arith)
+loaded_starts (pool ∷ pools) [] (m ∷ machines) all are p = absurd are
+loaded_starts (pool ∷ pools) (told ∷ tables) (m ∷ machines) all are zero = are.0.history.opened ∙ ap empty_base are.0.settings_are
+loaded_starts (pool ∷ pools) (told ∷ tables) (m ∷ machines) all are (suc p) = loaded_starts pools tables machines (omega arith) are.1 p
+
 pub loaded_held : (pools : List PoolSettings) (tables : List (Option Tables)) (machines : List MachineState) → AreLoaded pools tables machines → All AreHeld machines
 loaded_held pools tables [] are = λ place m low. absurd (omega arith)
 loaded_held [] tables (m ∷ machines) are = absurd are
@@ -128,6 +138,7 @@ pub fresh_door : (settings : Settings) (store : Option (List ℕ)) (tables recor
 fresh_door settings store tables records machines faults stored all are = record {
   settings_are = ap (λ (s : Option (List ℕ)). with_pools s (pools_of machines)) stored ∙ ap (λ (pools : List PoolSettings). with_pools settings.store pools) (loaded_pools settings.pools tables machines all are);
   seen = λ p. refl;
+  starts = loaded_starts settings.pools tables machines all are;
   numbers = λ p. refl;
   alone = refl;
   calls = refl;

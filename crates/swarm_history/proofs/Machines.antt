@@ -8,12 +8,13 @@ use Rattle.swarm_keeper.specs.Tables.{Tables}
 use Rattle.swarm_model.specs.declared.pool_settings.Settings.{Settings}
 use Rattle.swarm_model.specs.declared.pool_settings.PoolSettings.{PoolSettings}
 use Rattle.swarm_model.specs.declared.entry.Entry.{Entry}
+use Rattle.swarm_model.specs.Bases.{Base}
 use Rattle.swarm_model.specs.MachineState.{MachineState, AreHeld}
 use Rattle.swarm_model.specs.Points.{Call, Growth}
 use Rattle.pool_doors.specs.declared.door.Answered.{Answered}
 use Rattle.pool_doors.specs.declared.door.CallFault.{CallFault}
 use Rattle.pool_doors.specs.Doors.{IsPoolCall, IsCall, CountsKeeper, Elsewhere, HasNoOthersAt}
-use Rattle.swarm_history.specs.Machines.{pools_of, logs_of, own_door}
+use Rattle.swarm_history.specs.Machines.{pools_of, logs_of, start_at, starts_of, own_writer, own_door}
 use Rattle.swarm_history.specs.Records.{HoldsNoOthers}
 
 -- what holds of the pool at a place holds of its machine's settings
@@ -23,12 +24,12 @@ of_machine Q [] place old is holds = absurd holds
 of_machine Q (m ∷ machines) zero old is holds = subst (λ (k : MachineState). Q k.pool.settings) (sym is) holds
 of_machine Q (m ∷ machines) (suc place) old is holds = of_machine Q machines place old is holds
 
--- what holds of the machine at a place, and of its log before and after, holds of its pool
-of_pool : (P : PoolSettings → List Entry → List Entry → Type 0) (machines : List MachineState) (place : ℕ) (old new : MachineState)
-    → place < length machines → old ≡ get_or machines place old → P old.pool.settings old.log new.log
-    → IsSomeAnd (slice_get (pools_of machines) place) (λ pool. P pool (logs_of machines place) (logs_of (set machines place new) place))
+-- what holds of where the log of the machine at a place begins, and of the log before and after, holds at the place of its pool
+of_pool : (P : Base → List Entry → List Entry → Type 0) (machines : List MachineState) (place : ℕ) (old new : MachineState)
+    → place < length machines → old ≡ get_or machines place old → P old.start old.log new.log
+    → IsSomeAnd (slice_get (pools_of machines) place) (λ pool. P (start_at (starts_of machines) place) (logs_of machines place) (logs_of (set machines place new) place))
 of_pool P [] place old new low is holds = absurd (omega arith)
-of_pool P (m ∷ machines) zero old new low is holds = subst (λ (k : MachineState). P k.pool.settings k.log new.log) is holds
+of_pool P (m ∷ machines) zero old new low is holds = subst (λ (k : MachineState). P k.start k.log new.log) is holds
 of_pool P (m ∷ machines) (suc place) old new low is holds = of_pool P machines place old new (omega arith) is holds
 
 -- the other machines' logs stay
@@ -46,6 +47,13 @@ pools_stay (m ∷ machines) zero old new is same =
 pools_stay (m ∷ machines) (suc place) old new is same =
     ap (λ (pools : List PoolSettings). m.pool.settings ∷ pools) (pools_stay machines place old new is same)
 
+-- and one whose log begins where it did leaves where each begins
+starts_stay : (machines : List MachineState) (place : ℕ) (old new : MachineState) → old ≡ get_or machines place old
+    → new.start ≡ old.start → starts_of (set machines place new) ≡ starts_of machines
+starts_stay [] place old new is same = refl
+starts_stay (m ∷ machines) zero old new is same = ap (λ (start : Base). start ∷ starts_of machines) (same ∙ ap (λ (k : MachineState). k.start) is)
+starts_stay (m ∷ machines) (suc place) old new is same = ap (λ (starts : List Base). m.start ∷ starts) (starts_stay machines place old new is same)
+
 -- the settings with these pools
 abbrev with_pools : Option (List ℕ) → List PoolSettings → Settings
 with_pools store pools = record { store = store; pools = pools }
@@ -54,8 +62,8 @@ with_pools store pools = record { store = store; pools = pools }
 no_others_set : (machines : List MachineState) (tables : List (Option Tables)) (place : ℕ) (old new : MachineState) (told now : Option Tables)
     → place < length machines → place < length tables → old ≡ get_or machines place old → told ≡ get_or tables place told
     → (HoldsNoOthers told old → HoldsNoOthers now new)
-    → (p : ℕ) → HasNoOthersAt (pools_of machines) tables (logs_of machines) p
-    → HasNoOthersAt (pools_of (set machines place new)) (set tables place now) (logs_of (set machines place new)) p
+    → (p : ℕ) → HasNoOthersAt (pools_of machines) (start_at (starts_of machines)) tables (logs_of machines) p
+    → HasNoOthersAt (pools_of (set machines place new)) (start_at (starts_of (set machines place new))) (set tables place now) (logs_of (set machines place new)) p
 no_others_set [] tables place old new told now low inside is at adds p has = absurd (omega arith)
 no_others_set (m ∷ machines) [] place old new told now low inside is at adds p has = absurd (omega arith)
 no_others_set (m ∷ machines) (t ∷ tables) zero old new told now low inside is at adds zero has =
@@ -67,17 +75,17 @@ no_others_set (m ∷ machines) (t ∷ tables) (suc place) old new told now low i
 
 called : (store : Option (List ℕ)) (machines : List MachineState) (tables : List (Option Tables)) (before now calls place : ℕ) (call : Call) (result : Result Answered CallFault)
     (old new : MachineState) (told_old told_new : Option Tables)
-    → place < length machines → place < length tables → old ≡ get_or machines place old → told_old ≡ get_or tables place told_old → new.pool.settings ≡ old.pool.settings
+    → place < length machines → place < length tables → old ≡ get_or machines place old → told_old ≡ get_or tables place told_old → new.start ≡ old.start → new.pool.settings ≡ old.pool.settings
     → before ≤ now → CountsKeeper result before now → (HoldsNoOthers told_old old → HoldsNoOthers told_new new)
-    → (growth : Growth) × IsPoolCall old.pool.settings true call old.log new.log growth result
+    → (growth : Growth) × IsPoolCall old.start true call old.log new.log growth result
     → IsCall (own_door store machines tables before calls) (own_door store (set machines place new) (set tables place told_new) now (calls + 1)) place call result
-called store machines tables before now calls place call result old new told_old told_new low inside is at same grows failed adds did = record {
+called store machines tables before now calls place call result old new told_old told_new low inside is at start same grows failed adds did = record {
   growth = did.0;
-  done = of_pool (λ (pool : PoolSettings) (before after : List Entry). IsPoolCall pool true call before after did.0 result) machines place old new low is did.1;
+  done = of_pool (λ (start : Base) (before after : List Entry). IsPoolCall start true call before after did.0 result) machines place old new low is did.1;
   elsewhere = elsewhere machines place new;
   no_other_blobs = no_others_set machines tables place old new told_old told_new low inside is at adds;
   settings = ap (λ (pools : List PoolSettings). with_pools store pools) (pools_stay machines place old new is same);
-  writer = refl;
+  writer = ap own_writer (starts_stay machines place old new is start);
   faults = grows;
   keeper = failed;
   calls = omega arith;
@@ -115,12 +123,12 @@ module _ {M : Type 0} (kept : M → MachineState) where
   pub own_call : {K : Type 0} (tables : K → Option Tables) (store : Option (List ℕ)) (machines : List M) (keepers : List K) (before now calls place : ℕ) (call : Call) (result : Result Answered CallFault)
       (old new : M) (keeper next : K)
       → place < length (pools_of (map kept machines)) → place < length keepers → old ≡ get_or machines place old → keeper ≡ get_or keepers place keeper
-      → (kept new).pool.settings ≡ (kept old).pool.settings
+      → (kept new).start ≡ (kept old).start → (kept new).pool.settings ≡ (kept old).pool.settings
       → before ≤ now → CountsKeeper result before now → (HoldsNoOthers (tables keeper) (kept old) → HoldsNoOthers (tables next) (kept new))
-      → (growth : Growth) × IsPoolCall (kept old).pool.settings true call (kept old).log (kept new).log growth result
+      → (growth : Growth) × IsPoolCall (kept old).start true call (kept old).log (kept new).log growth result
       → IsCall (own_door store (map kept machines) (map tables keepers) before calls)
       (own_door store (map kept (set machines place new)) (map tables (set keepers place next)) now (calls + 1)) place call result
-  own_call tables store machines keepers before now calls place call result old new keeper next low inside is at_keeper same grows failed adds did =
+  own_call tables store machines keepers before now calls place call result old new keeper next low inside is at_keeper start same grows failed adds did =
       let low_state : place < length (map kept machines) = omega (arith, low, length-map (map kept machines) (λ (m : MachineState). m.pool.settings)) in
       let is_state = at machines place old (within machines place low) is in
       let is_told : tables keeper ≡ get_or (map tables keepers) place (tables keeper) = ap tables at_keeper ∙ sym (get_or-map tables keepers place keeper (tables keeper) inside) in
@@ -129,4 +137,4 @@ module _ {M : Type 0} (kept : M → MachineState) where
       (subst (λ (told : List (Option Tables)). IsCall (own_door store (map kept machines) (map tables keepers) before calls) (own_door store (set (map kept machines) place (kept new)) told now (calls + 1)) place call result)
       (sym (map-set tables keepers place next))
       (called store (map kept machines) (map tables keepers) before now calls place call result (kept old) (kept new) (tables keeper) (tables next) low_state
-      (omega (arith, inside, length-map keepers tables)) is_state is_told same grows failed adds did))
+      (omega (arith, inside, length-map keepers tables)) is_state is_told start same grows failed adds did))

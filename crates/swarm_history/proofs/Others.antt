@@ -19,10 +19,9 @@ use Rattle.swarm_model.specs.declared.attempt.Chunk.{Chunk}
 use Rattle.swarm_model.specs.declared.entry.Entry.{Entry}
 use Rattle.swarm_model.specs.declared.entry.EntryKind.{EntryKind}
 use Rattle.swarm_model.specs.declared.entry.EntryKind.TheVariants as kind
-use Rattle.swarm_model.specs.declared.pool_settings.PoolSettings.{PoolSettings}
 use Rattle.swarm_model.specs.declared.pool_state.PoolState.{PoolState}
 use Rattle.swarm_model.specs.Bytes.{new_digest, removed_digest}
-use Rattle.swarm_model.specs.Effects.{opening, life, blobs_in, put, put_chunk, with_blobs, fresh_chunk, attempt_of, after}
+use Rattle.swarm_model.specs.Effects.{life, blobs_in, put, put_chunk, with_blobs, fresh_chunk, attempt_of, after}
 use Rattle.swarm_model.specs.Finding.{blob_of, blob_numbered}
 use Rattle.swarm_model.specs.History.{MayFollow, replay}
 use Rattle.swarm_model.specs.MachineState.{MachineState, IsHistory}
@@ -151,21 +150,16 @@ module _ (s : PoolState) (m : ℕ) (bytes : List ℕ) (blobs : Blobs) (are : Are
   others_by entry o f = are
 
 -- the pool after one entry more
-replay_push : (settings : PoolSettings) (log : List Entry) (entry : Entry) → replay (opening settings) (log ++ entry ∷ []) ≡ after (replay (opening settings) log) entry
-replay_push settings log entry = fold-append after (opening settings) log (entry ∷ [])
+replay_push : (start : PoolState) (log : List Entry) (entry : Entry) → replay start (log ++ entry ∷ []) ≡ after (replay start log) entry
+replay_push start log entry = fold-append after start log (entry ∷ [])
 
 -- what is kept with an entry is of a blob that the log leaves with it
 pub keeps_no_others : (kept new : MachineState) (entry : Entry) (bytes : Option (List ℕ)) (old_told new_told : Option Tables)
-    → IsHistory kept → IsSound kept.pool → MayFollow kept.pool entry → new.log ≡ kept.log ++ entry ∷ [] → new.pool.settings ≡ kept.pool.settings
+    → IsHistory kept → IsSound kept.pool → MayFollow kept.pool entry → new.log ≡ kept.log ++ entry ∷ [] → new.start ≡ kept.start
     → KeepsEntry kept entry bytes old_told new_told → HoldsNoOthers old_told kept → HoldsNoOthers new_told new
-keeps_no_others kept new entry bytes None new_told history sound follows log settings keeps none = subst (λ (t : Option Tables). HoldsNoOthers t new) (sym keeps) tt
-keeps_no_others kept new entry bytes (Some t) new_told history sound follows log settings keeps none =
-    let pool : replay (opening new.pool.settings) new.log ≡ after kept.pool entry = rw (log, settings) (replay_push kept.pool.settings kept.log entry ∙ ap (λ s. after s entry) (sym history.replayed)) in
+keeps_no_others kept new entry bytes None new_told history sound follows log start keeps none = subst (λ (t : Option Tables). HoldsNoOthers t new) (sym keeps) tt
+keeps_no_others kept new entry bytes (Some t) new_told history sound follows log start keeps none =
+    let pool : replay new.start.rows new.log ≡ after kept.pool entry = rw (log, start) (replay_push kept.start.rows kept.log entry ∙ ap (λ s. after s entry) (sym history.replayed)) in
     subst (λ (told : Option Tables). HoldsNoOthers told new) (sym keeps.tables)
     (subst (λ (s : PoolState). AreOf s.blobs (appended keeps.line (new_digest kept.pool entry.kind) keeps.content (removed_digest kept.pool entry.kind) t).blobs) (sym pool)
     (others_by kept.pool entry.moment keeps.content t.blobs (subst (λ (s : PoolState). AreOf s.blobs t.blobs) (sym history.replayed) none) entry.kind sound (finds kept.pool entry follows)))
-
--- where neither the log nor the records change, they have no others still
-pub no_others_stay : (kept new : MachineState) (old_told new_told : Option Tables) → new.log ≡ kept.log → new.pool ≡ kept.pool → new_told ≡ old_told
-    → HoldsNoOthers old_told kept → HoldsNoOthers new_told new
-no_others_stay kept new old_told new_told log pool told none = rw (told, log, pool) none

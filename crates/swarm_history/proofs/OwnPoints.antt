@@ -1,5 +1,5 @@
 -- The points of a log that nobody shares.
-use Rattle.std.proofs.Common.{◌≡◌, ℕ, Bool, true, false, List, [], ◌++◌, length, refl, Option, Some, None, Result, Ok, Err, IfOk, IfErr, subst, sym, ap, ◌∙◌, append-nil}
+use Rattle.std.proofs.Common.{◌≡◌, ◌≤◌, ℕ, Bool, true, false, List, [], ◌++◌, length, refl, Option, Some, None, Result, Ok, Err, IfOk, IfErr, subst, sym, ap, ◌∙◌, append-nil}
 use Rattle.std.specs.Prelude.{IsSomeAnd}
 use Rattle.std.specs.Bool.{OnTrue}
 use Rattle.std.specs.Option.{option_or, option_to_list}
@@ -11,13 +11,14 @@ use Rattle.swarm_model.specs.declared.reply.Reply.{Reply}
 use Rattle.swarm_model.specs.declared.reply.Reply.TheVariants as reply
 use Rattle.swarm_model.specs.declared.rule.Rule.TheVariants as rule
 use Rattle.swarm_model.specs.Deadlines.{due_entry}
-use Rattle.swarm_model.specs.Effects.{opening, after}
+use Rattle.swarm_model.specs.Bases.{Base, front}
+use Rattle.swarm_model.specs.Effects.{after}
 use Rattle.swarm_model.specs.History.{replay, IsLegal, moment_of}
 use Rattle.swarm_model.specs.Points.{is_ahead, Call, Growth, answer_to, LacksRoom, next_entry}
 use Rattle.swarm_model.specs.MachineState.{MachineState, IsHistory}
 use Rattle.swarm_model.specs.Soundness.{IsSound}
+use Rattle.swarm_model.proofs.Histories.{legal_from_opening, replayed_from_opening}
 use Rattle.pool_laws.proofs.Sound.{sound_always}
-use Rattle.swarm_model.specs.declared.pool_settings.PoolSettings.{PoolSettings}
 use Rattle.pool_doors.specs.declared.door.Answered.{Answered}
 use Rattle.pool_doors.specs.declared.door.CallFault.{CallFault}
 use Rattle.pool_doors.specs.Doors.{ArePieces, is_log_full, IsPoolCall}
@@ -26,11 +27,15 @@ use Rattle.swarm_history.specs.Settling.{Settles, Responds, HasFrontAndPieces, I
 
 -- what a machine keeps is sound
 pub sound_history : (kept : MachineState) → IsHistory kept → IsSound kept.pool
-sound_history kept h = subst IsSound (sym h.replayed) (sound_always kept.pool.settings kept.log h.legal.caused)
+sound_history kept h = subst IsSound (sym (replayed_from_opening kept h)) (sound_always kept.pool.settings kept.log (legal_from_opening kept h).caused)
+
+-- its log has no more entries than the settings allow
+pub few_history : (kept : MachineState) → IsHistory kept → length kept.log ≤ kept.pool.settings.most_entries
+few_history kept h = (legal_from_opening kept h).few
 
 -- a call of one who has seen more than there is
-pub early_point : (start : PoolState) (call : Call) (log : List Entry) →
-    IsLegal start log → is_ahead (length log) call.after ≡ true → IsPointAlone start call log log (reply.No (rule.FrontAhead (length log)))
+pub early_point : (start : Base) (call : Call) (log : List Entry) →
+    IsLegal start.rows log → is_ahead (front start log) call.after ≡ true → IsPointAlone start call log log (reply.No (rule.FrontAhead (front start log)))
 early_point start call log legal is =
     record {
       growth = record { others = []; settled = []; own = None };
@@ -53,32 +58,33 @@ own_next full P due own none h = rw none h
 
 -- A call that settled what was due by a moment, in part or whole.
 module _ (call : Call) (at : ℕ) (old mid : MachineState) (history : IsHistory old)
-    (behind : is_ahead (length old.log) call.after ≡ false) (reckoned : at ≡ moment_of old.pool call.moment) (s : Settles call.pass at old mid) where
-  abbrev start : PoolState
-  start = opening old.pool.settings
-
+    (behind : is_ahead (front old.start old.log) call.after ≡ false) (reckoned : at ≡ moment_of old.pool call.moment) (s : Settles call.pass at old mid) where
   -- the call at its moment
   abbrev taken : Call
   taken = record call { moment = at }
 
-  moment_is : at ≡ moment_of (replay start old.log) call.moment
+  moment_is : at ≡ moment_of (replay old.start.rows old.log) call.moment
   moment_is = reckoned ∙ ap (λ (p : PoolState). moment_of p call.moment) history.replayed
 
   -- the rows are those of the log
-  rows : mid.pool ≡ replay start mid.log
-  rows = s.history.replayed ∙ ap (λ x. replay (opening x) mid.log) s.settings
+  rows : mid.pool ≡ replay old.start.rows mid.log
+  rows = s.history.replayed ∙ ap (λ (b : Base). replay b.rows mid.log) s.start
 
-  rows_settled : mid.pool ≡ replay (replay start old.log) s.settled
-  rows_settled = rows ∙ ap (replay start) s.log ∙ fold-append after start old.log s.settled
+  rows_settled : mid.pool ≡ replay (replay old.start.rows old.log) s.settled
+  rows_settled = rows ∙ ap (replay old.start.rows) s.log ∙ fold-append after old.start.rows old.log s.settled
+
+  -- the log begins under the pool's settings
+  settings_are : old.start.rows.settings ≡ mid.pool.settings
+  settings_are = ap (λ (b : Base). b.rows.settings) history.opened ∙ sym s.settings
 
   pub settled_point : (new : MachineState) → due_entry mid.pool at call.pass ≡ None → (answered : Reply) → Responds call.pass call.caller at call.request mid new answered →
-      IsPointAlone start call old.log new.log answered
+      IsPointAlone old.start call old.log new.log answered
   settled_point new none answered a =
       record {
         growth = record { others = []; settled = s.settled; own = (answer_to mid.pool taken).entry };
         point = record {
           grows = record {
-            legal = subst (λ x. IsLegal (opening x) new.log) (a.settings ∙ s.settings) a.history.legal;
+            legal = subst (λ (b : Base). IsLegal b.rows new.log) (a.start ∙ s.start) a.history.legal;
             parts = a.log ∙ ap (λ (l : List Entry). l ++ option_to_list (answer_to mid.pool taken).entry) s.log ∙ append_assoc old.log s.settled _;
             by_others = tt;
           };
@@ -94,41 +100,45 @@ module _ (call : Call) (at : ℕ) (old mid : MachineState) (history : IsHistory 
 
   -- it stopped where an entry was to be added
   pub settled_stop : (log : List Entry) (full : Bool) → log ≡ mid.log → OnTrue full (LacksRoom mid.pool mid.log (next_entry mid.pool taken)) →
-      IsOwnStop start call old.log log full
+      IsOwnStop old.start call old.log log full
   settled_stop log full same lacks =
       record {
         growth = record { others = []; settled = s.settled; own = None };
         stop = record {
           grows = record {
-            legal = rw same (subst (λ x. IsLegal (opening x) mid.log) s.settings s.history.legal);
+            legal = rw same (subst (λ (b : Base). IsLegal b.rows mid.log) s.start s.history.legal);
             parts = same ∙ s.log ∙ ap (λ (l : List Entry). old.log ++ l) (sym (append-nil s.settled));
             by_others = tt;
           };
           no_own = refl;
           not_ahead = rw (append-nil old.log) behind;
           due_first = rw (append-nil old.log, ← moment_is) s.due_first;
-          full = rw (append-nil old.log, ← moment_is, same, ← rows, ← s.settings) lacks;
+          full = rw (append-nil old.log, ← moment_is, same, ← rows, settings_are) lacks;
         };
         no_others = refl;
       }
 
 -- a request was answered with no other's entries before it, which serves a door that writes alone and any other
-pub answered_call : {pool : PoolSettings} {alone : Bool} {call : Call} {old new : List Entry} {answered : Answered}
-    → (p : IsPointAlone (opening pool) call old new answered.reply) → answered.front ≡ length new → ArePieces answered.reply answered.pieces
-    → IsPoolCall pool alone call old new p.growth (Ok answered)
-answered_call p front pieces = record {
-  ends = record { point = p.point; refused = λ r. refused_adds_nothing p.point r; front = front; pieces = pieces };
+pub answered_call : {start : Base} {alone : Bool} {call : Call} {old new : List Entry} {answered : Answered}
+    → (p : IsPointAlone start call old new answered.reply) → answered.front ≡ front start new → ArePieces answered.reply answered.pieces
+    → IsPoolCall start alone call old new p.growth (Ok answered)
+answered_call p told pieces = record {
+  ends = record { point = p.point; refused = λ r. refused_adds_nothing p.point r; front = told; pieces = pieces };
   no_others = λ _. p.no_others;
 }
 
-pub stopped_call : {pool : PoolSettings} {alone : Bool} {call : Call} {old new : List Entry} {fault : CallFault}
-    → (p : IsOwnStop (opening pool) call old new (is_log_full fault)) → IsPoolCall pool alone call old new p.growth (Err fault)
+pub stopped_call : {start : Base} {alone : Bool} {call : Call} {old new : List Entry} {fault : CallFault}
+    → (p : IsOwnStop start call old new (is_log_full fault)) → IsPoolCall start alone call old new p.growth (Err fault)
 stopped_call p = record { ends = p.stop; no_others = λ _. p.no_others }
 
+-- what is told of a machine's log is told of one that begins where it does
+pub told_front : {start : Base} (new : MachineState) (answered : Answered) → new.start ≡ start → HasFrontAndPieces new answered → answered.front ≡ front start new.log
+told_front new answered same shows = shows.front ∙ ap (λ (b : Base). front b new.log) same
+
 -- a call that was served, or that stopped
-pub served_call : {pool : PoolSettings} {call : Call} {old : List Entry} (new : MachineState) (result : Result Answered CallFault)
-    → IfOk result (λ answered. IsPointAlone (opening pool) call old new.log answered.reply) → IfOk result (HasFrontAndPieces new)
-    → IfErr result (λ fault. IsOwnStop (opening pool) call old new.log (is_log_full fault))
-    → (growth : Growth) × IsPoolCall pool true call old new.log growth result
-served_call new (Ok answered) point shows stop = (point.growth, answered_call point shows.front shows.pieces)
-served_call new (Err fault) point shows stop = (stop.growth, stopped_call stop)
+pub served_call : {start : Base} {call : Call} {old : List Entry} (new : MachineState) (result : Result Answered CallFault) → new.start ≡ start
+    → IfOk result (λ answered. IsPointAlone start call old new.log answered.reply) → IfOk result (HasFrontAndPieces new)
+    → IfErr result (λ fault. IsOwnStop start call old new.log (is_log_full fault))
+    → (growth : Growth) × IsPoolCall start true call old new.log growth result
+served_call new (Ok answered) same point shows stop = (point.growth, answered_call point (told_front new answered same shows) shows.pieces)
+served_call new (Err fault) same point shows stop = (stop.growth, stopped_call stop)

@@ -55,7 +55,7 @@ IsFirstBadRecord settings tables fault = ⊤
 
 -- the records have no other blobs than those that the machine's log leaves
 abbrev pub HoldsNoOthers : Option Tables → MachineState → Type 0
-HoldsNoOthers told kept = HasNoOthers kept.pool.settings told kept.log
+HoldsNoOthers told kept = HasNoOthers kept.start told kept.log
 
 -- a line of the entry is appended, the bytes of the blob that it places are added, and those of the blob that it removes
 -- are removed; `bytes` are those that came with it

@@ -3,6 +3,7 @@ ghost use Rattle.sha2.specs.Sha256.{sha256};
 ghost use Rattle.sw_base.specs.Faults.{Rose};
 ghost use Rattle.swarm_keeper.specs.Tables.{Tables};
 ghost use Rattle.swarm_model.specs.Answers.{answer};
+ghost use Rattle.swarm_model.specs.Bases.{front};
 ghost use Rattle.swarm_model.specs.Bytes.{brings, new_digest};
 ghost use Rattle.swarm_model.specs.Deadlines.{due_entry};
 ghost use Rattle.swarm_model.specs.Fits.{fits};
@@ -40,11 +41,11 @@ pub trait Desk {
 
     ghost rest: { Self → Self.Rest };
 
-    /// The length of the log.
+    /// The length of the log, with the entries that led to its base.
     fn length(&mut self) -> u64
         requires ready { ready self.old }
         ensures same { self.new ≡ self.old }
-        ensures length { result ≡ length (kept self.old).log }
+        ensures length { result ≡ front (kept self.old).start (kept self.old).log }
         ensures history { IsHistory (kept self.old) };
 
     /// The moment of the last entry, 0 where there is none.

@@ -55,8 +55,9 @@ fn call_machine<M: Machine, K: Keeper>(
     ensures records { AreMachineRecords (K.tables keeper.new) (M.kept machine.new) }
     ensures no_other_blobs { HoldsNoOthers (K.tables keeper.old) (M.kept machine.old) → HoldsNoOthers (K.tables keeper.new) (M.kept machine.new) }
 
+    ensures start { (M.kept machine.new).start ≡ (M.kept machine.old).start }
     ensures settings { (M.kept machine.new).pool.settings ≡ (M.kept machine.old).pool.settings }
-    ensures done { (growth : Growth) × IsPoolCall (M.kept machine.old).pool.settings true (call_of 0 call.now)
+    ensures done { (growth : Growth) × IsPoolCall (M.kept machine.old).start true (call_of 0 call.now)
         (M.kept machine.old).log (M.kept machine.new).log growth result }
 
     ensures grows { K.faults keeper.old ≤ K.faults keeper.new }

@@ -5,7 +5,6 @@ ghost use Rattle.swarm_model.specs.Bytes.{Carries, brings};
 ghost use Rattle.swarm_model.specs.Fits.{fits};
 ghost use Rattle.swarm_model.specs.Answers.{answer};
 ghost use Rattle.swarm_model.specs.Deadlines.{due_entry};
-ghost use Rattle.swarm_model.specs.Effects.{opening};
 ghost use Rattle.swarm_model.specs.MachineState.{IsHistory};
 ghost use Rattle.swarm_model.specs.Points.{LacksRoom, is_ahead};
 ghost use Rattle.pool_doors.specs.Doors.{is_log_full, CountsKeeper};
@@ -103,12 +102,14 @@ pub fn serve<D: Desk>(alloc: Global, desk: &mut D, call: &PoolCall) -> Result<An
     ensures ready { D.ready desk.new }
     ensures no_other_blobs { HoldsNoOthers (D.records desk.old) (D.kept desk.old) → HoldsNoOthers (D.records desk.new) (D.kept desk.new) }
 
+    ensures history { IsHistory (D.kept desk.old) }
+    ensures start { (D.kept desk.new).start ≡ (D.kept desk.old).start }
     ensures settings { (D.kept desk.new).pool.settings ≡ (D.kept desk.old).pool.settings }
-    ensures point { IfOk result (λ a. IsPointAlone (opening (D.kept desk.old).pool.settings) (call_of (D.number desk.old) call.now) (D.kept desk.old).log (D.kept desk.new).log a.reply) }
+    ensures point { IfOk result (λ a. IsPointAlone (D.kept desk.old).start (call_of (D.number desk.old) call.now) (D.kept desk.old).log (D.kept desk.new).log a.reply) }
     ensures shows { IfOk result (HasFrontAndPieces (D.kept desk.new)) }
 
     // What was settled before it stopped stays in the log.
-    ensures stopped { IfErr result (λ f. IsOwnStop (opening (D.kept desk.old).pool.settings) (call_of (D.number desk.old) call.now) (D.kept desk.old).log (D.kept desk.new).log (is_log_full f)) }
+    ensures stopped { IfErr result (λ f. IsOwnStop (D.kept desk.old).start (call_of (D.number desk.old) call.now) (D.kept desk.old).log (D.kept desk.new).log (is_log_full f)) }
 
     ensures grows { D.faults desk.old ≤ D.faults desk.new }
     ensures failed { CountsKeeper result (D.faults desk.old) (D.faults desk.new) }

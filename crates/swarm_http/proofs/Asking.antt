@@ -74,12 +74,12 @@ left_refused settings head body a door shown left next same means (by_memory sta
 pub is_called : (settings : Settings) (writer : Writer) (head : RequestHead) (body : List ℕ) (call : DoorCall) (after : After) (front : Option ℕ) (result : Result Answered CallFault) (old new : Logs)
     → after ≡ after_of head → front ≡ front_of after → request_of settings head body ≡ Ok call.asks
     → IsSomeAnd (slice_get settings.pools (called_place call))
-    (λ pool. IsPoolCall pool writer.alone (record (call_of writer head call) { after = front }) (old (called_place call)) (new (called_place call)) call.growth result)
+    (λ pool. IsPoolCall (writer.starts (called_place call)) writer.alone (record (call_of writer head call) { after = front }) (old (called_place call)) (new (called_place call)) call.growth result)
     → Elsewhere (called_place call) old new → IsCalled settings writer head body call result old new
 is_called settings writer head body call after front result old new same seen means done elsewhere = record {
   means = means;
   done = subst (λ (f : Option ℕ). IsSomeAnd (slice_get settings.pools (called_place call))
-      (λ pool. IsPoolCall pool writer.alone (record (call_of writer head call) { after = f }) (old (called_place call)) (new (called_place call)) call.growth result))
+      (λ pool. IsPoolCall (writer.starts (called_place call)) writer.alone (record (call_of writer head call) { after = f }) (old (called_place call)) (new (called_place call)) call.growth result))
       (seen ∙ ap front_of same) done;
   elsewhere = elsewhere;
 }

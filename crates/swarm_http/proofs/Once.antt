@@ -1,5 +1,5 @@
 -- The entries of the exchanges stand in the logs once, and in order.
-use Rattle.std.proofs.Common.{◌≡◌, ℕ, Bool, true, false, List, [], ◌∷◌, ◌++◌, refl, sym, ap, ◌∙◌, append_assoc, append-nil, length, Option, Some, None, Result, Ok, Err, subst, inl, inr}
+use Rattle.std.proofs.Common.{◌≡◌, ℕ, Bool, true, false, List, [], ◌∷◌, ◌++◌, refl, sym, ap, ◌∙◌, append_assoc, append-nil, Option, Some, None, Result, Ok, Err, subst, inl, inr}
 use Rattle.std.specs.Prelude.{filter, IsTrue, IsSomeAnd, slice_get, option_map}
 use Rattle.std.specs.Bool.{MatchBool}
 use Rattle.std.specs.List.{flat_map, AllByRecursion}
@@ -10,11 +10,11 @@ use Rattle.std.proofs.lemmas.List.Elements.{filter-append}
 use Rattle.httparse.specs.Grammar.{RequestHead}
 use Rattle.swarm_model.specs.declared.pool_settings.Settings.{Settings}
 use Rattle.swarm_model.specs.declared.pool_settings.PoolSettings.{PoolSettings}
-use Rattle.swarm_model.specs.declared.pool_state.PoolState.{PoolState}
 use Rattle.swarm_model.specs.declared.entry.Entry.{Entry}
 use Rattle.swarm_model.specs.declared.entry.EntryKind.{EntryKind}
 use Rattle.swarm_model.specs.declared.reply.Reply.{Reply}
 use Rattle.swarm_model.specs.Answers.{decide, entry_at}
+use Rattle.swarm_model.specs.Bases.{Base, front}
 use Rattle.swarm_model.specs.History.{replay, moment_of}
 use Rattle.swarm_model.specs.Points.{is_ahead, IsByOther, IsSettled, Call, Growth, added, Grows, IsPoint, IsStopped}
 use Rattle.pool_doors.specs.declared.door.Answered.{Answered}
@@ -54,24 +54,24 @@ split : {A B C : Type 0} (b : Bool) → MatchBool b A B → (A → C) → (B →
 split true m f g = f m
 split false m f g = g m
 
-point_own : {start : PoolState} {call : Call} {old new : List Entry} {growth : Growth} {reply : Reply} → IsPoint start call old new growth reply
+point_own : {start : Base} {call : Call} {old new : List Entry} {growth : Growth} {reply : Reply} → IsPoint start call old new growth reply
     → AllByRecursion (HasPass call.pass) (added growth)
 point_own {start = start} {call = call} {old = old} {growth = growth} p =
-    let at = replay start (old ++ growth.others) in
+    let at = replay start.rows (old ++ growth.others) in
     let moment = moment_of at call.moment in
     let All : List Entry → Type 0 = AllByRecursion (HasPass call.pass) in
-    split (is_ahead (length (old ++ growth.others)) call.after) p.finds
+    split (is_ahead (front start (old ++ growth.others)) call.after) p.finds
     (λ early. both_own call.pass growth.settled (option_to_list growth.own) (subst All (sym early.settled_is) tt) (subst (λ (o : Option Entry). All (option_to_list o)) (sym early.own_is) tt))
     (λ served. both_own call.pass growth.settled (option_to_list growth.own) (settled_own call.pass moment growth.settled served.due_first)
     (subst (λ (o : Option Entry). All (option_to_list o)) served.entry (answer_own call.pass moment (decide (replay at growth.settled) call.caller moment call.request).entry)))
 
-stop_own : {start : PoolState} {call : Call} {old new : List Entry} {growth : Growth} {full : Bool} → IsStopped start call old new growth full
+stop_own : {start : Base} {call : Call} {old new : List Entry} {growth : Growth} {full : Bool} → IsStopped start call old new growth full
     → AllByRecursion (HasPass call.pass) (added growth)
 stop_own {start = start} {call = call} {old = old} {growth = growth} s =
-    both_own call.pass growth.settled (option_to_list growth.own) (settled_own call.pass (moment_of (replay start (old ++ growth.others)) call.moment) growth.settled s.due_first)
+    both_own call.pass growth.settled (option_to_list growth.own) (settled_own call.pass (moment_of (replay start.rows (old ++ growth.others)) call.moment) growth.settled s.due_first)
     (subst (λ (o : Option Entry). AllByRecursion (HasPass call.pass) (option_to_list o)) (sym s.no_own) tt)
 
-grows_once : {start : PoolState} {pass : ℕ} {old new : List Entry} {growth : Growth} (alone : Bool) → Grows start pass old new growth → AllByRecursion (HasPass pass) (added growth)
+grows_once : {start : Base} {pass : ℕ} {old new : List Entry} {growth : Growth} (alone : Bool) → Grows start pass old new growth → AllByRecursion (HasPass pass) (added growth)
     → (IsTrue alone → growth.others ≡ []) → GainsOnce pass alone old new (added growth)
 grows_once {pass = pass} {growth = growth} alone g own none = record {
   gained = growth.others ++ added growth;
@@ -81,10 +81,10 @@ grows_once {pass = pass} {growth = growth} alone g own none = record {
   no_others = λ t. ap (λ (l : List Entry). l ++ added growth) (none t);
 }
 
-pool_call_once : (pool : PoolSettings) (alone : Bool) (call : Call) (old new : List Entry) (growth : Growth) (result : Result Answered CallFault)
-    → IsPoolCall pool alone call old new growth result → GainsOnce call.pass alone old new (added growth)
-pool_call_once pool alone call old new growth (Ok reply) d = grows_once alone d.ends.point.grows (point_own d.ends.point) d.no_others
-pool_call_once pool alone call old new growth (Err fault) d = grows_once alone d.ends.grows (stop_own d.ends) d.no_others
+pool_call_once : (start : Base) (alone : Bool) (call : Call) (old new : List Entry) (growth : Growth) (result : Result Answered CallFault)
+    → IsPoolCall start alone call old new growth result → GainsOnce call.pass alone old new (added growth)
+pool_call_once start alone call old new growth (Ok reply) d = grows_once alone d.ends.point.grows (point_own d.ends.point) d.no_others
+pool_call_once start alone call old new growth (Err fault) d = grows_once alone d.ends.grows (stop_own d.ends) d.no_others
 
 nothing_gained : (pass : ℕ) (alone : Bool) (log : List Entry) → GainsOnce pass alone log log []
 nothing_gained pass alone log = record { gained = []; grown = sym (append-nil log); exactly = refl; no_others = λ _. refl }
@@ -98,8 +98,8 @@ called_once : (settings : Settings) (writer : Writer) (head : RequestHead) (body
 called_once settings writer head body call result old new c p =
     let at = called_place call in
     let here : GainsOnce (writer.numbers at) writer.alone (old at) (new at) (added call.growth) =
-    some_and (slice_get settings.pools at) (λ (pool : PoolSettings). IsPoolCall pool writer.alone (call_of writer head call) (old at) (new at) call.growth result) c.done
-    (λ pool d. pool_call_once pool writer.alone (call_of writer head call) (old at) (new at) call.growth result d) in
+    some_and (slice_get settings.pools at) (λ (pool : PoolSettings). IsPoolCall (writer.starts at) writer.alone (call_of writer head call) (old at) (new at) call.growth result) c.done
+    (λ pool d. pool_call_once (writer.starts at) writer.alone (call_of writer head call) (old at) (new at) call.growth result d) in
     elim (eqb_tells (called_place call) p) [
       | inl e ↦ rw e.0 (subst (λ (q : ℕ). GainsOnce (writer.numbers q) writer.alone (old q) (new q) (added call.growth)) e.1 here)
       | inr e ↦ rw (e.0, c.elsewhere p (λ s. e.1 (sym s))) (nothing_gained (writer.numbers p) writer.alone (old p))

@@ -98,7 +98,7 @@ call_of writer head call =
 pub record IsCalled (settings : Settings) (writer : Writer) (head : RequestHead) (body : List ℕ) (call : DoorCall) (result : Result Answered CallFault) (old new : Logs) : Type 0 where
   pub means : request_of settings head body ≡ Ok call.asks
   pub done : IsSomeAnd (slice_get settings.pools (called_place call))
-      (λ pool. IsPoolCall pool writer.alone (call_of writer head call) (old (called_place call)) (new (called_place call)) call.growth result)
+      (λ pool. IsPoolCall (writer.starts (called_place call)) writer.alone (call_of writer head call) (old (called_place call)) (new (called_place call)) call.growth result)
   pub elsewhere : Elsewhere (called_place call) old new
 
 -- what a request with this head and body does to the logs

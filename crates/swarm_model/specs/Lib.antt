@@ -12,6 +12,7 @@ pub mod Reuse
 pub mod Answers
 pub mod Entries
 pub mod Effects
+pub mod Bases
 pub mod Blobs
 pub mod Uses
 pub mod Output

@@ -18,24 +18,27 @@ use Rattle.swarm_model.specs.Finding.{is_final, task_of, bot_named}
 use Rattle.swarm_model.specs.Answers.{named_task, chunks_shown}
 use Rattle.swarm_model.specs.Bytes.{HeldBytes, filled, held_after_fill}
 use Rattle.swarm_model.specs.Claims.{IsRightClaim}
-use Rattle.swarm_model.specs.Effects.{opening, new_row, fresh_chunk}
+use Rattle.swarm_model.specs.Effects.{new_row, fresh_chunk}
+use Rattle.swarm_model.specs.Bases.{Base, empty_base}
 use Rattle.swarm_model.specs.History.{replay, IsLegal}
 use Rattle.swarm_model.specs.Output.{AreBytesFrom}
 use Rattle.swarm_model.specs.ReuseLaw.{HasSource}
 use Rattle.swarm_model.specs.Soundness.{sent_key, HasKey}
 use Rattle.swarm_model.specs.Verdicts.{verdict}
 
--- the rows, the log, the entry that is made ready, and the bytes that are held
+-- where the log begins, the rows, the log, the entry that is made ready, and the bytes that are held
 pub record MachineState : Type 0 where
+  pub start : Base
   pub pool : PoolState
   pub log : List Entry
   pub ready : Option Entry
   pub held : HeldBytes
 
--- the rows are the replay of the log, and the log is legal
+-- nothing led to where the log begins, the rows are the replay of the log from there, and the log is legal
 pub record IsHistory (kept : MachineState) : Type 0 where
-  pub replayed : kept.pool ≡ replay (opening kept.pool.settings) kept.log
-  pub legal : IsLegal (opening kept.pool.settings) kept.log
+  pub opened : kept.start ≡ empty_base kept.pool.settings
+  pub replayed : kept.pool ≡ replay kept.start.rows kept.log
+  pub legal : IsLegal kept.start.rows kept.log
 
 -- each blob has its bytes
 abbrev pub AreHeld : MachineState → Type 0

@@ -1,5 +1,5 @@
 -- What one call does at its point of a log that others may share.
-use Rattle.std.specs.Prelude.{◌≡◌, ◌≢◌, ℕ, Bool, false, ◌≤◌, nat_lt, IsTrue, List, [], ◌++◌, length, Option, Some, None, IsSomeAnd}
+use Rattle.std.specs.Prelude.{◌≡◌, ◌≢◌, ℕ, Bool, false, ◌≤◌, nat_lt, IsTrue, List, [], ◌++◌, Option, Some, None, IsSomeAnd}
 use Rattle.std.specs.Bool.{MatchBool, OnTrue}
 use Rattle.std.specs.Option.{option_or, option_to_list}
 use Rattle.std.specs.List.{AllByRecursion}
@@ -10,15 +10,16 @@ use Rattle.swarm_model.specs.declared.answer.Answer.{Answer}
 use Rattle.swarm_model.specs.declared.reply.Reply.{Reply}
 use Rattle.swarm_model.specs.declared.reply.Reply.TheVariants as reply
 use Rattle.swarm_model.specs.declared.rule.Rule.TheVariants as rule
+use Rattle.swarm_model.specs.Bases.{Base, front}
 use Rattle.swarm_model.specs.Entries.{is_deadline}
 use Rattle.swarm_model.specs.Deadlines.{due_entry}
 use Rattle.swarm_model.specs.Answers.{answer}
 use Rattle.swarm_model.specs.History.{replay, IsLegal, has_room, moment_of}
 
--- the front that a caller has seen is longer than the log
+-- a caller has seen a longer log than the one that is there
 abbrev pub is_ahead : ℕ → Option ℕ → Bool
 is_ahead size None = false
-is_ahead size (Some front) = nat_lt size front
+is_ahead size (Some seen) = nat_lt size seen
 
 -- an entry of another pass
 abbrev pub IsByOther : ℕ → Entry → Type 0
@@ -55,8 +56,8 @@ abbrev pub added : Growth → List Entry
 added growth = growth.settled ++ option_to_list growth.own
 
 -- the log grows by these entries, in this order, and is legal
-pub record Grows (start : PoolState) (pass : ℕ) (old new : List Entry) (growth : Growth) : Type 0 where
-  pub legal : IsLegal start new
+pub record Grows (start : Base) (pass : ℕ) (old new : List Entry) (growth : Growth) : Type 0 where
+  pub legal : IsLegal start.rows new
   pub parts : new ≡ old ++ (growth.others ++ added growth)
   pub by_others : AllByRecursion (IsByOther pass) growth.others
 
@@ -73,14 +74,14 @@ pub record IsServed (s : PoolState) (call : Call) (growth : Growth) (answered : 
   pub reply : (answer_to (replay s growth.settled) call).reply ≡ answered
   pub entry : (answer_to (replay s growth.settled) call).entry ≡ growth.own
 
--- a call that finds this log, of a pool with these rows
-abbrev pub Finds : List Entry → PoolState → Call → Growth → Reply → Type 0
-Finds log s call growth answered = MatchBool (is_ahead (length log) call.after) (IsFrontAhead (length log) growth answered) (IsServed s (taken_by s call) growth answered)
+-- a call that finds a log of this length, of a pool with these rows
+abbrev pub Finds : ℕ → PoolState → Call → Growth → Reply → Type 0
+Finds size s call growth answered = MatchBool (is_ahead size call.after) (IsFrontAhead size growth answered) (IsServed s (taken_by s call) growth answered)
 
 -- A call's point: others' entries came first, then what was due, and then the request's own.
-pub record IsPoint (start : PoolState) (call : Call) (old new : List Entry) (growth : Growth) (answered : Reply) : Type 0 where
+pub record IsPoint (start : Base) (call : Call) (old new : List Entry) (growth : Growth) (answered : Reply) : Type 0 where
   pub grows : Grows start call.pass old new growth
-  pub finds : Finds (old ++ growth.others) (replay start (old ++ growth.others)) call growth answered
+  pub finds : Finds (front start (old ++ growth.others)) (replay start.rows (old ++ growth.others)) call growth answered
 
 -- the entry that comes next: that of a deadline, or else the request's own
 abbrev pub next_entry : PoolState → Call → Option Entry
@@ -92,9 +93,9 @@ LacksRoom s log next = IsSomeAnd next (λ entry. has_room s.settings log entry �
 
 -- A call that stopped: what was due was settled in part, and the request added nothing. Where it
 -- stopped for a full log, the log has no room for the entry that comes next.
-pub record IsStopped (start : PoolState) (call : Call) (old new : List Entry) (growth : Growth) (is_full : Bool) : Type 0 where
+pub record IsStopped (start : Base) (call : Call) (old new : List Entry) (growth : Growth) (is_full : Bool) : Type 0 where
   pub grows : Grows start call.pass old new growth
   pub no_own : growth.own ≡ None
-  pub not_ahead : is_ahead (length (old ++ growth.others)) call.after ≡ false
-  pub due_first : AllByRecursion (IsSettled call.pass (moment_of (replay start (old ++ growth.others)) call.moment)) growth.settled
-  pub full : OnTrue is_full (LacksRoom start new (next_entry (replay start new) (taken_by (replay start (old ++ growth.others)) call)))
+  pub not_ahead : is_ahead (front start (old ++ growth.others)) call.after ≡ false
+  pub due_first : AllByRecursion (IsSettled call.pass (moment_of (replay start.rows (old ++ growth.others)) call.moment)) growth.settled
+  pub full : OnTrue is_full (LacksRoom start.rows new (next_entry (replay start.rows new) (taken_by (replay start.rows (old ++ growth.others)) call)))

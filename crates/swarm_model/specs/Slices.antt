@@ -1,7 +1,7 @@
 -- Which slice a task comes to, and which task a bot gets.
 use Rattle.std.specs.Prelude.{ℕ, Bool, false, ◌==◌, ◌&&◌, ◌||◌, not, nat_lt, List, drop, Option, Some, None, slice_get, if◌then◌else◌}
 use Rattle.std.specs.List.{list_any, filter, fold, position_from}
-use Rattle.std.specs.Option.{option_map_or}
+use Rattle.std.specs.Option.{option_map, option_map_or}
 use Rattle.dimensions.specs.declared.dim_set.DimSet.{DimSet}
 use Rattle.dimensions.specs.declared.bot_dims.BotDims.{BotDims}
 use Rattle.dimensions.specs.Rules.{is_empty}
@@ -40,9 +40,13 @@ abbrev pub takes_slice : BotDims → Option Slice → Bool
 takes_slice dims None = false
 takes_slice dims (Some slice) = matches dims slice.properties.dimensions
 
--- the run of this bot was lost, and another bot is to run the task
+-- the bot whose run of the task was lost: another bot is to run it
+abbrev pub kept_from : TaskRow → Option ℕ
+kept_from task = option_map (λ lost. lost.attempt.bot) task.retried
+
+-- that is the bot of this number
 abbrev pub is_kept_from : ℕ → TaskRow → Bool
-is_kept_from bot task = option_map_or (λ lost. lost.attempt.bot == bot) task.retried false
+is_kept_from bot task = option_map_or (λ other. other == bot) (kept_from task) false
 
 -- a pending task whose current slice a bot of these dimensions matches, and that is not kept from that bot
 abbrev pub waits_for : ℕ → BotDims → TaskRow → Bool

@@ -42,6 +42,18 @@ pub struct Attempt {
     pub last_chunk: Option<Chunk>,
 }
 
+impl Attempt {
+    ghost use Rattle.std.specs.Prelude.{◌≡◌};
+    ghost use Rattle.swarm_model.specs.Answers.{is_claim};
+
+    /// Whether the bot of this number claimed the run under this id.
+    pub fn is_claim(&self, bot: u32, claim: &Text) -> bool
+        ensures { result ≡ is_claim bot claim.now self.now }
+    {
+        self.bot == bot && self.claim == *claim
+    }
+}
+
 impl TryCopy for Last {
     fn try_copy(&self, alloc: Global) -> Result<Last, AllocError> {
         Ok(Last {

@@ -1,6 +1,5 @@
 use crate::{Chunk, Last, TaskState};
-use dimensions::{BotDims, Text, TryCopy};
-use std::alloc::{AllocError, Global};
+use dimensions::{BotDims, Text};
 use task_props::{Digest, SharedTask};
 
 /// What becomes of a task whose slice has run out.
@@ -115,90 +114,4 @@ pub struct Entry {
     pub moment: u64,
     pub pass: u32,
     pub kind: EntryKind,
-}
-
-impl TryCopy for EntryKind {
-    fn try_copy(&self, alloc: Global) -> Result<EntryKind, AllocError> {
-        Ok(match self {
-            EntryKind::Slice { t, to } => EntryKind::Slice { t: *t, to: *to },
-            EntryKind::Silence { t } => EntryKind::Silence { t: *t },
-            EntryKind::Dead { b } => EntryKind::Dead { b: *b },
-            EntryKind::Blob { n, kept } => EntryKind::Blob { n: *n, kept: *kept },
-            EntryKind::New {
-                t,
-                who,
-                request,
-                state,
-                slice,
-                from,
-            } => EntryKind::New {
-                t: *t,
-                who: who.try_copy(alloc)?,
-                request: request.try_copy(alloc)?,
-                state: *state,
-                slice: *slice,
-                from: *from,
-            },
-            EntryKind::Cancel { t } => EntryKind::Cancel { t: *t },
-            EntryKind::Kill { t } => EntryKind::Kill { t: *t },
-            EntryKind::Handshake {
-                b,
-                id,
-                session,
-                dims,
-                q,
-            } => EntryKind::Handshake {
-                b: *b,
-                id: id.try_copy(alloc)?,
-                session: session.try_copy(alloc)?,
-                dims: dims.try_copy(alloc)?,
-                q: q.try_copy(alloc)?,
-            },
-            EntryKind::Poll { b, dims, q, hint } => EntryKind::Poll {
-                b: *b,
-                dims: dims.try_copy(alloc)?,
-                q: q.try_copy(alloc)?,
-                hint: *hint,
-            },
-            EntryKind::Claim { b, t, claim } => EntryKind::Claim {
-                b: *b,
-                t: *t,
-                claim: claim.try_copy(alloc)?,
-            },
-            EntryKind::Contact { b } => EntryKind::Contact { b: *b },
-            EntryKind::Event { b, e, text } => EntryKind::Event {
-                b: *b,
-                e: *e,
-                text: text.try_copy(alloc)?,
-            },
-            EntryKind::Update {
-                b,
-                t,
-                try_no,
-                chunk,
-                last,
-            } => EntryKind::Update {
-                b: *b,
-                t: *t,
-                try_no: *try_no,
-                chunk: *chunk,
-                last: last.try_copy(alloc)?,
-            },
-            EntryKind::Terminate { b } => EntryKind::Terminate { b: *b },
-            EntryKind::Put { digest, size } => EntryKind::Put {
-                digest: *digest,
-                size: *size,
-            },
-        })
-    }
-}
-
-impl TryCopy for Entry {
-    fn try_copy(&self, alloc: Global) -> Result<Entry, AllocError> {
-        Ok(Entry {
-            moment: self.moment,
-            pass: self.pass,
-            kind: self.kind.try_copy(alloc)?,
-        })
-    }
 }

@@ -2,8 +2,8 @@
 //!
 //! `specs/` says, over whole lists: what a checked request may hold (`Fits`), how each request is
 //! answered (`Answers`), what an entry of the log weighs and asks for (`Entries`), what it does to
-//! the rows (`Effects`), which logs are legal and what one call does at its point of a shared log
-//! (`History`). [`Machine`] is what keeps such a log; its contract is these definitions alone.
+//! the rows (`Effects`), where a log begins (`Bases`), which logs are legal (`History`) and what one
+//! call does at its point of a shared log (`Points`). [`Machine`] is what keeps such a log; its contract is these definitions alone.
 //! The rows of blobs are those of `blob_rows`, which [`BlobRow`] is passed on from; [`allowed`]
 //! tells whether a pool gives a caller a permission. [`due_uncounted`], [`answer_uncounted`] and
 //! [`task_uncounted`] ask a machine where nobody counts the rows that are read. The crate has no body

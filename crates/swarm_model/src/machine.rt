@@ -1,4 +1,4 @@
-ghost use Rattle.std.specs.Prelude.{◌≡◌, ◌≤◌, ◌^◌, ◌↔◌, ◌++◌, ◌∷◌, [], length, true, false, None, Some, Ok, IsTrue, IfSome, IfOk, OnOk, OnErr, IsErrOf, option_map, slice_get};
+ghost use Rattle.std.specs.Prelude.{◌≡◌, ◌≤◌, ◌^◌, ◌↔◌, ◌++◌, ◌∷◌, [], length, true, false, None, Some, Ok, IsTrue, IfSome, IfOk, OnOk, OnErr, IsErrOf, option_map};
 ghost use Rattle.std.specs.List.{count_by, sum_by};
 ghost use Rattle.std.specs.Option.{option_copied};
 ghost use Rattle.sha2.specs.Sha256.{sha256};
@@ -9,6 +9,7 @@ ghost use Rattle.swarm_model.specs.Answers.{answer};
 ghost use Rattle.swarm_model.specs.Bytes.{nothing_held, brings, held_after};
 ghost use Rattle.swarm_model.specs.Claims.{HasRightRuns};
 ghost use Rattle.swarm_model.specs.Effects.{opening, after};
+ghost use Rattle.swarm_model.specs.Bases.{empty_base, front, entry_from};
 ghost use Rattle.swarm_model.specs.Deadlines.{due_entry};
 ghost use Rattle.swarm_model.specs.History.{MayFollow, has_room, tally};
 ghost use Rattle.swarm_model.specs.MachineState.{IsHistory, IsRight, KeepsFinals, ShowsVerdict, ShowsOutput, ActsOnce, TakesOutcome, Fills};
@@ -40,7 +41,7 @@ pub trait Machine: Sized {
 
     fn new(alloc: Global, settings: PoolSettings) -> Result<Self, AllocError>
         requires { IsTrue (keeps_rules settings) }
-        ensures { IfOk result (λ m. kept m ≡ record { pool = opening settings; log = []; ready = None; held = nothing_held }) };
+        ensures { IfOk result (λ m. kept m ≡ record { start = empty_base settings; pool = opening settings; log = []; ready = None; held = nothing_held }) };
 
     /// The entry of the first deadline that has come by the moment.
     fn due<L: Ledger>(&self, moment: u64, pass: u32, steps: &mut Steps<L>) -> Option<Entry>
@@ -94,13 +95,15 @@ pub trait Machine: Sized {
         ensures named { IfSome result (λ b. sha256 b.now ≡ digest.now) }
         ensures sized { IfSome result (λ b. IsTrue (has_blob (kept self.now).pool digest.now (length b.now))) };
 
-    /// The length of the log.
+    /// The length of the log, with the entries that led to its base.
     fn length(&self) -> u64
-        ensures length { result ≡ length (kept self.now).log }
+        ensures length { result ≡ front (kept self.now).start (kept self.now).log }
         ensures history { IsHistory (kept self.now) };
 
+    /// The entry at a place that counts from the first entry of all. None of those that led to the base is
+    /// there.
     fn entry(&self, at: u64) -> Option<&Entry>
-        ensures { option_copied result ≡ slice_get (kept self.now).log at };
+        ensures { option_copied result ≡ entry_from (kept self.now).start (kept self.now).log at };
 
     /// How many tasks are in each of the nine states, in the order of [`TaskState`](crate::TaskState).
     fn tally(&self) -> [u64; 9]

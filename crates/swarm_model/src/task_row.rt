@@ -28,10 +28,10 @@ impl TaskRow {
     ghost use Rattle.std.specs.Prelude.{◌≡◌};
     ghost use Rattle.std.specs.Option.{option_copied};
     ghost use Rattle.swarm_model.specs.Finding.{has_state};
-    ghost use Rattle.swarm_model.specs.Slices.{current_slice, is_kept_from};
+    ghost use Rattle.swarm_model.specs.Slices.{current_slice, kept_from, is_kept_from};
     ghost use Rattle.swarm_model.specs.Effects.{next_try};
     ghost use Rattle.swarm_model.specs.Views.{last_of};
-    ghost use Rattle.swarm_model.specs.Answers.{has_try, try_of};
+    ghost use Rattle.swarm_model.specs.Answers.{is_claimed, has_try, try_of};
 
     pub fn has_state(&self, state: TaskState) -> bool
         ensures { result ≡ has_state state self.now }
@@ -85,13 +85,33 @@ impl TaskRow {
         }
     }
 
-    /// Whether the bot of this number ran the task before, so that it doesn't get it again.
+    /// Whether the bot of this number claimed the task's run under this id.
+    pub fn is_claimed(&self, bot: u32, claim: &Text) -> bool
+        ensures { result ≡ is_claimed bot claim.now self.now }
+    {
+        match &self.attempt {
+            None => false,
+            Some(attempt) => attempt.is_claim(bot, claim),
+        }
+    }
+
+    /// The bot that ran the task before, which doesn't get it again.
+    pub fn kept_from(&self) -> Option<u32>
+        ensures { result ≡ kept_from self.now }
+    {
+        match self.retried.as_ref() {
+            None => None,
+            Some(lost) => Some(lost.attempt.bot),
+        }
+    }
+
+    /// Whether that is the bot of this number.
     pub fn is_kept_from(&self, bot: u32) -> bool
         ensures { result ≡ is_kept_from bot self.now }
     {
-        match self.retried.as_ref() {
+        match self.kept_from() {
             None => false,
-            Some(lost) => lost.attempt.bot == bot,
+            Some(other) => other == bot,
         }
     }
 }

@@ -5,6 +5,7 @@ use Rattle.std.proofs.lemmas.List.Elements.{All-head, All-tail}
 use Rattle.swarm_model.specs.declared.entry.Entry.{Entry}
 use Rattle.swarm_model.specs.declared.pool_settings.PoolSettings.{PoolSettings}
 use Rattle.swarm_model.specs.MachineState.{MachineState}
+use Rattle.swarm_model.specs.Bases.{Base, empty_base}
 use Rattle.swarm_model.specs.Effects.{opening}
 use Rattle.swarm_model.specs.History.{IsLegal}
 use Rattle.swarm_history.specs.Machines.{logs_of, pools_of as machine_pools}
@@ -27,7 +28,7 @@ pub record IsKept (pool : PoolSettings) (v : PoolView) (log : List Entry) : Type
 module _ {V : Type 0} (fixed : V → Lasting) (log : V → List Entry) where
   kept_of : (pool : PoolSettings) (start : List Entry) (v : PoolView) (kept : MachineState) → start ≡ [] → IsClosed pool start v kept → IsKept pool v kept.log
   kept_of pool start v kept none c = record {
-    legal = subst (λ (s : PoolSettings). IsLegal (opening s) kept.log) c.settings_are c.history.legal;
+    legal = subst (λ (b : Base). IsLegal b.rows kept.log) (c.history.opened ∙ ap empty_base c.settings_are) c.history.legal;
     seen = c.seen;
     listed = subst (AllByRecursion (λ (e : Entry). 0 < times e.pass v.numbers)) (sym (c.no_others.parts ∙ ap (λ (l : List Entry). l ++ c.no_others.more) none)) c.no_others.by_listed;
   }

@@ -1,8 +1,11 @@
 -- Passes that are split for workers, and the doors that are made of them.
-use Rattle.std.proofs.Common.{◌≡◌, ℕ, zero, suc, ◌+◌, ◌<◌, List, [], ◌∷◌, ◌++◌, length, map, Option, refl, sym, ap, subst, ◌∙◌, arith, append_assoc, append-nil}
+use Rattle.std.proofs.Common.{◌≡◌, ℕ, zero, suc, ◌+◌, ◌<◌, List, [], ◌∷◌, ◌++◌, length, map, Option, IfSome, refl, sym, ap, subst, ◌∙◌, arith, append_assoc, append-nil}
+use Rattle.std.specs.Prelude.{slice_get}
 use Rattle.std.proofs.lemmas.List.{get_or_past, get_or-map, length-map, map-append}
 use Rattle.swarm_model.specs.declared.entry.Entry.{Entry}
+use Rattle.swarm_model.specs.declared.pool_settings.PoolSettings.{PoolSettings}
 use Rattle.swarm_model.specs.declared.pool_settings.Settings.{Settings}
+use Rattle.swarm_model.specs.Bases.{empty_base}
 use Rattle.pool_doors.specs.Doors.{DoorState}
 use Rattle.turnstile.specs.declared.pass.Pass.{Pass}
 use Rattle.turnstile.specs.declared.turnstile.Turnstile.{Turnstile}
@@ -10,7 +13,7 @@ use Rattle.turnstile.specs.Passes.{fixed_of}
 use Rattle.shared_doors.specs.declared.view.Lasting.{Lasting}
 use Rattle.shared_doors.specs.declared.view.PoolView.{PoolView}
 use Rattle.shared_doors.specs.Joined.{MaySplit, Splits}
-use Rattle.shared_doors.specs.SharedDoors.{identities_of, most_of, pools_of, shared_door}
+use Rattle.shared_doors.specs.SharedDoors.{identities_of, most_of, pools_of, shared_door, start_of}
 use Rattle.shared_doors.specs.Views.{AreOf, first_view, nothing, view_at, view_or, views}
 use Rattle.swarm_workers.specs.Crews.{AreNewDoors, IsNewDoor, KnowsMade}
 use Rattle.swarm_workers.specs.Splits.{AreShares, IsNewPass, IsShare}
@@ -48,6 +51,12 @@ turns_none (v ∷ vs) none =
     let here : v.turns ≡ 0 = none 0 (omega arith) in
     let rest = turns_none vs (λ p low. none (suc p) (omega (arith, low))) in
     rw (here, rest) refl
+
+-- nothing led to where each log begins
+starts_at : (pools : List PoolSettings) (p : ℕ) → IfSome (slice_get pools p) (λ pool. start_of pools p ≡ empty_base pool)
+starts_at [] p = tt
+starts_at (pool ∷ pools) zero = refl
+starts_at (pool ∷ pools) (suc p) = starts_at pools p
 
 pub no_items : {A : Type 0} (xs : List A) → length xs ≡ 0 → xs ≡ []
 no_items [] none = refl
@@ -140,6 +149,7 @@ module _ {V : Type 0} (fixed : V → Lasting) (ts : List (Turnstile V Entry Last
   shared_new store number passes share = record {
     settings_are = refl;
     logs_are = refl;
+    starts = starts_at (pools_of fixed ts);
     seen = seen_none (views passes) (λ p low. (share.new p (low_share passes p share.own low)).seen);
     alone = refl;
     calls = turns_none (views passes) (λ p low. (share.new p (low_share passes p share.own low)).turns);

@@ -1,10 +1,11 @@
 -- Workers, before and after they worked.
-use Rattle.std.specs.Prelude.{◌≡◌, ℕ, ◌+◌, ◌*◌, ◌<◌, false, List, [], ◌∷◌, ◌++◌, length, Option, ⊤}
+use Rattle.std.specs.Prelude.{◌≡◌, ℕ, ◌+◌, ◌*◌, ◌<◌, false, List, [], ◌∷◌, ◌++◌, length, Option, IfSome, slice_get, ⊤}
 use Rattle.std.specs.List.{All, flat_map}
 use Rattle.sw_base.specs.Acceptors.{AcceptorState}
 use Rattle.sw_base.specs.Listeners.{ListenerState, Shuts}
 use Rattle.swarm_model.specs.declared.entry.Entry.{Entry}
 use Rattle.swarm_model.specs.declared.pool_settings.Settings.{Settings}
+use Rattle.swarm_model.specs.Bases.{empty_base}
 use Rattle.pool_doors.specs.Doors.{DoorState}
 use Rattle.swarm_http.specs.Answered.{KeepsDoor}
 use Rattle.turnstile.specs.Numbers.{times, own}
@@ -22,11 +23,12 @@ pub record WorkerState : Type 0 where
   pub door : DoorState
   pub worked : Worked
 
--- A door of these settings to these logs, to which others write as well: it has seen nothing, was not called, and has a pass of this
--- number at each place.
+-- A door of these settings to these logs, to which nothing led and others write as well: it has seen nothing, was not called, and has a
+-- pass of this number at each place.
 pub record IsNewDoor (settings : Settings) (logs : ℕ → List ℕ) (number : ℕ) (door : DoorState) : Type 0 where
   pub settings_are : door.settings ≡ settings
   pub logs_are : door.writer.logs ≡ logs
+  pub starts : (p : ℕ) → IfSome (slice_get settings.pools p) (λ pool. door.writer.starts p ≡ empty_base pool)
   pub seen : (p : ℕ) → door.seen p ≡ []
   pub alone : door.writer.alone ≡ false
   pub calls : door.calls ≡ 0

@@ -1,6 +1,7 @@
 -- What the turn found stands before the call's point.
 use Rattle.std.proofs.Common.{ℕ, IsTrue, sym, ap, subst, ◌∙◌}
 use Rattle.swarm_model.specs.declared.pool_settings.PoolSettings.{PoolSettings}
+use Rattle.swarm_model.specs.Bases.{empty_base}
 use Rattle.swarm_model.specs.Fits.{fits}
 use Rattle.swarm_model.specs.Points.{Call}
 use Rattle.swarm_history.specs.Calls.{call_of}
@@ -40,10 +41,11 @@ returns-clause-done g c =
     let ready = ready_first (λ k. g.M.Machine.kept k.machine) g.K.Keeper.SURE t lock e.lock c.requires.sure e.turn c.requires.standing e.value in
     let the_call : ℕ → Call = λ n. call_of n c.args.call.now in
     let there = of_value (λ k. g.M.Machine.kept k.machine) no_state t in
-    turn_call (fixed_of (lasting_in g.M.Machine.kept) lock).settings there.pool.settings
+    turn_call (empty_base (fixed_of (lasting_in g.M.Machine.kept) lock).settings) there.start
     (the_call (number c.args.pass)) (the_call (number (pass_of t))) (seen c.args.pass) (raised t) there.log (seen c.leave.result)
     (of_value (λ k. g.M.Machine.kept k.machine) no_state next) (told c.args.pass) c.serve-result.result
-    e.found e.fresh (settings_at (λ k. g.M.Machine.kept k.machine) g.K.Keeper.SURE t ready lock e.lock) (ap the_call e.same.0.0)
+    e.found e.fresh (c.serve-result.ensures.history.opened ∙ ap empty_base (settings_at (λ k. g.M.Machine.kept k.machine) g.K.Keeper.SURE t ready lock e.lock))
+    c.serve-result.ensures.start (ap the_call e.same.0.0)
     (log_now (λ k. g.M.Machine.kept k.machine) g.K.Keeper.SURE t ready)
     (log_now (λ k. g.M.Machine.kept k.machine) g.K.Keeper.SURE next c.serve-result.ensures.ready ∙ sym c.leave.ensures.seen)
     c.serve-result.ensures.point c.serve-result.ensures.shows c.serve-result.ensures.stopped

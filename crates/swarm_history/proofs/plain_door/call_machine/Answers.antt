@@ -5,6 +5,6 @@ use Rattle.swarm_history.proofs.plain_door.call_machine.Goals as goal
 
 pub returns-clause-done : goal.returns-clause-done
 returns-clause-done g c =
-    let done = served_call {pool = (g.M.Machine.kept c.args.machine.now).pool.settings} (g.M.Machine.kept c.serve-result.new.desk.machine.now) c.serve-result.result
-    c.serve-result.ensures.point c.serve-result.ensures.shows c.serve-result.ensures.stopped in
+    let done = served_call {start = (g.M.Machine.kept c.args.machine.now).start} (g.M.Machine.kept c.serve-result.new.desk.machine.now) c.serve-result.result
+    c.serve-result.ensures.start c.serve-result.ensures.point c.serve-result.ensures.shows c.serve-result.ensures.stopped in
     search rules

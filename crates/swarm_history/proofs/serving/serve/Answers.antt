@@ -1,13 +1,13 @@
 -- The call's point, or what stopped it.
-use Rattle.std.proofs.Common.{◌≡◌, ◌^◌, ℕ, Bool, true, false, length, min, max, arith, refl, sym, ap, ◌∙◌, subst, Option, None, Result, Ok, Err, IfOk, OnErr, IfErr}
+use Rattle.std.proofs.Common.{◌≡◌, ◌^◌, ℕ, Bool, true, false, min, max, arith, refl, sym, ap, ◌∙◌, subst, Option, None, Result, Ok, Err, IfOk, OnErr, IfErr}
 use Rattle.std.proofs.lemmas.Result.{IfOk-weaker, err_from_is_err_and}
 use Rattle.swarm_model.specs.declared.pool_state.PoolState.{PoolState}
 use Rattle.swarm_model.specs.declared.reply.Reply.TheVariants as reply
 use Rattle.swarm_model.specs.declared.rule.Rule.TheVariants as rule
 use Rattle.std.specs.Bool.{OnTrue}
 use Rattle.swarm_model.specs.Answers.{answer}
+use Rattle.swarm_model.specs.Bases.{front}
 use Rattle.swarm_model.specs.Deadlines.{due_entry}
-use Rattle.swarm_model.specs.Effects.{opening}
 use Rattle.swarm_model.specs.History.{moment_of}
 use Rattle.swarm_model.specs.Points.{is_ahead, LacksRoom}
 use Rattle.pool_doors.specs.declared.door.Answered.{Answered}
@@ -18,8 +18,8 @@ use Rattle.swarm_history.proofs.OwnPoints.{sound_history, early_point, due_next,
 use Rattle.swarm_history.proofs.serving.serve.Goals as goal
 
 -- what the test of a front says of the log
-ahead_is : (size found : ℕ) (front : Option ℕ) (decision truth : Bool) → found ≡ size → decision ≡ is_ahead found front → decision ≡ truth → is_ahead size front ≡ truth
-ahead_is size found front decision truth counted tests is = ap (λ n. is_ahead n front) (sym counted) ∙ sym tests ∙ is
+ahead_is : (size found : ℕ) (seen : Option ℕ) (decision truth : Bool) → found ≡ size → decision ≡ is_ahead found seen → decision ≡ truth → is_ahead size seen ≡ truth
+ahead_is size found seen decision truth counted tests is = ap (λ n. is_ahead n seen) (sym counted) ∙ sym tests ∙ is
 
 -- the moment that was reckoned
 moment_is : (s : PoolState) (moment last low at : ℕ) → last ≡ s.last → low ≡ min moment (2 ^ 40) → at ≡ max last low → at ≡ moment_of s moment
@@ -34,11 +34,11 @@ pub returns-then-is_ahead-clause-point : goal.returns-then-is_ahead-clause-point
 returns-then-is_ahead-clause-point g c =
     let k = g.D.Desk.kept c.args.desk.now in
     let the_call = call_of (g.D.Desk.number c.args.desk.now) c.args.call.now in
-    let ahead = ahead_is (length k.log) c.length-length.result c.args.call.now.after c.is_ahead.result true c.length-length.ensures.length c.is_ahead.ensures c.if-is_ahead.true in
+    let ahead = ahead_is (front k.start k.log) c.length-length.result c.args.call.now.after c.is_ahead.result true c.length-length.ensures.length c.is_ahead.ensures c.if-is_ahead.true in
     rw c.length-length.ensures.same
-    (subst (λ (n : ℕ). IsPointAlone (opening k.pool.settings) the_call k.log k.log (reply.No (rule.FrontAhead n)))
+    (subst (λ (n : ℕ). IsPointAlone k.start the_call k.log k.log (reply.No (rule.FrontAhead n)))
     (sym c.length-length.ensures.length)
-    (early_point (opening k.pool.settings) the_call k.log c.length-length.ensures.history.legal ahead))
+    (early_point k.start the_call k.log c.length-length.ensures.history.legal ahead))
 
 pub settle-requires : goal.settle-requires
 settle-requires g c =
@@ -75,7 +75,7 @@ returns-in_err-settle-clause-stopped g c =
     let m = g.D.Desk.kept c.settle.new.desk in
     let same = c.last.ensures.same ∙ c.length-length.ensures.same in
     let last = c.last.ensures.last ∙ ap (λ d. (g.D.Desk.kept d).pool.last) c.length-length.ensures.same in
-    let behind = ahead_is (length k.log) c.length-length.result c.args.call.now.after c.is_ahead.result false c.length-length.ensures.length c.is_ahead.ensures c.if-is_ahead.false in
+    let behind = ahead_is (front k.start k.log) c.length-length.result c.args.call.now.after c.is_ahead.result false c.length-length.ensures.length c.is_ahead.ensures c.if-is_ahead.false in
     let at = moment_is k.pool c.args.call.now.moment c.last.result c.min.result c.max-moment.result last c.min.ensures c.max-moment.ensures in
     let f = c.in_err-settle.field-0.0 in
     let p = err_from_is_err_and c.from_residual.result c.from_residual.ensures.1 in
@@ -94,7 +94,7 @@ returns-clause-point g c =
     let same = c.last.ensures.same ∙ c.length-length.ensures.same in
     let last = c.last.ensures.last ∙ ap (λ d. (g.D.Desk.kept d).pool.last) c.length-length.ensures.same in
     let number = c.settle.ensures.number ∙ ap g.D.Desk.number same in
-    let behind = ahead_is (length k.log) c.length-length.result c.args.call.now.after c.is_ahead.result false c.length-length.ensures.length c.is_ahead.ensures c.if-is_ahead.false in
+    let behind = ahead_is (front k.start k.log) c.length-length.result c.args.call.now.after c.is_ahead.result false c.length-length.ensures.length c.is_ahead.ensures c.if-is_ahead.false in
     let at = moment_is k.pool c.args.call.now.moment c.last.result c.min.result c.max-moment.result last c.min.ensures c.max-moment.ensures in
     IfOk-weaker c.respond.result _ _
     (λ (a : Answered). settled_point the_call c.max-moment.result k m c.length-length.ensures.history behind at
@@ -111,7 +111,7 @@ returns-clause-stopped g c =
     let same = c.last.ensures.same ∙ c.length-length.ensures.same in
     let last = c.last.ensures.last ∙ ap (λ d. (g.D.Desk.kept d).pool.last) c.length-length.ensures.same in
     let number = c.settle.ensures.number ∙ ap g.D.Desk.number same in
-    let behind = ahead_is (length k.log) c.length-length.result c.args.call.now.after c.is_ahead.result false c.length-length.ensures.length c.is_ahead.ensures c.if-is_ahead.false in
+    let behind = ahead_is (front k.start k.log) c.length-length.result c.args.call.now.after c.is_ahead.result false c.length-length.ensures.length c.is_ahead.ensures c.if-is_ahead.false in
     let at = moment_is k.pool c.args.call.now.moment c.last.result c.min.result c.max-moment.result last c.min.ensures c.max-moment.ensures in
     stops c.respond.result _ _ _
     (λ stays f lacks. settled_stop the_call c.max-moment.result k m c.length-length.ensures.history behind at

@@ -6,7 +6,7 @@ use Rattle.pool_laws.proofs.Carrying.{due_brings}
 use Rattle.pool_laws.proofs.Legality.{due_follows, due_settled}
 use Rattle.swarm_history.specs.Records.{HoldsNoOthers}
 use Rattle.swarm_history.specs.Settling.{Adds}
-use Rattle.swarm_history.proofs.Additions.{settles_more}
+use Rattle.swarm_history.proofs.Additions.{fewer_left, settles_more}
 use Rattle.swarm_history.proofs.Bringing.{none_new}
 use Rattle.swarm_history.proofs.OwnPoints.{sound_history}
 use Rattle.swarm_history.proofs.settling.settle.Goals as goal
@@ -47,3 +47,9 @@ loop-entry-preserved g c =
       number = c.add.ensures.number ∙ ap g.D.Desk.number same ∙ c.loop-entry.invariant.number;
       rest = c.add.ensures.rest ∙ ap g.D.Desk.rest same ∙ c.loop-entry.invariant.rest;
     }
+
+pub loop-entry-smaller : goal.loop-entry-smaller
+loop-entry-smaller g c =
+    let new = c.add.new.self in
+    fewer_left (g.D.Desk.kept c.loop-entry.desk) (g.D.Desk.kept new) c.in-Some.entry
+    (subst (λ d. Adds (g.D.Desk.kept d) (g.D.Desk.kept new) c.in-Some.entry) c.due.ensures.same c.in_ok-add.ensures.added)

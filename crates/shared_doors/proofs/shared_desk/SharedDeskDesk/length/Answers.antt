@@ -1,5 +1,6 @@
 -- Nothing was written.
-use Rattle.std.proofs.Common.{length, ap, sym, subst, ◌∙◌}
+use Rattle.std.proofs.Common.{ap, sym, subst, ◌∙◌}
+use Rattle.swarm_model.specs.Bases.{front}
 use Rattle.swarm_model.specs.MachineState.{MachineState, IsHistory}
 use Rattle.shared_doors.proofs.Desks.{kept_is, same_desk}
 use Rattle.shared_doors.proofs.shared_desk.SharedDeskDesk.length.Goals as goal
@@ -13,7 +14,7 @@ returns-clause-same g c = same_desk c.args.self.now.turn c.value.result.now c.va
 pub returns-clause-length : goal.returns-clause-length
 returns-clause-length g c =
     let is = kept_is (λ k. g.M.Machine.kept k.machine) c.args.self.now.turn c.value.result.now c.value.ensures.value in
-    c.length.ensures.length ∙ ap (λ (k : MachineState). length k.log) (sym is)
+    c.length.ensures.length ∙ ap (λ (k : MachineState). front k.start k.log) (sym is)
 
 pub returns-clause-history : goal.returns-clause-history
 returns-clause-history g c =

@@ -54,7 +54,7 @@ returns g c =
     (sum_by faults keepers) (sum_by faults (set keepers c.args.place c.call_machine.new.keeper)) c.args.self.now.calls c.args.place
     (record { pass = 0; caller = c.args.who.now; moment = c.args.moment; after = c.args.after; request = c.args.request.now })
     c.call_machine.result c.index_mut-machine.result.now c.call_machine.new.machine c.index_mut-keeper.result.now c.call_machine.new.keeper
-    c.requires.place (omega (arith, low, paired)) c.index_mut-machine.ensures.value c.index_mut-keeper.ensures.value c.call_machine.ensures.settings
+    c.requires.place (omega (arith, low, paired)) c.index_mut-machine.ensures.value c.index_mut-keeper.ensures.value c.call_machine.ensures.start c.call_machine.ensures.settings
     (sum_grows faults keepers c.args.place c.index_mut-keeper.result.now c.call_machine.new.keeper (omega (arith, low, paired)) c.index_mut-keeper.ensures.value c.call_machine.ensures.grows)
     (sum_counts faults keepers c.args.place c.index_mut-keeper.result.now c.call_machine.new.keeper (omega (arith, low, paired)) c.index_mut-keeper.ensures.value c.call_machine.result c.call_machine.ensures.failed)
     c.call_machine.ensures.no_other_blobs c.call_machine.ensures.done
