@@ -3,6 +3,7 @@ use Rattle.std.specs.Prelude.{List, Option}
 use Rattle.content_store.specs.Contents.{Content, bytes_of}
 use Rattle.swarm_model.specs.declared.pool_state.PoolState.{PoolState}
 use Rattle.swarm_model.specs.declared.entry.Entry.{Entry}
+use Rattle.swarm_model.specs.Bases.{empty_base}
 use Rattle.swarm_model.specs.MachineState.{MachineState}
 
 -- the state that the rows stand for, the entry for which all lies ready, and the contents that are held
@@ -18,6 +19,6 @@ pub record KeptPool : Type 0 where
   pub ready : Option Entry
   pub held : List Content
 
--- the same as a machine keeps it, with the bytes that are held by their digests
+-- the same as a machine keeps it that nothing led to, with the bytes that are held by their digests
 abbrev pub machine_of : KeptPool → MachineState
-machine_of kept = record { pool = kept.pool; log = kept.log; ready = kept.ready; held = bytes_of kept.held }
+machine_of kept = record { start = empty_base kept.pool.settings; pool = kept.pool; log = kept.log; ready = kept.ready; held = bytes_of kept.held }

@@ -1,5 +1,5 @@
-ghost use Rattle.std.specs.Prelude.{◌≡◌, ◌≤◌, ◌+◌, ◌^◌};
-ghost use Rattle.std.specs.Option.{option_map};
+ghost use Rattle.std.specs.Prelude.{◌≡◌, ◌≤◌, ◌+◌, ◌^◌, slice_get};
+ghost use Rattle.std.specs.Option.{option_map, option_copied};
 ghost use Rattle.swarm_model.specs.Answers.{entry_at};
 
 use crate::PoolRows;
@@ -46,6 +46,12 @@ fn entry_of(moment: u64, pass: u32, entry: Option<EntryKind>) -> Option<Entry>
         None => None,
         Some(kind) => Some(Entry { moment, pass, kind }),
     }
+}
+
+fn entry_in(log: &[Entry], at: u64) -> Option<&Entry>
+    ensures { option_copied result ≡ slice_get log.now at }
+{
+    log.get(at as usize)
 }
 
 impl<R: PoolRows> Machine for LoggedPool<R> {
@@ -143,7 +149,7 @@ impl<R: PoolRows> Machine for LoggedPool<R> {
     }
 
     fn entry(&self, at: u64) -> Option<&Entry> {
-        self.log.get(at as usize)
+        entry_in(self.log.as_slice(), at)
     }
 
     fn tally(&self) -> [u64; 9] {

@@ -5,7 +5,7 @@ ghost use Rattle.swarm_model.specs.declared.reply.Reply.TheVariants as reply;
 ghost use Rattle.swarm_model.specs.Pages.{listed_bots};
 ghost use Rattle.swarm_model.specs.Answers.{reply_only, list_bots};
 
-use crate::PoolQueries;
+use crate::ReadQueries;
 use crate::replies::reply_only;
 use crate::views::bot_view_of;
 use dimensions::{Seq, Text, TryCopy};
@@ -23,7 +23,7 @@ fn page(items: Vec<BotView>, cursor: Option<Text>) -> Decision
 }
 
 /// The name of the last bot of a page, where more come after it.
-fn cursor_at<P: PoolQueries>(
+fn cursor_at<P: ReadQueries>(
     alloc: Global,
     pool: &P,
     last: &Text,
@@ -38,7 +38,7 @@ fn cursor_at<P: PoolQueries>(
 
 /// What a caller is told who asks for a page of bots. The rows are asked once for each bot that is
 /// shown, from the one before it, and once more.
-pub fn list_bots<P: PoolQueries, L: Ledger>(
+pub fn list_bots<P: ReadQueries, L: Ledger>(
     alloc: Global,
     pool: &P,
     limit: u32,

@@ -12,7 +12,7 @@ use crate::permitting::{denied, may};
 use crate::reading::named_task;
 use crate::replies::{refusal, reply_only};
 use crate::views::attempt_shown;
-use crate::{PoolQueries, ShownTask};
+use crate::{PoolQueries, ReadQueries, ShownTask};
 use dimensions::{Seq, Text};
 use std::alloc::{AllocError, Global};
 use std::sync::ledger::Ledger;
@@ -110,7 +110,7 @@ fn output_between<P: PoolQueries>(
 }
 
 /// The chunks of the output that a task shows.
-fn chunks_shown<'a, P: PoolQueries, L: Ledger>(
+fn chunks_shown<'a, P: ReadQueries, L: Ledger>(
     pool: &'a P,
     task: &ShownTask<'a>,
     steps: &mut Steps<L>,

@@ -2,13 +2,13 @@ ghost use Rattle.std.specs.Prelude.{◌≡◌, IfOk};
 ghost use Rattle.swarm_model.specs.Answers.{may, denied};
 
 use crate::replies::refusal;
-use crate::{PoolQueries, ShownTask};
+use crate::{ReadQueries, ShownTask};
 use dimensions::{Text, TryCopy};
 use std::alloc::{AllocError, Global};
 use swarm_model::{Decision, Permission, Rule, allowed};
 
 /// Whether the caller sent the task, or may do this with every task of the pool.
-pub fn may<P: PoolQueries>(
+pub fn may<P: ReadQueries>(
     pool: &P,
     who: &Text,
     permission: Permission,
@@ -20,7 +20,7 @@ pub fn may<P: PoolQueries>(
     row.creator == *who || allowed(pool.settings(), who, permission)
 }
 
-pub fn denied<P: PoolQueries>(
+pub fn denied<P: ReadQueries>(
     alloc: Global,
     pool: &P,
     permission: Permission,

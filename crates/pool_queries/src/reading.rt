@@ -7,7 +7,7 @@ ghost use Rattle.swarm_model.specs.Answers.{if_lost, if_named, named_task, whole
 use crate::permitting::{denied, may};
 use crate::replies::{refusal, reply_only};
 use crate::views::{bot_view_of, view_of};
-use crate::{PoolQueries, ShownTask};
+use crate::{ReadQueries, ShownTask};
 use dimensions::Text;
 use std::alloc::{AllocError, Global};
 use std::sync::ledger::Ledger;
@@ -37,7 +37,7 @@ fn if_named(try_no: u32, task: &TaskRow) -> Option<ShownTask<'_>>
 }
 
 /// The task as the number of a try shows it, where it has that try.
-pub fn named_task<'a, P: PoolQueries, L: Ledger>(
+pub fn named_task<'a, P: ReadQueries, L: Ledger>(
     pool: &'a P,
     number: u32,
     try_no: u32,
@@ -61,7 +61,7 @@ fn whole_of(try_no: u32, task: &TaskRow) -> Option<&TaskRow>
 }
 
 /// The task itself, where it has that try.
-pub fn whole_task<'a, P: PoolQueries, L: Ledger>(
+pub fn whole_task<'a, P: ReadQueries, L: Ledger>(
     pool: &'a P,
     number: u32,
     try_no: u32,
@@ -75,7 +75,7 @@ pub fn whole_task<'a, P: PoolQueries, L: Ledger>(
     }
 }
 
-fn result_by<'a, P: PoolQueries, L: Ledger>(
+fn result_by<'a, P: ReadQueries, L: Ledger>(
     alloc: Global,
     pool: &'a P,
     who: &Text,
@@ -91,7 +91,7 @@ fn result_by<'a, P: PoolQueries, L: Ledger>(
 }
 
 /// What a caller is told who asks what a task has come to.
-pub fn task_result<P: PoolQueries, L: Ledger>(
+pub fn task_result<P: ReadQueries, L: Ledger>(
     alloc: Global,
     pool: &P,
     who: &Text,
@@ -108,7 +108,7 @@ pub fn task_result<P: PoolQueries, L: Ledger>(
 }
 
 /// What a caller is told who asks how many tasks are in a state.
-pub fn task_count<P: PoolQueries>(pool: &P, state: Option<TaskState>) -> Decision
+pub fn task_count<P: ReadQueries>(pool: &P, state: Option<TaskState>) -> Decision
     ensures { result ≡ count_tasks (P.state pool.now) state }
 {
     reply_only(Reply::Count {
@@ -117,7 +117,7 @@ pub fn task_count<P: PoolQueries>(pool: &P, state: Option<TaskState>) -> Decisio
 }
 
 /// What a caller is told who asks what is known of a bot.
-pub fn show_bot<P: PoolQueries, L: Ledger>(
+pub fn show_bot<P: ReadQueries, L: Ledger>(
     alloc: Global,
     pool: &P,
     name: &Text,

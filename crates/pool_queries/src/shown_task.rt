@@ -1,6 +1,6 @@
 ghost use Rattle.std.specs.Prelude.{◌≡◌};
 ghost use Rattle.std.specs.Option.{option_copied};
-ghost use Rattle.swarm_model.specs.Answers.{lost_row, is_claim, is_claimed, as_claimed, try_of};
+ghost use Rattle.swarm_model.specs.Answers.{lost_row, as_claimed, try_of};
 ghost use Rattle.swarm_model.specs.Slices.{current_slice};
 ghost use Rattle.swarm_model.specs.Views.{last_of};
 
@@ -28,22 +28,6 @@ impl<'a> Model for ShownTask<'a> {
     ghost view = { λ shown. row_shown shown.task.now (option_copied shown.lost) };
 }
 
-fn is_claim(bot: u32, claim: &Text, attempt: &Attempt) -> bool
-    ensures { result ≡ is_claim bot claim.now attempt.now }
-{
-    attempt.bot == bot && attempt.claim == *claim
-}
-
-/// Whether the run of the task is of this claim.
-fn is_claimed(bot: u32, claim: &Text, task: &TaskRow) -> bool
-    ensures { result ≡ is_claimed bot claim.now task.now }
-{
-    match &task.attempt {
-        None => false,
-        Some(attempt) => is_claim(bot, claim, attempt),
-    }
-}
-
 impl<'a> ShownTask<'a> {
     /// The task with its own run.
     pub fn whole(task: &'a TaskRow) -> ShownTask<'a>
@@ -66,7 +50,7 @@ impl<'a> ShownTask<'a> {
     pub fn as_claimed(bot: u32, claim: &Text, task: &'a TaskRow) -> ShownTask<'a>
         ensures { result ≡ as_claimed bot claim.now task.now }
     {
-        if is_claimed(bot, claim, task) {
+        if task.is_claimed(bot, claim) {
             ShownTask::whole(task)
         } else {
             ShownTask {

@@ -7,7 +7,7 @@ ghost use Rattle.swarm_model.specs.Answers.{reply_only, list_tasks};
 
 use crate::replies::reply_only;
 use crate::views::view_of;
-use crate::{PoolQueries, ShownTask};
+use crate::{ReadQueries, ShownTask};
 use dimensions::Seq;
 use std::alloc::{AllocError, Global};
 use std::sync::ledger::Ledger;
@@ -23,7 +23,7 @@ fn page(items: Vec<TaskView>, cursor: Option<u32>) -> Decision
 }
 
 /// The number of the last task of a page, where more are left below it.
-fn cursor_at<P: PoolQueries, L: Ledger>(
+fn cursor_at<P: ReadQueries, L: Ledger>(
     pool: &P,
     wanted: Option<TaskState>,
     last: Option<u32>,
@@ -39,7 +39,7 @@ fn cursor_at<P: PoolQueries, L: Ledger>(
 
 /// What a caller is told who asks for a page of tasks. The rows are asked once for each task that
 /// is shown, from the one before it, and once more.
-pub fn list_tasks<P: PoolQueries, L: Ledger>(
+pub fn list_tasks<P: ReadQueries, L: Ledger>(
     alloc: Global,
     pool: &P,
     wanted: Option<TaskState>,

@@ -4,7 +4,7 @@ ghost use Rattle.std.specs.Option.{option_copied, option_map, option_map_or, opt
 ghost use Rattle.swarm_model.specs.Finding.{task_of};
 ghost use Rattle.swarm_model.specs.Views.{last_of, attempt_shown, run_of, exit_code_of, files_of, bot_name_of, view_of, bot_view_of};
 
-use crate::{PoolQueries, ShownTask};
+use crate::{ReadQueries, ShownTask};
 use dimensions::{Seq, Text, TryCopy};
 use std::alloc::{AllocError, Global};
 use std::sync::ledger::Ledger;
@@ -70,7 +70,7 @@ fn files_of(alloc: Global, task: &ShownTask<'_>) -> Result<Seq<File>, AllocError
     }
 }
 
-fn bot_name_of<P: PoolQueries>(
+fn bot_name_of<P: ReadQueries>(
     alloc: Global,
     pool: &P,
     task: &ShownTask<'_>,
@@ -87,7 +87,7 @@ fn bot_name_of<P: PoolQueries>(
 }
 
 /// The run of the task that has the number, where there is one.
-fn run_numbered<P: PoolQueries, L: Ledger>(
+fn run_numbered<P: ReadQueries, L: Ledger>(
     pool: &P,
     number: Option<u32>,
     steps: &mut Steps<L>,
@@ -104,7 +104,7 @@ fn run_numbered<P: PoolQueries, L: Ledger>(
 }
 
 /// The run of the task that has the number.
-fn attempt_numbered<'a, P: PoolQueries, L: Ledger>(
+fn attempt_numbered<'a, P: ReadQueries, L: Ledger>(
     pool: &'a P,
     number: u32,
     steps: &mut Steps<L>,
@@ -118,7 +118,7 @@ fn attempt_numbered<'a, P: PoolQueries, L: Ledger>(
 }
 
 /// The run that made the output that this task shows: its own, or that of its source.
-pub(crate) fn attempt_shown<'a, P: PoolQueries, L: Ledger>(
+pub(crate) fn attempt_shown<'a, P: ReadQueries, L: Ledger>(
     pool: &'a P,
     task: &ShownTask<'a>,
     steps: &mut Steps<L>,
@@ -131,7 +131,7 @@ pub(crate) fn attempt_shown<'a, P: PoolQueries, L: Ledger>(
     }
 }
 
-fn length_of<'a, P: PoolQueries, L: Ledger>(
+fn length_of<'a, P: ReadQueries, L: Ledger>(
     pool: &'a P,
     task: &ShownTask<'a>,
     steps: &mut Steps<L>,
@@ -145,7 +145,7 @@ fn length_of<'a, P: PoolQueries, L: Ledger>(
 }
 
 /// What a reader is shown of a task.
-pub(crate) fn view_of<'a, P: PoolQueries, L: Ledger>(
+pub(crate) fn view_of<'a, P: ReadQueries, L: Ledger>(
     alloc: Global,
     pool: &'a P,
     task: &ShownTask<'a>,
@@ -176,7 +176,7 @@ pub(crate) fn view_of<'a, P: PoolQueries, L: Ledger>(
 }
 
 /// What a reader is shown of a bot.
-pub(crate) fn bot_view_of<P: PoolQueries, L: Ledger>(
+pub(crate) fn bot_view_of<P: ReadQueries, L: Ledger>(
     alloc: Global,
     pool: &P,
     bot: &BotRow,

@@ -13,7 +13,7 @@ use dimensions::{BotDims, DimSet, Text};
 use ghost_values::GhostValue;
 use pool_changes::{bring_bytes, lend_bytes};
 use pool_log::PoolRows;
-use pool_queries::PoolQueries;
+use pool_queries::{PoolQueries, ReadQueries};
 use std::alloc::{AllocError, Global};
 use std::marker::Model;
 use std::mem;
@@ -90,7 +90,7 @@ impl IndexedRows {
     }
 }
 
-impl PoolQueries for IndexedRows {
+impl ReadQueries for IndexedRows {
     ghost state = { λ rows. rows.pool };
 
     fn sound(&self) {
@@ -143,7 +143,9 @@ impl PoolQueries for IndexedRows {
     fn next_bot<'a>(&'a self, name: &Text) -> Option<&'a BotRow> {
         self.rows.bots.next_after(name)
     }
+}
 
+impl PoolQueries for IndexedRows {
     fn sent<'a, L: Ledger>(
         &'a self,
         who: &Text,

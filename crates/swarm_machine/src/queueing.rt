@@ -3,7 +3,7 @@ ghost use Rattle.std.specs.Prelude.{◌≡◌, Some, None, IfSome, OnOk};
 ghost use Rattle.std.specs.Option.{option_copied, option_and_then};
 ghost use Rattle.dim_queue.specs.Plain.{IsAbsent, SameWaits};
 ghost use Rattle.index_laws.specs.SetToCome.{set_at, set_moved, set_if_lost, set_to_come, IsReadyFor};
-ghost use Rattle.index_laws.specs.TaskQueues.{IsRequeued, kept_from, waiting_of, touched_place};
+ghost use Rattle.index_laws.specs.TaskQueues.{IsRequeued, waiting_of, touched_place};
 ghost use Rattle.swarm_machine.specs.Inside.{state_of};
 
 use crate::rows::Rows;
@@ -14,16 +14,6 @@ use std::alloc::AllocError;
 use swarm_model::{EntryKind, Outcome, TaskRow, TaskState};
 use task_props::Slice;
 
-/// The bot that a task is kept from.
-fn kept_from(task: &TaskRow) -> Option<u32>
-    ensures { result ≡ kept_from task.now }
-{
-    match task.retried.as_ref() {
-        None => None,
-        Some(lost) => Some(lost.attempt.bot),
-    }
-}
-
 /// A task enters the queue of its current slice, where it is pending.
 fn enter(queues: &mut Queues, task: &TaskRow)
     requires ready { IfSome (waiting_of task.now) (λ place. queues.old.ready ≡ Some place.1) }
@@ -33,7 +23,7 @@ fn enter(queues: &mut Queues, task: &TaskRow)
     if task.has_state(TaskState::Pending) {
         if let Some(slice) = task.current_slice() {
             let dims = &slice.properties.dimensions;
-            queues.enter(dims, kept_from(task), task.request.priority, task.no);
+            queues.enter(dims, task.kept_from(), task.request.priority, task.no);
         }
     }
 }
@@ -84,7 +74,7 @@ fn prepare_row(queues: &mut Queues, row: Option<&TaskRow>, place: u32) -> Result
         None => Ok(()),
         Some(task) => {
             let slices = task.request.task_slices.as_slice();
-            prepare_at(queues, slices, place, kept_from(task))
+            prepare_at(queues, slices, place, task.kept_from())
         }
     }
 }

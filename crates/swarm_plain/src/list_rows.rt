@@ -6,7 +6,7 @@ use dimensions::{BotDims, DimSet, Text};
 use ghost_values::GhostValue;
 use pool_changes::{bring_bytes, lend_bytes};
 use pool_log::PoolRows;
-use pool_queries::PoolQueries;
+use pool_queries::{PoolQueries, ReadQueries};
 use row_changes::{BotParts, TaskParts, is_capable, row_of};
 use std::alloc::{AllocError, Global};
 use std::marker::Model;
@@ -46,7 +46,7 @@ impl Model for ListRows {
     ghost invariant = { IsKept };
 }
 
-impl PoolQueries for ListRows {
+impl ReadQueries for ListRows {
     ghost state = { λ rows. rows.pool };
 
     fn sound(&self) {
@@ -96,7 +96,9 @@ impl PoolQueries for ListRows {
     fn next_bot<'a>(&'a self, name: &Text) -> Option<&'a BotRow> {
         pages::next_bot(self.rows.bots.as_slice(), name)
     }
+}
 
+impl PoolQueries for ListRows {
     fn sent<'a, L: Ledger>(
         &'a self,
         who: &Text,

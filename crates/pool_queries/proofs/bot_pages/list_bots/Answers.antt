@@ -8,7 +8,7 @@ use Rattle.pool_queries.proofs.bot_pages.list_bots.Goals as goal
 
 pub loop-place-preserved : goal.loop-place-preserved
 loop-place-preserved g c =
-    let goes_on = bots_go_on (g.P.PoolQueries.state c.args.pool.now) c.sound.ensures in
+    let goes_on = bots_go_on (g.P.ReadQueries.state c.args.pool.now) c.sound.ensures in
     rw (c.in_ok-push-in-Some.ensures.items, c.in_ok-bot_view_of-in-Some.ensures)
     (page_more name_of c.in-Some.bot.now _ _ goes_on refl c.loop-place.invariant c.in-Some.ensures)
 

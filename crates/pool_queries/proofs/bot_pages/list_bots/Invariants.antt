@@ -7,5 +7,5 @@ use Rattle.pool_queries.proofs.bot_pages.list_bots.Given as goal
 
 abbrev pub invariant-loop-place : goal.invariant-loop-place
 invariant-loop-place g l =
-    let s = g.P.PoolQueries.state l.pool in
+    let s = g.P.ReadQueries.state l.pool in
     IsPage (listed_bots s) (λ (last : List ℕ). Some last) name_of (bot_view_of s) l.after l.last l._place l.items.items

@@ -8,4 +8,4 @@ use Rattle.pool_queries.proofs.output.gone_chunk.Goals as goal
 pub returns : goal.returns
 returns g c =
     c.first_gone.ensures
-    ∙ sym (find-filter (lies_within c.args.from c.args.to) (lacks_chunk (g.P.PoolQueries.state c.args.pool.now)) c.args.chunks.now)
+    ∙ sym (find-filter (lies_within c.args.from c.args.to) (lacks_chunk (g.P.ReadQueries.state c.args.pool.now)) c.args.chunks.now)

@@ -8,7 +8,7 @@ use Rattle.pool_queries.proofs.task_pages.list_tasks.Goals as goal
 
 pub loop-place-preserved : goal.loop-place-preserved
 loop-place-preserved g c =
-    let goes_on = tasks_go_on (g.P.PoolQueries.state c.args.pool.now) c.sound.ensures c.args.wanted in
+    let goes_on = tasks_go_on (g.P.ReadQueries.state c.args.pool.now) c.sound.ensures c.args.wanted in
     rw (c.in_ok-push-in-Some.ensures.items, c.in_ok-view_of-in-Some.ensures, c.whole.ensures)
     (page_more below_task c.in-Some.task.now _ _ goes_on refl c.loop-place.invariant c.in-Some.ensures)
 

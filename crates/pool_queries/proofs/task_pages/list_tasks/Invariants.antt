@@ -7,5 +7,5 @@ use Rattle.pool_queries.proofs.task_pages.list_tasks.Given as goal
 
 abbrev pub invariant-loop-place : goal.invariant-loop-place
 invariant-loop-place g l =
-    let s = g.P.PoolQueries.state l.pool in
+    let s = g.P.ReadQueries.state l.pool in
     IsPage (listed_tasks s l.wanted) (λ (last : Option ℕ). last) (λ (task : TaskRow). task.no) (view_of s) l.fn.below l.last l._place l.items.items

@@ -5,5 +5,5 @@ use Rattle.pool_rules.proofs.admitting.admit.Given as goal
 
 abbrev pub invariant-loop-place : goal.invariant-loop-place
 invariant-loop-place g l =
-    position_from (is_open (g.P.PoolQueries.state l.pool)) l.place (drop l.place l.slices) ≡
-    position_from (is_open (g.P.PoolQueries.state l.pool)) l.from (drop l.from l.slices)
+    position_from (is_open (g.P.ReadQueries.state l.pool)) l.place (drop l.place l.slices) ≡
+    position_from (is_open (g.P.ReadQueries.state l.pool)) l.from (drop l.from l.slices)

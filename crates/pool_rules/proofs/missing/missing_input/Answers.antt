@@ -8,7 +8,7 @@ use Rattle.pool_rules.proofs.missing.missing_input.Goals as goal
 
 pub returns-in-Some : goal.returns-in-Some
 returns-in-Some g c =
-    let s = g.P.PoolQueries.state c.args.pool.now in
+    let s = g.P.ReadQueries.state c.args.pool.now in
     let slices = c.args.slices.now in
     let place = c.loop-place.place in
     let here = ap (missing_file s) (sym c.as_slice-inputs.ensures) ∙ sym c.missing_file.ensures ∙ ap option_copied c.in-Some.is in
@@ -18,7 +18,7 @@ returns-in-Some g c =
 
 pub loop-place-preserved : goal.loop-place-preserved
 loop-place-preserved g c =
-    let s = g.P.PoolQueries.state c.args.pool.now in
+    let s = g.P.ReadQueries.state c.args.pool.now in
     let slices = c.args.slices.now in
     let place = c.loop-place.place in
     let none = ap (missing_file s) (sym c.as_slice-inputs.ensures) ∙ sym c.missing_file.ensures ∙ ap option_copied c.in_default.is in

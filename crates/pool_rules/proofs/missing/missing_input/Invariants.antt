@@ -4,5 +4,5 @@ use Rattle.pool_rules.proofs.missing.missing_input.Given as goal
 
 abbrev pub invariant-loop-place : goal.invariant-loop-place
 invariant-loop-place g l =
-    missing_file (g.P.PoolQueries.state l.pool) (inputs_of (drop l.place l.slices)) ≡
-    missing_file (g.P.PoolQueries.state l.pool) (inputs_of l.slices)
+    missing_file (g.P.ReadQueries.state l.pool) (inputs_of (drop l.place l.slices)) ≡
+    missing_file (g.P.ReadQueries.state l.pool) (inputs_of l.slices)

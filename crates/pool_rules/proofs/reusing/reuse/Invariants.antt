@@ -4,5 +4,5 @@ use Rattle.pool_rules.proofs.reusing.reuse.Given as goal
 
 abbrev pub invariant-loop-place : goal.invariant-loop-place
 invariant-loop-place g l =
-    reuse_from (g.P.PoolQueries.state l.pool) l.moment l.place (drop l.place l.slices) ≡
-    reuse_from (g.P.PoolQueries.state l.pool) l.moment 0 l.slices
+    reuse_from (g.P.ReadQueries.state l.pool) l.moment l.place (drop l.place l.slices) ≡
+    reuse_from (g.P.ReadQueries.state l.pool) l.moment 0 l.slices

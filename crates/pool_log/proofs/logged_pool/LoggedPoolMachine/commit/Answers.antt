@@ -4,10 +4,13 @@ use Rattle.std.specs.List.{sum_by}
 use Rattle.std.specs.Option.{option_map}
 use Rattle.std.proofs.lemmas.List.Sums.{sum_by-append}
 use Rattle.content_store.specs.Contents.{bytes_of}
+use Rattle.swarm_model.specs.declared.pool_state.PoolState.{PoolState}
+use Rattle.swarm_model.specs.Bases.{empty_base}
 use Rattle.swarm_model.specs.Bytes.{held_after}
 use Rattle.swarm_model.specs.Effects.{after}
 use Rattle.swarm_model.specs.Entries.{weight}
 use Rattle.swarm_model.specs.MachineState.{MachineState, KeepsFinals}
+use Rattle.pool_laws.proofs.Bots.{settings_same}
 use Rattle.pool_laws.proofs.MachineLaws.{is_right, keeps_finals}
 use Rattle.pool_log.specs.Plain.{KeptPool, machine_of}
 use Rattle.pool_log.proofs.Logs.{history_of, ready_for, same_machine}
@@ -48,11 +51,12 @@ returns g c =
     let bytes = option_map (λ (b : Bor (List ℕ)). b.now) c.args.bytes in
     let history = history_of _ own c.self.view_is c.self.invariant.replay_of in
     let state = c.apply.ensures.state ∙ ap (λ (kept : KeptPool). after kept.pool entry) c.self.view_is in
+    let start = ap (λ (s : PoolState). empty_base s.settings) state ∙ ap empty_base (settings_same old.pool entry.moment entry.kind) in
     let log = c.push_reserved.ensures.items ∙ ap (λ (kept : KeptPool). kept.log ++ entry ∷ []) c.self.view_is in
     let ready = c.apply.ensures.ready in
     let held = c.apply.ensures.held ∙ ap (λ (kept : KeptPool). held_after kept.pool entry.kind bytes (bytes_of kept.held)) c.self.view_is in
-    let new : MachineState = record { pool = after old.pool entry; log = old.log ++ entry ∷ []; ready = None; held = held_after old.pool entry.kind bytes old.held } in
-    let added = same_machine state log ready held in
+    let new : MachineState = record { start = old.start; pool = after old.pool entry; log = old.log ++ entry ∷ []; ready = None; held = held_after old.pool entry.kind bytes old.held } in
+    let added = same_machine start state log ready held in
     record {
       right = is_right old history entry c.requires.follows;
       finals = subst (KeepsFinals old) (sym added) (keeps_finals old history entry c.requires.follows new refl);

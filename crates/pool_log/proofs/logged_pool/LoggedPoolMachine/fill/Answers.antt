@@ -1,6 +1,7 @@
 -- The rows bring the bytes, and the log stays.
 use Rattle.std.proofs.Common.{sym, ap, ◌∙◌, subst}
 use Rattle.content_store.specs.Contents.{bytes_of}
+use Rattle.swarm_model.specs.Bases.{empty_base}
 use Rattle.swarm_model.specs.Bytes.{filled, held_after_fill}
 use Rattle.swarm_model.specs.MachineState.{MachineState}
 use Rattle.pool_log.specs.Plain.{KeptPool}
@@ -26,6 +27,6 @@ returns g c =
     record {
       fills = record {
         told = c.fill.ensures.told ∙ ap (λ (kept : KeptPool). filled kept.pool digest bytes) c.self.view_is;
-        holds = λ i. let x : MachineState = record { pool = state i; log = log i; ready = ready i; held = held i } in x;
+        holds = λ i. let x : MachineState = record { start = empty_base (state i).settings; pool = state i; log = log i; ready = ready i; held = held i } in x;
       };
     }

@@ -1,6 +1,7 @@
 -- A pool without an entry.
 use Rattle.std.proofs.Common.{refl}
 use Rattle.content_store.specs.Contents.{bytes_of}
+use Rattle.swarm_model.specs.Bases.{empty_base}
 use Rattle.swarm_model.specs.MachineState.{MachineState}
 use Rattle.pool_log.proofs.Reached.{replay_of_nothing}
 use Rattle.pool_log.proofs.logged_pool.LoggedPoolMachine.new.Goals as goal
@@ -15,4 +16,4 @@ invariant_of-result g c =
 
 pub returns : goal.returns
 returns g c =
-    λ i. let x : MachineState = record { pool = c.in_ok-new.ensures.state i; log = c.new-2.ensures.items i; ready = c.in_ok-new.ensures.ready i; held = bytes_of (c.in_ok-new.ensures.held i) } in x
+    λ i. let x : MachineState = record { start = empty_base (c.in_ok-new.ensures.state i).settings; pool = c.in_ok-new.ensures.state i; log = c.new-2.ensures.items i; ready = c.in_ok-new.ensures.ready i; held = bytes_of (c.in_ok-new.ensures.held i) } in x

@@ -4,7 +4,8 @@ use Rattle.std.specs.Option.{option_and_then}
 use Rattle.swarm_model.specs.declared.task_row.TaskRow.{TaskRow}
 use Rattle.swarm_model.specs.declared.pool_state.PoolState.{PoolState}
 use Rattle.swarm_model.specs.Finding.{task_of}
-use Rattle.index_laws.specs.TaskSources.{AreCreatedInOrder, if_young}
+use Rattle.index_laws.specs.TaskSources.{if_young}
+use Rattle.pool_laws.specs.BaseRules.{AreCreatedInOrder}
 use Rattle.index_laws.proofs.CreatedInOrder.{created_in_order}
 use Rattle.index_laws.proofs.SourceIsFound.{source_is_found}
 use Rattle.swarm_machine.specs.Inside.{state_of}

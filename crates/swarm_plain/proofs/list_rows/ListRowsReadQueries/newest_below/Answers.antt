@@ -1,6 +1,6 @@
 -- Tasks are numbered by their places.
 use Rattle.swarm_plain.proofs.Holding.{kept_sound}
-use Rattle.swarm_plain.proofs.list_rows.ListRowsPoolQueries.newest_below.Goals as goal
+use Rattle.swarm_plain.proofs.list_rows.ListRowsReadQueries.newest_below.Goals as goal
 
 pub newest_below-requires : goal.newest_below-requires
 newest_below-requires g c = rw c.as_slice.ensures.value (kept_sound c.self.inside c.self.invariant).tasks_numbered

@@ -1,6 +1,6 @@
 -- Tasks are numbered by their places, and the settings allow few.
 use Rattle.swarm_machine.proofs.Holding.{kept_sound, few_tasks}
-use Rattle.swarm_machine.proofs.indexed_rows.IndexedRowsPoolQueries.newest_below.Goals as goal
+use Rattle.swarm_machine.proofs.indexed_rows.IndexedRowsReadQueries.newest_below.Goals as goal
 
 pub newest_below-requires-clause-numbered : goal.newest_below-requires-clause-numbered
 newest_below-requires-clause-numbered g c = (kept_sound c.self.inside c.self.invariant).tasks_numbered

@@ -3,7 +3,7 @@ use Rattle.std.proofs.Common.{ℕ, List, ap, ◌∙◌, slice_index_or, sym}
 use Rattle.swarm_model.specs.History.{count_in, tally}
 use Rattle.swarm_machine.specs.Inside.{state_of}
 use Rattle.swarm_machine.proofs.Counts.{count_all, count_at}
-use Rattle.swarm_machine.proofs.indexed_rows.IndexedRowsPoolQueries.count.Goals as goal
+use Rattle.swarm_machine.proofs.indexed_rows.IndexedRowsReadQueries.count.Goals as goal
 
 pub returns-in-None : goal.returns-in-None
 returns-in-None c =
