@@ -25,23 +25,23 @@ use Rattle.index_laws.proofs.KeyLinks.{links_follow}
 -- ---- links
 
 -- some link is that of the claim
-abbrev Holds : List ClaimLink → Claimed → Type 0
+abbrev pub Holds : List ClaimLink → Claimed → Type 0
 Holds links c = Among (claim_link c) links
 
-to_link : (links : List ClaimLink) (b : ℕ) (id : List ℕ) (n : ℕ) → HasClaim links (b, id) n → Holds links (b, id, n)
+pub to_link : (links : List ClaimLink) (b : ℕ) (id : List ℕ) (n : ℕ) → HasClaim links (b, id) n → Holds links (b, id, n)
 to_link links b id n h =
     let its : Claimed = (b, id, n) in
     let is : h.link ≡ claim_link its = λ i. let l : ClaimLink = record { bot = h.bot_is i; claim = h.claim_is i; task = h.task_is i } in l in
     subst (λ (l : ClaimLink). Among l links) is (among_of links h.link h.among)
 
-of_link : (links : List ClaimLink) (b : ℕ) (id : List ℕ) (n : ℕ) → Holds links (b, id, n) → HasClaim links (b, id) n
+pub of_link : (links : List ClaimLink) (b : ℕ) (id : List ℕ) (n : ℕ) → Holds links (b, id, n) → HasClaim links (b, id) n
 of_link links b id n a = let its : Claimed = (b, id, n) in record { link = claim_link its; among = contains_of links (claim_link its) a; bot_is = refl; claim_is = refl; task_is = refl }
 
 -- where a bot has no claim under an id, there is no link of one
 none_holds : (links : List ClaimLink) (b : ℕ) (id : List ℕ) → HasNone links (b, id) → (n : ℕ) → Holds links (b, id, n) → ⊥
 none_holds links b id h n a = let its : Claimed = (b, id, n) in h.none (claim_link its) (contains_of links (claim_link its) a) refl refl
 
-none_from : (links : List ClaimLink) (b : ℕ) (id : List ℕ) → ((n : ℕ) → Holds links (b, id, n) → ⊥) → HasNone links (b, id)
+pub none_from : (links : List ClaimLink) (b : ℕ) (id : List ℕ) → ((n : ℕ) → Holds links (b, id, n) → ⊥) → HasNone links (b, id)
 none_from links b id h = record { none = λ link c e f. h link.task (to_link links b id link.task (record { link = link; among = c; bot_is = e; claim_is = f; task_is = refl })) }
 
 -- the links with the one to come, by what comes
@@ -50,7 +50,7 @@ with_link None old new e = e
 with_link (Some y) old new e = e
 
 -- what a link tells
-abbrev claim_in_link : ClaimLink → Claimed
+abbrev pub claim_in_link : ClaimLink → Claimed
 claim_in_link link = (link.bot, link.claim, link.task)
 
 pub claims_follow : ClaimsFollow

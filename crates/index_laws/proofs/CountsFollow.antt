@@ -10,7 +10,7 @@ use Rattle.swarm_model.specs.Effects.{after}
 use Rattle.index_laws.proofs.SumsFollow.{sums_follow}
 
 -- what a row adds to it
-abbrev counted : TaskState → TaskRow → ℕ
+abbrev pub counted : TaskState → TaskRow → ℕ
 counted state x = cond (has_state state x) 1 0
 
 counted_row : (state : TaskState) (row : Option TaskRow) → weight_of_row (counted state) row ≡ count_of_row state row

@@ -2,7 +2,7 @@
 use Rattle.std.proofs.Common.{◌≡◌, ℕ, ◌==◌, ◌&&◌, ◌||◌, not, Bool, true, false, cond, List, [], ◌∷◌, ◌⊎◌, inl, inr, filter, refl, sym, ap, ◌∙◌, subst, arith, Option, Some, None}
 use Rattle.std.specs.Prelude.{nat_lt}
 use Rattle.std.specs.List.{fold}
-use Rattle.std.specs.Option.{option_map, option_map_or, option_and_then}
+use Rattle.std.specs.Option.{option_map, option_and_then}
 use Rattle.std.proofs.lemmas.Bool.{cases_Bool, cond-true, cond-false, false≢true, and_parts, and_from}
 use Rattle.std.proofs.lemmas.Bool.Decides.{nat_tests}
 use Rattle.std.proofs.lemmas.Option.{same_Some}
@@ -11,7 +11,6 @@ use Rattle.dimensions.specs.declared.bot_dims.BotDims.{BotDims}
 use Rattle.dimensions.specs.Matching.{matches}
 use Rattle.task_props.specs.declared.slice.Slice.{Slice}
 use Rattle.swarm_model.specs.declared.task_state.TaskState.TheVariants.{Pending}
-use Rattle.swarm_model.specs.declared.retried.Retried.{Retried}
 use Rattle.swarm_model.specs.declared.task_row.TaskRow.{TaskRow}
 use Rattle.swarm_model.specs.declared.pool_state.PoolState.{PoolState}
 use Rattle.swarm_model.specs.Finding.{has_state, task_of}
@@ -24,7 +23,7 @@ use Rattle.dim_queue.specs.Order.{goes_first}
 use Rattle.dim_queue.specs.Taking.{taker, may_take}
 use Rattle.dim_queue.specs.Plain.{QueueState, Waits, IsNextOf}
 use Rattle.index_laws.specs.Keys.{HasKey}
-use Rattle.index_laws.specs.TaskQueues.{AreQueued, kept_from, waiting_of, place_in, FirstIsNext}
+use Rattle.index_laws.specs.TaskQueues.{AreQueued, waiting_of, place_in, FirstIsNext}
 use Rattle.index_laws.proofs.Keys.{among_of, contains_of}
 
 abbrev Place : Type 0
@@ -138,14 +137,6 @@ module _ (s : PoolState) (o : IsSound s) (queues : List QueueState) (queued : Ar
     stands : Waits queues (waiting x) set
     fits : may_take (taker number bot) set ≡ true
 
-  -- a task is kept from the bot just where its queue is
-  kept_alike : (x : TaskRow) → is_kept_from number x ≡ option_map_or (λ (but : ℕ). but == number) (kept_from x) false
-  kept_alike x = by_retried x.retried
-    where
-      by_retried : (r : Option Retried) → option_map_or (λ (lost : Retried). lost.attempt.bot == number) r false ≡ option_map_or (λ (but : ℕ). but == number) (option_map (λ (lost : Retried). lost.attempt.bot) r) false
-      by_retried None = refl
-      by_retried (Some lost) = refl
-
   in_queue : (x : TaskRow) → Among x s.tasks → waits_for number bot x ≡ true → IsIn x
   in_queue x a w = by_slice (current_slice x) refl both.0
     where
@@ -162,7 +153,7 @@ module _ (s : PoolState) (o : IsSound s) (queues : List QueueState) (queued : Ar
           record {
             set = (place_in x slice).1;
             stands = (queued.each (waiting x) (place_in x slice).1).1 (record { task = x; among = contains_of s.tasks x a; keyed = keyed });
-            fits = and_from (not (option_map_or (λ (but : ℕ). but == number) (kept_from x) false)) (matches bot slice.properties.dimensions) (ap not (sym (kept_alike x)) ∙ both.1) t;
+            fits = and_from (not (is_kept_from number x)) (matches bot slice.properties.dimensions) both.1 t;
           })
 
   first_is : (next : Option Waiting) → IsNextOf queues (taker number bot) next → option_and_then (λ (w : Waiting). task_of s w.number) next ≡ first s number bot
@@ -176,10 +167,9 @@ module _ (s : PoolState) (o : IsSound s) (queues : List QueueState) (queued : Ar
       let task = p.task in
       let w_is : waiting task ≡ w = ap (λ (k : Place). k.0) p.placed in
       let alike : (place_in task p.slice).1 ≡ is.set = ap (λ (k : Place). k.1) p.placed in
-      let fits = and_parts (not (option_map_or (λ (but : ℕ). but == number) (kept_from task) false)) (matches bot p.slice.properties.dimensions) (subst (λ (d : QueueSet). may_take (taker number bot) d ≡ true) (sym alike) is.fits) in
+      let fits = and_parts (not (is_kept_from number task)) (matches bot p.slice.properties.dimensions) (subst (λ (d : QueueSet). may_take (taker number bot) d ≡ true) (sym alike) is.fits) in
       let takes : takes_slice bot (current_slice task) ≡ true = subst (λ (r : Option Slice). takes_slice bot r ≡ true) (sym p.current) fits.1 in
-      let kept : not (is_kept_from number task) ≡ true = ap not (kept_alike task) ∙ fits.0 in
-      let waits : waits_for number bot task ≡ true = and_from (has_state Pending task) (takes_slice bot (current_slice task) && not (is_kept_from number task)) p.pending (and_from (takes_slice bot (current_slice task)) (not (is_kept_from number task)) takes kept) in
+      let waits : waits_for number bot task ≡ true = and_from (has_state Pending task) (takes_slice bot (current_slice task) && not (is_kept_from number task)) p.pending (and_from (takes_slice bot (current_slice task)) (not (is_kept_from number task)) takes fits.0) in
       let row : task_of s w.number ≡ Some task = find_task s o task w.number p.among (ap (λ (v : Waiting). v.number) w_is) in
       let others : (x : TaskRow) → Among x (filter (waits_for number bot) s.tasks) → (goes_before x task ≡ false) × Alone task x = λ x b.
       let f = filter_is (waits_for number bot) s.tasks x b in

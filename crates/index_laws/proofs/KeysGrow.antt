@@ -1,5 +1,5 @@
 -- Claims and uuids come with the entries that bring them, and stay.
-use Rattle.std.proofs.Common.{◌≡◌, ◌↔◌, ℕ, ◌==◌, ◌⊎◌, inl, inr, Bool, true, false, [], ◌∷◌, ◌++◌, map, refl, sym, ap, ◌∙◌, subst, Option, Some, None, eqb-true, List, cond}
+use Rattle.std.proofs.Common.{◌≡◌, ℕ, ◌==◌, ◌⊎◌, inl, inr, true, false, [], ◌∷◌, ◌++◌, map, refl, sym, ap, ◌∙◌, subst, Option, Some, None, eqb-true, List, cond}
 use Rattle.std.specs.Option.{option_map}
 use Rattle.std.proofs.lemmas.Bool.{cond_both, eq-eqb}
 use Rattle.std.proofs.lemmas.Option.{same_Some}
@@ -17,7 +17,7 @@ use Rattle.swarm_model.specs.declared.entry.Outcome.{Outcome}
 use Rattle.swarm_model.specs.declared.entry.Outcome.TheVariants as outcome
 use Rattle.swarm_model.specs.Finding.{is_state}
 use Rattle.swarm_model.specs.Deadlines.{next_of}
-use Rattle.swarm_model.specs.Effects.{task_after, added_tasks, expired_slice, retried_from, retried_run, killed, with_chunk, with_last_report, started_run, new_row, after}
+use Rattle.swarm_model.specs.Effects.{task_after, added_tasks, expired_slice, retried_run, killed, with_chunk, with_last_report, started_run, new_row, after}
 use Rattle.swarm_model.specs.History.{MayFollow}
 use Rattle.swarm_model.specs.Soundness.{IsSound, key_of, claim_key, lost_key, HasKey}
 use Rattle.pool_laws.proofs.Lists.{Among, each_one, among_left, among_right, among_map, here}
@@ -25,7 +25,7 @@ use Rattle.pool_laws.proofs.Preconditions.{Finds, HasTask, waits}
 use Rattle.pool_laws.proofs.EntryPreconditions.{finds}
 use Rattle.pool_laws.proofs.Rows.{task_is, row_is, task_by, lost_is, claim_waits, fits_in}
 use Rattle.pool_laws.proofs.Origins.{Origin, origin_same}
-use Rattle.pool_laws.proofs.Claimed.{Key, key_in}
+use Rattle.pool_laws.proofs.Claimed.{key_in, is_claiming, key_kept, again_key, key_before}
 use Rattle.pool_laws.proofs.Numbers.{task_no}
 use Rattle.index_laws.specs.Keys.{IsKnown, IsKey, KeysGrow}
 use Rattle.index_laws.specs.TaskClaims.{Claimed, IsClaimOf, claim_to_come}
@@ -41,65 +41,33 @@ none_yet state None ended h w = refl
 none_yet Pending (Some a) ended h w = absurd (cc (h))
 none_yet state (Some a) ended h w = absurd (cc (w))
 
--- one key of two is the same, where the first is that of before
-abbrev SameKeys : Key → Key → Key → (ℕ × List ℕ) → Type 0
-SameKeys new old lost p = ((new ≡ Some p) ⊎ (lost ≡ Some p)) ↔ ((old ≡ Some p) ⊎ (lost ≡ Some p))
-
-same_keys : (new old lost : Key) (p : ℕ × List ℕ) → new ≡ old → SameKeys new old lost p
-same_keys new old lost p e = (
-  λ h. elim h [ inl g ↦ inl (sym e ∙ g) | inr g ↦ inr g ],
-  λ h. elim h [ inl g ↦ inl (e ∙ g) | inr g ↦ inr g ],
-)
-
--- a run that is changed keeps its bot and its claim
-key_kept : (f : Attempt → Attempt) → ((a : Attempt) → key_of (f a) ≡ key_of a) → (r : Option Attempt) → key_in (option_map f r) ≡ key_in r
-key_kept f e None = refl
-key_kept f e (Some a) = ap (λ (p : ℕ × List ℕ). Some p) (e a)
-
--- so does one that is tried again
-again_key : (m slice : ℕ) (r : Option Attempt) → option_map (λ (lost : Retried). key_of lost.attempt) (option_map (retried_from m slice) r) ≡ key_in r
-again_key m slice None = refl
-again_key m slice (Some a) = refl
-
--- which has no other beside it
-again_keys : (m : ℕ) (x : TaskRow) (p : ℕ × List ℕ) → x.retried ≡ None → HasKey (retried_run m x) p ↔ HasKey x p
-again_keys m x p none = (there, back)
-  where
-    there : HasKey (retried_run m x) p → HasKey x p
-    there (inl h) = absurd (cc (h))
-    there (inr h) = inl (sym (again_key m x.slice x.attempt) ∙ h)
-
-    back : HasKey x p → HasKey (retried_run m x) p
-    back (inl h) = inr (again_key m x.slice x.attempt ∙ h)
-    back (inr h) = absurd (let gone : lost_key x ≡ None = ap (option_map (λ (lost : Retried). key_of lost.attempt)) none in cc (gone, h))
-
-abbrev is_claiming : EntryKind → Bool
-is_claiming (kind.Claim b t id) = true
-is_claiming entry = false
+-- a run that is tried again keeps its claim, and none was before it
+again_stays : (m : ℕ) (x : TaskRow) (p : ℕ × List ℕ) → x.retried ≡ None → HasKey x p → HasKey (retried_run m x) p
+again_stays m x p none (inl h) = inr (again_key m x.slice x.attempt ∙ h)
+again_stays m x p none (inr h) = absurd (let gone : lost_key x ≡ None = ap (option_map (λ (lost : Retried). key_of lost.attempt)) none in cc (gone, h))
 
 module _ (s : PoolState) (m : ℕ) (o : IsSound s) where
-  -- only an entry of a claim changes the claims of a row
-  claims_same : (k : EntryKind) → Finds s k → is_claiming k ≡ false → (x : TaskRow) → Among x s.tasks → (p : ℕ × List ℕ) → HasKey (task_after s m k x) p ↔ HasKey x p
-  claims_same k f q x a p =
-      task_by (λ (y : TaskRow). HasKey y p ↔ HasKey x p) s m o x a k f (record {
-        same = (λ h. h, λ h. h);
-        moves = λ w. by_outcome (next_of s x);
-        loses = λ w. lost_is (λ (y : TaskRow). HasKey y p ↔ HasKey x p) s.settings.retries m x (λ t. again_keys m x p (none_before s o x a t)) (λ t. (λ h. h, λ h. h));
+  -- only a claim changes the claims of a row: where none comes, each stays
+  key_stays : (k : EntryKind) → Finds s k → is_claiming k ≡ false → (x : TaskRow) → Among x s.tasks → (p : ℕ × List ℕ) → HasKey x p → HasKey (task_after s m k x) p
+  key_stays k f q x a p =
+      task_by (λ (y : TaskRow). HasKey x p → HasKey y p) s m o x a k f (record {
+        same = λ h. h;
+        moves = λ w h. by_outcome (next_of s x) h;
+        loses = λ w. lost_is (λ (y : TaskRow). HasKey x p → HasKey y p) s.settings.retries m x (λ t. again_stays m x p (none_before s o x a t)) (λ t h. h);
         begins = λ b t id is found w own. absurd (cc (q, ap is_claiming is));
-        cancels = λ w. (λ h. h, λ h. h);
-        marks = λ w. changed killed (λ a. refl) x (λ h. h, λ h. h);
-        grows = λ chunk g w. changed (with_chunk chunk) (λ a. refl) x (λ h. h, λ h. h);
-        finishes = λ chunk last y w e. changed (with_last_report chunk last) (λ a. refl) y e;
+        cancels = λ w h. h;
+        marks = λ w h. changed killed (λ a. refl) x h;
+        grows = λ chunk fresh g w h. changed (with_chunk chunk) (λ a. refl) x h;
+        finishes = λ chunk last report y w e h. changed (with_last_report chunk last) (λ a. refl) y (e h);
       })
     where
-      by_outcome : (to : Outcome) → HasKey (expired_slice m to x) p ↔ HasKey x p
-      by_outcome (outcome.Slice place) = (λ h. h, λ h. h)
-      by_outcome (outcome.Ended state) = (λ h. h, λ h. h)
+      by_outcome : (to : Outcome) → HasKey x p → HasKey (expired_slice m to x) p
+      by_outcome (outcome.Slice place) h = h
+      by_outcome (outcome.Ended state) h = h
 
-      changed : (g : Attempt → Attempt) → ((r : Attempt) → key_of (g r) ≡ key_of r) → (y : TaskRow) → (HasKey y p ↔ HasKey x p) → ((key_in (option_map g y.attempt) ≡ Some p) ⊎ (lost_key y ≡ Some p)) ↔ HasKey x p
-      changed g kept y e =
-          let own : SameKeys (key_in (option_map g y.attempt)) (claim_key y) (lost_key y) p = same_keys (key_in (option_map g y.attempt)) (claim_key y) (lost_key y) p (key_kept g kept y.attempt) in
-          (λ h. e.0 (own.0 h), λ h. own.1 (e.1 h))
+      changed : (g : Attempt → Attempt) → ((r : Attempt) → key_in (Some (g r)) ≡ key_in (Some r)) → (y : TaskRow) → HasKey y p → (key_in (option_map g y.attempt) ≡ Some p) ⊎ (lost_key y ≡ Some p)
+      changed g kept y (inl h) = inl (key_kept g kept y.attempt ∙ h)
+      changed g kept y (inr h) = inr h
 
   claim_stays : (k : EntryKind) → Finds s k → (x : TaskRow) → Among x s.tasks → (c : Claimed) → IsClaimOf x c → IsClaimOf (task_after s m k x) c
   claim_stays k f x a c h = (by_kind k f h.0, task_no s m k o f x a ∙ h.1)
@@ -112,7 +80,7 @@ module _ (s : PoolState) (m : ℕ) (o : IsSound s) where
           begun : claim_key x ≡ None → HasKey x (c.0, c.1) → HasKey (started_run m b id x) (c.0, c.1)
           begun none (inl e) = absurd (cc (none, e))
           begun none (inr e) = inr e
-      by_kind k f g = (claims_same k f refl x a (c.0, c.1)).1 g
+      by_kind k f g = key_stays k f refl x a (c.0, c.1) g
 
   claim_from : (k : EntryKind) → Finds s k → (x : TaskRow) → Among x s.tasks → (c : Claimed) → IsClaimOf (task_after s m k x) c → IsClaimOf x c ⊎ (claim_to_come k ≡ Some c)
   claim_from (kind.Claim b t id) f x a c h =
@@ -124,7 +92,7 @@ module _ (s : PoolState) (m : ℕ) (o : IsSound s) where
           (let both : (b, id) ≡ (c.0, c.1) = same_Some _ _ e in
           inr (ap (λ (p : ℕ × List ℕ). Some (p.0, p.1, t)) both ∙ ap (λ (j : ℕ). Some (c.0, c.1, j)) (sym n ∙ is)))
       begun n (inr e) is = inl (inr e, is)
-  claim_from k f x a c h = inl ((claims_same k f refl x a (c.0, c.1)).0 h.0, sym (task_no s m k o f x a) ∙ h.1)
+  claim_from k f x a c h = inl (key_before s m k o f refl x a (c.0, c.1) h.0, sym (task_no s m k o f x a) ∙ h.1)
 
   claim_added : (k : EntryKind) → (x : TaskRow) → Among x (added_tasks m k) → (c : Claimed) → IsClaimOf x c → claim_to_come k ≡ Some c
   claim_added (kind.New t who request state slice from) x a c h =

@@ -24,3 +24,4 @@ pub mod SourceHash
 pub mod UseIsCounted
 pub mod UsesChange
 pub mod UsesAreFew
+pub mod Loading

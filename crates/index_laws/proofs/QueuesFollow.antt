@@ -15,7 +15,7 @@ use Rattle.index_laws.specs.TaskQueues.{waiting_of, place_in, QueuesFollow}
 use Rattle.index_laws.proofs.Keys.{keyed_after}
 
 -- the place of a row holds its number
-waiting_tells : (x : TaskRow) (k : Waiting × QueueSet) → waiting_of x ≡ Some k → x.no ≡ k.0.number
+pub waiting_tells : (x : TaskRow) (k : Waiting × QueueSet) → waiting_of x ≡ Some k → x.no ≡ k.0.number
 waiting_tells x k e = by_test (waits x) e
   where
     by_slice : (r : Option Slice) → option_map (place_in x) r ≡ Some k → x.no ≡ k.0.number

@@ -94,7 +94,7 @@ abbrev link_of : List ℕ → ℕ → SourceLink
 link_of digest n = record { hash = digest; task = n }
 
 -- some row has the number, and others of the hash may take its outcome
-abbrev Sourced : List TaskRow → List ℕ → ℕ → Type 0
+abbrev pub Sourced : List TaskRow → List ℕ → ℕ → Type 0
 Sourced tasks digest n = HasKey source_of tasks (link_of digest n)
 
 passes_key : (tasks : List TaskRow) (digest : List ℕ) (n : ℕ) → Passes (has_source_hash digest) tasks n → Sourced tasks digest n
@@ -113,7 +113,7 @@ key_passes tasks digest n h =
     record { row = h.task; among = among_of tasks h.task h.among; passes = and_from (ended_well h.task) (ran_hash digest h.task) g.well (ran_told digest h.task g.hash_is); named = g.task_is }
 
 -- the last of the rows of a hash has the greatest number
-last_source_greatest : (tasks : List TaskRow) → AreNumbered no_of_task 1 tasks → (digest : List ℕ) → IsGreatestOf (Sourced tasks digest) (option_map no_of_task (last_source tasks digest))
+pub last_source_greatest : (tasks : List TaskRow) → AreNumbered no_of_task 1 tasks → (digest : List ℕ) → IsGreatestOf (Sourced tasks digest) (option_map no_of_task (last_source tasks digest))
 last_source_greatest tasks are digest =
     same_greatest (Passes (has_source_hash digest) tasks) (Sourced tasks digest) (λ n. (passes_key tasks digest n, key_passes tasks digest n))
     (option_map no_of_task (last_source tasks digest)) (last_is_greatest (has_source_hash digest) tasks are)
@@ -189,7 +189,7 @@ module _ (Old New : SourceLink → Type 0) (old new : List SourceLink) (are : (d
               λ p. (grow (link_of digest n)).1 (inl p),
             )) (is.others digest ne)
 
-  followed : (come : Option SourceLink) → ((l : SourceLink) → New l ↔ (Old l ⊎ (come ≡ Some l))) → AreWith come old new → (digest : List ℕ) → IsGreatestOf (λ n. New (link_of digest n)) (newest_in new digest)
+  pub followed : (come : Option SourceLink) → ((l : SourceLink) → New l ↔ (Old l ⊎ (come ≡ Some l))) → AreWith come old new → (digest : List ℕ) → IsGreatestOf (λ n. New (link_of digest n)) (newest_in new digest)
   followed None grow is digest =
       unchanged digest (λ n. (λ q. elim ((grow (link_of digest n)).0 q) [ inl p ↦ p | inr c ↦ absurd (cc (c)) ], λ p. (grow (link_of digest n)).1 (inl p)))
       (ap (λ (links : List SourceLink). newest_in links digest) is)

@@ -16,7 +16,7 @@ use Rattle.swarm_model.specs.declared.entry.EntryKind.{EntryKind}
 use Rattle.swarm_model.specs.declared.entry.EntryKind.TheVariants as kind
 use Rattle.swarm_model.specs.declared.entry.Outcome.TheVariants as outcome
 use Rattle.swarm_model.specs.Finding.{is_state, is_task, task_of}
-use Rattle.swarm_model.specs.Slices.{admit, current_slice}
+use Rattle.swarm_model.specs.Slices.{admit, current_slice, kept_from}
 use Rattle.swarm_model.specs.Deadlines.{next_of, last_state}
 use Rattle.swarm_model.specs.Effects.{no_of_task, task_after, added_tasks, new_row, expired_slice, is_tried_again, retried_from, retried_run, died_run, lost_run, lost_run_at, canceled, kill_marked, started_run, ended_run, lengthened, fresh_chunk, attempt_of, end_state, if_some, run_of_bot, after}
 use Rattle.swarm_model.specs.Soundness.{IsSound}
@@ -29,7 +29,7 @@ use Rattle.pool_laws.proofs.Numbers.{task_no}
 use Rattle.dim_queue.specs.declared.queue_set.QueueSet.{QueueSet}
 use Rattle.dim_queue.specs.declared.waiting.Waiting.{Waiting}
 use Rattle.index_laws.specs.Touched.{touched_task}
-use Rattle.index_laws.specs.TaskQueues.{kept_from, set_of, waiting_of, place_in, touched_place}
+use Rattle.index_laws.specs.TaskQueues.{set_of, waiting_of, place_in, touched_place}
 use Rattle.index_laws.specs.SetToCome.{set_at, set_moved, set_again, set_if_lost, set_of_lost, set_to_come, IsReadyFor, PlaceIsReady}
 
 abbrev Place : Type 0

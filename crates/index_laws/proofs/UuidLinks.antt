@@ -30,32 +30,32 @@ use Rattle.index_laws.proofs.KeyLinks.{links_follow}
 -- ---- links
 
 -- some link is that of the uuid
-abbrev Holds : List UuidLink → Sent → Type 0
+abbrev pub Holds : List UuidLink → Sent → Type 0
 Holds links c = Among (uuid_link c) links
 
-to_link : (links : List UuidLink) (who uuid : List ℕ) (n : ℕ) → HasUuid links (who, uuid) n → Holds links (who, uuid, n)
+pub to_link : (links : List UuidLink) (who uuid : List ℕ) (n : ℕ) → HasUuid links (who, uuid) n → Holds links (who, uuid, n)
 to_link links who uuid n h =
     let its : Sent = (who, uuid, n) in
     let is : h.link ≡ uuid_link its = λ i. let l : UuidLink = record { creator = h.creator_is i; uuid = h.uuid_is i; task = h.task_is i } in l in
     subst (λ (l : UuidLink). Among l links) is (among_of links h.link h.among)
 
-of_link : (links : List UuidLink) (who uuid : List ℕ) (n : ℕ) → Holds links (who, uuid, n) → HasUuid links (who, uuid) n
+pub of_link : (links : List UuidLink) (who uuid : List ℕ) (n : ℕ) → Holds links (who, uuid, n) → HasUuid links (who, uuid) n
 of_link links who uuid n a = let its : Sent = (who, uuid, n) in record { link = uuid_link its; among = contains_of links (uuid_link its) a; creator_is = refl; uuid_is = refl; task_is = refl }
 
 -- where a caller sent nothing under a uuid, there is no link of such a task
 none_holds : (links : List UuidLink) (who uuid : List ℕ) → HasNone links (who, uuid) → (n : ℕ) → Holds links (who, uuid, n) → ⊥
 none_holds links who uuid h n a = let its : Sent = (who, uuid, n) in h.none (uuid_link its) (contains_of links (uuid_link its) a) refl refl
 
-none_from : (links : List UuidLink) (who uuid : List ℕ) → ((n : ℕ) → Holds links (who, uuid, n) → ⊥) → HasNone links (who, uuid)
+pub none_from : (links : List UuidLink) (who uuid : List ℕ) → ((n : ℕ) → Holds links (who, uuid, n) → ⊥) → HasNone links (who, uuid)
 none_from links who uuid h = record { none = λ link c e f. h link.task (to_link links who uuid link.task (record { link = link; among = c; creator_is = e; uuid_is = f; task_is = refl })) }
 
 -- the links with the one to come, by what comes
-with_link : (come : Option Sent) (old new : List UuidLink) → new ≡ links_with (option_map uuid_link come) old → MatchOption come (new ≡ old) (λ y. new ≡ old ++ uuid_link y ∷ [])
+pub with_link : (come : Option Sent) (old new : List UuidLink) → new ≡ links_with (option_map uuid_link come) old → MatchOption come (new ≡ old) (λ y. new ≡ old ++ uuid_link y ∷ [])
 with_link None old new e = e
 with_link (Some y) old new e = e
 
 -- what a link tells
-abbrev sent_in_link : UuidLink → Sent
+abbrev pub sent_in_link : UuidLink → Sent
 sent_in_link link = (link.creator, link.uuid, link.task)
 
 pub uuids_follow : UuidsFollow
@@ -70,13 +70,13 @@ uuids_follow s e o follows old new are is = record { each = λ who uuid n. (λ h
 -- ---- rows
 
 -- a caller sent the row under a uuid that is not empty
-record IsSentAs (x : TaskRow) (who uuid : List ℕ) (n : ℕ) : Type 0 where
-  number : x.no ≡ n
-  by : x.creator ≡ who
-  under : x.request.request_uuid ≡ uuid
-  not_empty : is_empty x.request.request_uuid ≡ false
+pub record IsSentAs (x : TaskRow) (who uuid : List ℕ) (n : ℕ) : Type 0 where
+  pub number : x.no ≡ n
+  pub by : x.creator ≡ who
+  pub under : x.request.request_uuid ≡ uuid
+  pub not_empty : is_empty x.request.request_uuid ≡ false
 
-sent_tells : (x : TaskRow) (who uuid : List ℕ) (n : ℕ) → sent_of x ≡ Some (who, uuid, n) → IsSentAs x who uuid n
+pub sent_tells : (x : TaskRow) (who uuid : List ℕ) (n : ℕ) → sent_of x ≡ Some (who, uuid, n) → IsSentAs x who uuid n
 sent_tells x who uuid n e = by_test (is_empty x.request.request_uuid) refl e
   where
     by_test : (c : Bool) → is_empty x.request.request_uuid ≡ c → cond {A = Option Sent} c None (Some (x.creator, x.request.request_uuid, x.no)) ≡ Some (who, uuid, n) → IsSentAs x who uuid n

@@ -10,3 +10,4 @@ pub mod StateCounts
 pub mod TaskSources
 pub mod RowSums
 pub mod TaskUses
+pub mod Loads

@@ -10,12 +10,13 @@ use Rattle.swarm_model.specs.declared.entry.EntryKind.{EntryKind}
 use Rattle.swarm_model.specs.declared.entry.EntryKind.TheVariants as kind
 use Rattle.swarm_model.specs.declared.entry.Outcome.TheVariants as outcome
 use Rattle.swarm_model.specs.Finding.{task_of}
+use Rattle.swarm_model.specs.Slices.{kept_from}
 use Rattle.swarm_model.specs.Effects.{is_tried_again, run_of_bot, after}
 use Rattle.swarm_model.specs.History.{MayFollow}
 use Rattle.swarm_model.specs.Soundness.{IsSound}
 use Rattle.index_laws.specs.Touched.{touched_task}
 use Rattle.index_laws.specs.StateCounts.{touched_row}
-use Rattle.index_laws.specs.TaskQueues.{kept_from, set_of, touched_place}
+use Rattle.index_laws.specs.TaskQueues.{set_of, touched_place}
 
 -- the set of the slice at a place, for a task that is kept from a bot or from none
 abbrev pub set_at : List Slice → ℕ → Option ℕ → Option QueueSet

@@ -9,7 +9,7 @@ use Rattle.swarm_model.specs.declared.task_row.TaskRow.{TaskRow}
 use Rattle.swarm_model.specs.declared.pool_state.PoolState.{PoolState}
 use Rattle.swarm_model.specs.declared.entry.Entry.{Entry}
 use Rattle.swarm_model.specs.Finding.{has_state, task_of}
-use Rattle.swarm_model.specs.Slices.{current_slice, first}
+use Rattle.swarm_model.specs.Slices.{current_slice, kept_from, first}
 use Rattle.swarm_model.specs.Effects.{after}
 use Rattle.swarm_model.specs.History.{MayFollow}
 use Rattle.swarm_model.specs.Soundness.{IsSound}
@@ -18,10 +18,6 @@ use Rattle.dim_queue.specs.Taking.{taker, set_with}
 use Rattle.dim_queue.specs.Plain.{QueueState, Waits, IsNextOf}
 use Rattle.index_laws.specs.Touched.{touched_task}
 use Rattle.index_laws.specs.Keys.{HasKey}
-
--- the bot that a task is kept from
-abbrev pub kept_from : TaskRow → Option ℕ
-kept_from task = option_map (λ lost. lost.attempt.bot) task.retried
 
 -- the set of a slice, for a task that is kept from a bot or from none
 abbrev pub set_of : Option ℕ → Slice → QueueSet

@@ -1,6 +1,6 @@
 -- The tasks whose outcome others may take, by the hash of the properties with which they ran.
-use Rattle.std.specs.Prelude.{◌≡◌, ℕ, pos, Bool, false, ◌≤◌, ◌&&◌, ◌||◌, not, List, Option, Some, None, if◌then◌else◌}
-use Rattle.std.specs.List.{AllPairs, find, fold}
+use Rattle.std.specs.Prelude.{◌≡◌, ℕ, pos, Bool, false, ◌&&◌, ◌||◌, not, List, Option, Some, None, if◌then◌else◌}
+use Rattle.std.specs.List.{find, fold}
 use Rattle.std.specs.Option.{option_map, option_map_or, option_and_then}
 use Rattle.std.specs.Ordering.{int_eq}
 use Rattle.task_props.specs.Canonical.{hash}
@@ -19,6 +19,7 @@ use Rattle.swarm_model.specs.Reuse.{ended_well, is_young, ran_hash, newer, newes
 use Rattle.swarm_model.specs.Effects.{no_of_task, opening, after}
 use Rattle.swarm_model.specs.History.{replay, IsCaused, MayFollow}
 use Rattle.swarm_model.specs.Soundness.{IsSound}
+use Rattle.pool_laws.specs.BaseRules.{AreCreatedInOrder}
 use Rattle.pool_index.specs.declared.source_link.SourceLink.{SourceLink}
 use Rattle.pool_index.specs.Sources.{newest_in, AreWith}
 use Rattle.index_laws.specs.Touched.{touched_task}
@@ -87,11 +88,7 @@ SourceHashIsKnownBefore = (s : PoolState) (e : Entry) → IsSound s → MayFollo
 
 -- ---- a look-up
 
--- rows of lower numbers were created no later
-abbrev pub AreCreatedInOrder : List TaskRow → Type 0
-AreCreatedInOrder tasks = AllPairs (λ a b. a.created ≤ b.created) tasks
-
--- so it is in every pool that a log leads to
+-- rows of lower numbers were created no later, in every pool that a log leads to
 abbrev pub CreatedInOrder : Type 0
 CreatedInOrder = (settings : PoolSettings) (log : List Entry) → IsCaused (opening settings) log → AreCreatedInOrder (replay (opening settings) log).tasks
 

@@ -14,12 +14,14 @@
 //! has the set of the queue in which a task waits after an entry, by the rows before it, so that room
 //! can be made; so it is with the hash that an entry brings. Other laws say what a look-up means: the
 //! task that a bot gets, that a bot claimed, that a caller sent or whose outcome a slice takes, and
-//! the next deadline of the pool. The indexes themselves are those of `dim_queue` and `pool_index`;
-//! the crate has no code that runs.
+//! the next deadline of the pool. `Loads` has what the indexes gain with a row that is added as it
+//! was kept, for a pool that is opened from rows. The indexes themselves are those of `dim_queue` and
+//! `pool_index`; the crate has no code that runs.
 #![tactic(auto)]
 
 mod deadlines;
 mod links;
+mod loads;
 mod queues;
 mod rows;
 mod sources;
@@ -31,6 +33,7 @@ pub use deadlines::{
 pub use links::{
     claim_is_found, claims_are_fresh, claims_follow, uuid_is_found, uuids_are_fresh, uuids_follow,
 };
+pub use loads::indexes_gain;
 pub use queues::{first_is_next, place_is_ready, queues_follow};
 pub use rows::{counts_follow, rows_grow_by_one, sums_follow};
 pub use sources::{created_in_order, source_hash_is_known_before, source_is_found, sources_follow};

@@ -48,7 +48,7 @@ pub record BlobSteps (P : List BlobRow → ℕ → Type 0) (s : PoolState) (m : 
   pub same : P s.blobs s.placed
   pub renews : (digest : List ℕ) → P (map (renewed_until (m + life s) digest) s.blobs) s.placed
   pub keeps : (n : ℕ) → k ≡ kind.Blob n true → P (map (longer_kept (life s) n) s.blobs) s.placed
-  pub removes : (n : ℕ) → P (filter (is_other n) s.blobs) s.placed
+  pub removes : (n : ℕ) → k ≡ kind.Blob n false → P (filter (is_other n) s.blobs) s.placed
   pub places : (digest : List ℕ) (size place : ℕ) → HasPlace s digest size place → P (s.blobs ++ new_blob (blobs_in s) (m + life s) digest size place ∷ []) (s.placed + 1)
 
 -- what becomes of a blob, by its place
@@ -106,7 +106,7 @@ update_takes s b t chunk last f c is =
 -- what holds after each step holds after the entry
 pub blobs_by : (P : List BlobRow → ℕ → Type 0) (s : PoolState) (m : ℕ) (k : EntryKind) → Finds s k → IsFitting s k → BlobSteps P s m k → P (with_blobs s m k).blobs (with_blobs s m k).placed
 blobs_by P s m (kind.Blob n true) f g p = p.keeps n refl
-blobs_by P s m (kind.Blob n false) f g p = p.removes n
+blobs_by P s m (kind.Blob n false) f g p = p.removes n refl
 blobs_by P s m (kind.Update b t try_no chunk last) f g p =
     chunk_by P s m (kind.Update b t try_no chunk last) p (fresh_chunk (attempt_of s t) chunk) (update_takes s b t chunk last f)
 blobs_by P s m (kind.Put digest size) f g p = put_by P s m (kind.Put digest size) p digest size f (leb-true size 16777216 g)

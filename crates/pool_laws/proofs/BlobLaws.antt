@@ -54,7 +54,7 @@ placed_after s m (kind.Update b t try_no chunk last) = placed_chunk s m (fresh_c
 placed_after s m (kind.Put digest size) = placed_put s m digest size
 placed_after s m entry = omega arith
 
-placed_through : (s : PoolState) (log : List Entry) → (replay s log).placed ≤ s.placed + length log
+pub placed_through : (s : PoolState) (log : List Entry) → (replay s log).placed ≤ s.placed + length log
 placed_through s [] = omega arith
 placed_through s (e ∷ log) = let first = placed_after s e.moment e.kind in let rest = placed_through (after s e) log in omega (arith, first, rest)
 

@@ -54,7 +54,7 @@ module _ (s : PoolState) (e : Entry) (o : IsSound s) (follows : MayFollow s e) w
         same = o.few_blobs;
         renews = λ digest. let few = o.few_blobs in omega (arith, few, length-map s.blobs (renewed_until (m + life s) digest));
         keeps = λ n is. let few = o.few_blobs in omega (arith, few, length-map s.blobs (longer_kept (life s) n));
-        removes = λ n. let few = o.few_blobs in omega (arith, few, length-filter (is_other n) s.blobs, count_by-le-length (is_other n) s.blobs);
+        removes = λ n is. let few = o.few_blobs in omega (arith, few, length-filter (is_other n) s.blobs, count_by-le-length (is_other n) s.blobs);
         places = λ digest size place p. let few = p.few in let more = length-append s.blobs (new_blob (blobs_in s) (m + life s) digest size place ∷ []) in omega (arith, few, more);
       })
 
@@ -85,7 +85,7 @@ module _ (s : PoolState) (e : Entry) (o : IsSound s) (follows : MayFollow s e) w
             (all (λ x. IsSoundBlob (pool_at s m s.placed) (longer_kept (life s) n x)) s.blobs
             (λ x a. cond_both (x.no == n) (renewed (x.deadline + life s) x) x (IsSoundBlob (pool_at s m s.placed))
             (λ t. until x (x.deadline + life s) (let due = kept_due n is x a t in omega (arith, due)) (is_now x a)) (λ t. is_now x a)));
-        removes = λ n. All-filter (is_other n) (IsSoundBlob (pool_at s m s.placed)) s.blobs each_now;
+        removes = λ n is. All-filter (is_other n) (IsSoundBlob (pool_at s m s.placed)) s.blobs each_now;
         places = λ digest size place p.
             All-push (IsSoundBlob (pool_at s m (s.placed + 1))) s.blobs (new_blob (blobs_in s) (m + life s) digest size place)
             (All-weaker (IsSoundBlob (pool_at s m s.placed)) (IsSoundBlob (pool_at s m (s.placed + 1)))
@@ -115,7 +115,7 @@ module _ (s : PoolState) (e : Entry) (o : IsSound s) (follows : MayFollow s e) w
         same = old_distinct;
         renews = λ digest. distinct_changed s.blobs s.placed old_distinct (renewed_until (m + life s) digest) (λ row. stored-renewed (has_digest digest row) (m + life s) row) (λ row. no-renewed (has_digest digest row) (m + life s) row);
         keeps = λ n is. distinct_changed s.blobs s.placed old_distinct (longer_kept (life s) n) (λ row. stored-renewed (row.no == n) (row.deadline + life s) row) (λ row. no-renewed (row.no == n) (row.deadline + life s) row);
-        removes = λ n. distinct_filtered s.blobs s.placed old_distinct (is_other n);
+        removes = λ n is. distinct_filtered s.blobs s.placed old_distinct (is_other n);
         places = λ digest size place p. distinct_added s.blobs s.placed old_distinct (new_blob (blobs_in s) (m + life s) digest size place) refl p.absent;
       })
 
@@ -127,7 +127,7 @@ module _ (s : PoolState) (e : Entry) (o : IsSound s) (follows : MayFollow s e) w
         same = o.apart;
         renews = λ digest. apart_changed (renewed_until (m + life s) digest) (λ row. stored-renewed (has_digest digest row) (m + life s) row) s.blobs o.apart;
         keeps = λ n is. apart_changed (longer_kept (life s) n) (λ row. stored-renewed (row.no == n) (row.deadline + life s) row) s.blobs o.apart;
-        removes = λ n. apart_filtered (is_other n) s.blobs o.apart;
+        removes = λ n is. apart_filtered (is_other n) s.blobs o.apart;
         places = λ digest size place p. apart_added s.blobs (new_blob (blobs_in s) (m + life s) digest size place) (place_is (blobs_in s) size place p.found).free o.apart;
       })
 
@@ -143,7 +143,7 @@ module _ (s : PoolState) (e : Entry) (o : IsSound s) (follows : MayFollow s e) w
         keeps = λ n is. All-map Ahead (longer_kept (life s) n) s.blobs
             (all (λ x. Ahead (longer_kept (life s) n x)) s.blobs
             (λ x a. cond_both (x.no == n) (renewed (x.deadline + life s) x) x Ahead (λ t. let low = each Ahead s.blobs ahead x a in omega (arith, low)) (λ t. each Ahead s.blobs ahead x a)));
-        removes = λ n. All-filter (is_other n) Ahead s.blobs ahead;
+        removes = λ n is. All-filter (is_other n) Ahead s.blobs ahead;
         places = λ digest size place p. All-push Ahead s.blobs (new_blob (blobs_in s) (m + life s) digest size place) ahead (omega arith);
       })
     where

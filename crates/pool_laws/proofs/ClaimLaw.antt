@@ -81,8 +81,8 @@ bots_same s m k o f q x a =
       begins = λ b t id is found w own. absurd (cc (q, ap is_claiming is));
       cancels = λ w. refl;
       marks = λ w. bots_map killed (λ a. refl) x.retried x.attempt;
-      grows = λ chunk g w. bots_map (with_chunk chunk) (λ a. refl) x.retried x.attempt;
-      finishes = λ chunk last y w e. bots_map (with_last_report chunk last) (λ a. refl) y.retried y.attempt ∙ e;
+      grows = λ chunk fresh g w. bots_map (with_chunk chunk) (λ a. refl) x.retried x.attempt;
+      finishes = λ chunk last report y w e. bots_map (with_last_report chunk last) (λ a. refl) y.retried y.attempt ∙ e;
     })
   where
     by_outcome : (to : Outcome) → bots_of (expired_slice m to x) ≡ bots_of x
@@ -119,7 +119,7 @@ append_assoc [] ys zs = refl
 append_assoc (x ∷ xs) ys zs = ap (λ l. x ∷ l) (append_assoc xs ys zs)
 
 -- from a row on
-claims_from : (s : PoolState) (log : List Entry) → IsSound s → IsCaused s log → (x : TaskRow) (n : ℕ) → Among x s.tasks → x.no ≡ n → Tracked (λ (y : TaskRow). bots_of y ≡ bots_of x ++ claimants n log) (replay s log) n
+pub claims_from : (s : PoolState) (log : List Entry) → IsSound s → IsCaused s log → (x : TaskRow) (n : ℕ) → Among x s.tasks → x.no ≡ n → Tracked (λ (y : TaskRow). bots_of y ≡ bots_of x ++ claimants n log) (replay s log) n
 claims_from s [] o c x n a e = record { row = x; among = a; named = e; holds = no_more (bots_of x) }
 claims_from s (e ∷ log) o c x n a i =
     let f = finds s e c.0 in
@@ -137,7 +137,7 @@ claims_from s (e ∷ log) o c x n a i =
     }
 
 -- before the row is there, no claim of it comes
-claims_none : (s : PoolState) (log : List Entry) (t : ℕ) → IsSound s → IsCaused s log → NoRow s t → (y : TaskRow) → Among y (replay s log).tasks → y.no ≡ t → bots_of y ≡ claimants t log
+pub claims_none : (s : PoolState) (log : List Entry) (t : ℕ) → IsSound s → IsCaused s log → NoRow s t → (y : TaskRow) → Among y (replay s log).tasks → y.no ≡ t → bots_of y ≡ claimants t log
 claims_none s [] t o c none y a n = absurd (none y a n)
 claims_none s (e ∷ log) t o c none y a n = by_start (λ none_yet. claims_none (after s e) log t next c.1 none_yet y a n) (state_at_start t e.kind) refl
   where
@@ -168,7 +168,7 @@ runs_right settings log c =
     record { bots = sym (claims_are settings log task.no task c a refl); retried = (task_is s o task a).retried; tries = (task_is s o task a).tries })
 
 -- a task that waits was claimed by the bot whose run is tried again, or never
-earlier_claims : (log : List Entry) (t b : ℕ) (o : Option Retried) (r : Option Attempt) → is_none r ≡ true → bots_in o r ≡ claimants t log → option_map_or (λ lost. lost.attempt.bot == b) o false ≡ false →
+earlier_claims : (log : List Entry) (t b : ℕ) (o : Option Retried) (r : Option Attempt) → is_none r ≡ true → bots_in o r ≡ claimants t log → option_map_or (λ (other : ℕ). other == b) (option_map (λ (lost : Retried). lost.attempt.bot) o) false ≡ false →
     MatchOption o (claimants t log ≡ []) (λ lost. (claimants t log ≡ lost.attempt.bot ∷ []) × (lost.attempt.bot ≢ b))
 earlier_claims log t b o (Some a) idle e kept = absurd (cc (idle))
 earlier_claims log t b None None idle e kept = sym e
@@ -193,7 +193,7 @@ takes dims None e = absurd (cc (e))
 takes dims (Some slice) e = record { slice = slice; is = refl; fits = e }
 
 -- what a claim finds makes it right
-right_by : (s : PoolState) (log : List Entry) (moment pass b t : ℕ) (id : List ℕ) → IsSound s → ((x : TaskRow) → Among x s.tasks → x.no ≡ t → bots_of x ≡ claimants t log) → due_entry s moment pass ≡ None → FindsClaim s b t id → IsRightClaim s log moment b t
+pub right_by : (s : PoolState) (log : List Entry) (moment pass b t : ℕ) (id : List ℕ) → IsSound s → ((x : TaskRow) → Among x s.tasks → x.no ≡ t → bots_of x ≡ claimants t log) → due_entry s moment pass ≡ None → FindsClaim s b t id → IsRightClaim s log moment b t
 right_by s log moment pass b t id o told none f =
     let g : Found (waits_for f.bot.no f.bot.dims) s.tasks f.task = claim_gets s b t id f in
     let parts = and_parts (waits f.task) (takes_slice f.bot.dims (current_slice f.task) && not (is_kept_from f.bot.no f.task)) g.passes in

@@ -74,12 +74,12 @@ key_claims b id x (inr e) = or_right (is_claimed b id x) (lost_test b id x.retri
 
 -- what an entry does to the keys of a row
 
-abbrev is_claiming : EntryKind → Bool
+abbrev pub is_claiming : EntryKind → Bool
 is_claiming (kind.Claim b t id) = true
 is_claiming entry = false
 
 -- a run that is marked or closed keeps its own
-key_kept : (f : Attempt → Attempt) → ((a : Attempt) → key_in (Some (f a)) ≡ key_in (Some a)) → (attempt : Option Attempt) → key_in (option_map f attempt) ≡ key_in attempt
+pub key_kept : (f : Attempt → Attempt) → ((a : Attempt) → key_in (Some (f a)) ≡ key_in (Some a)) → (attempt : Option Attempt) → key_in (option_map f attempt) ≡ key_in attempt
 key_kept f e None = refl
 key_kept f e (Some a) = e a
 
@@ -90,7 +90,7 @@ kept_key f e attempt lost p (inl h) = inl (sym (key_kept f e attempt) ∙ h)
 kept_key f e attempt lost p (inr h) = inr h
 
 -- a run that is tried again keeps its own
-again_key : (m slice : ℕ) (attempt : Option Attempt) → option_map (λ (lost : Retried). key_of lost.attempt) (option_map (retried_from m slice) attempt) ≡ key_in attempt
+pub again_key : (m slice : ℕ) (attempt : Option Attempt) → option_map (λ (lost : Retried). key_of lost.attempt) (option_map (retried_from m slice) attempt) ≡ key_in attempt
 again_key m slice None = refl
 again_key m slice (Some a) = refl
 
@@ -99,7 +99,7 @@ tried_key m x p (inl h) = absurd (cc (h))
 tried_key m x p (inr h) = inl (sym (again_key m x.slice x.attempt) ∙ h)
 
 -- only a claim brings one
-key_before : (s : PoolState) (m : ℕ) (k : EntryKind) → IsSound s → Finds s k → is_claiming k ≡ false → (x : TaskRow) → Among x s.tasks → (p : ℕ × List ℕ) → HasKey (task_after s m k x) p → HasKey x p
+pub key_before : (s : PoolState) (m : ℕ) (k : EntryKind) → IsSound s → Finds s k → is_claiming k ≡ false → (x : TaskRow) → Among x s.tasks → (p : ℕ × List ℕ) → HasKey (task_after s m k x) p → HasKey x p
 key_before s m k o f q x a p =
     task_by (λ (y : TaskRow). HasKey y p → HasKey x p) s m o x a k f (record {
       same = λ h. h;
@@ -108,8 +108,8 @@ key_before s m k o f q x a p =
       begins = λ b t id is found w own. absurd (cc (q, ap is_claiming is));
       cancels = λ w h. h;
       marks = λ w h. kept_key killed (λ a. refl) x.attempt (lost_key x) p h;
-      grows = λ chunk g w h. kept_key (with_chunk chunk) (λ a. refl) x.attempt (lost_key x) p h;
-      finishes = λ chunk last y w e h. e (kept_key (with_last_report chunk last) (λ a. refl) y.attempt (lost_key y) p h);
+      grows = λ chunk fresh g w h. kept_key (with_chunk chunk) (λ a. refl) x.attempt (lost_key x) p h;
+      finishes = λ chunk last report y w e h. e (kept_key (with_last_report chunk last) (λ a. refl) y.attempt (lost_key y) p h);
     })
   where
     by_outcome : (to : Outcome) → HasKey (expired_slice m to x) p → HasKey x p

@@ -100,17 +100,17 @@ abbrev Adds : PoolState → Decision → Type 0
 Adds s told = IfSome told.entry (Finds s)
 
 -- a new task that is accepted comes to one of its slices
-accepted_finds : (s : PoolState) (who : List ℕ) (request : NewTask) (o : Option ℕ) → is_checked request ≡ true → sent s who request.request_uuid ≡ None → length s.tasks < s.settings.most_tasks → admit s request.task_slices 0 ≡ o →
+accepted_finds : (s : PoolState) (who : List ℕ) (request : NewTask) (o : Option ℕ) → is_checked request ≡ true → missing_file s (inputs_of request.task_slices) ≡ None → sent s who request.request_uuid ≡ None → length s.tasks < s.settings.most_tasks → admit s request.task_slices 0 ≡ o →
     Adds s (accepted_at s who request o)
-accepted_finds s who request (Some place) checked unsent room h =
-    record { next = refl; room = room; idle = refl; checked = checked; has_slice = admit_within s request.task_slices 0 place (omega arith) h; unsent = unsent; takes = tt }
-accepted_finds s who request None checked unsent room h =
-    let many = (slices_counted request checked).0 in record { next = refl; room = room; idle = refl; checked = checked; has_slice = omega (arith, many); unsent = unsent; takes = tt }
+accepted_finds s who request (Some place) checked inputs unsent room h =
+    record { next = refl; room = room; idle = refl; checked = checked; has_inputs = inputs; has_slice = admit_within s request.task_slices 0 place (omega arith) h; unsent = unsent; takes = tt }
+accepted_finds s who request None checked inputs unsent room h =
+    let many = (slices_counted request checked).0 in record { next = refl; room = room; idle = refl; checked = checked; has_inputs = inputs; has_slice = omega (arith, many); unsent = unsent; takes = tt }
 
 -- and so does one that takes the outcome of another
-taken_finds : (s : PoolState) (who : List ℕ) (m : ℕ) (request : NewTask) (r : Reuse) → is_checked request ≡ true → sent s who request.request_uuid ≡ None → length s.tasks < s.settings.most_tasks → reuse s m request.task_slices ≡ Some r →
+taken_finds : (s : PoolState) (who : List ℕ) (m : ℕ) (request : NewTask) (r : Reuse) → is_checked request ≡ true → missing_file s (inputs_of request.task_slices) ≡ None → sent s who request.request_uuid ≡ None → length s.tasks < s.settings.most_tasks → reuse s m request.task_slices ≡ Some r →
     Adds s (reuse_outcome s who request r)
-taken_finds s who m request r checked unsent room h =
+taken_finds s who m request r checked inputs unsent room h =
     let f = reuse_is s m 0 request.task_slices r h in
     let found = f.fits.found in
     let placed = f.placed in
@@ -122,6 +122,7 @@ taken_finds s who m request r checked unsent room h =
       room = room;
       idle = refl;
       checked = checked;
+      has_inputs = inputs;
       has_slice = slice_get_within request.task_slices r.slice f.own reached;
       unsent = unsent;
       takes = record {
@@ -300,8 +301,8 @@ tell_finds s who m (ask.New request) may =
     by_map (Adds s) (resubmitted request) (sent s who request.request_uuid) _ (λ row e. cond_both (same_task row.request request) _ _ (Adds s) (λ t. tt) (λ t. tt)) (λ unsent.
     by_map (Adds s) file_missing (missing_file s (inputs_of request.task_slices)) _ (λ file e. tt) (λ has_inputs.
     by_when (Adds s) (nat_le s.settings.most_tasks (length s.tasks)) (tasks_full s) _ (λ t. tt) (λ t.
-    by_map (Adds s) (reuse_outcome s who request) (reuse s m request.task_slices) (accepted s who request) (λ found e. taken_finds s who m request found checked unsent (leb-false _ _ t) e) (λ e.
-    accepted_finds s who request (admit s request.task_slices 0) checked unsent (leb-false _ _ t) refl))))
+    by_map (Adds s) (reuse_outcome s who request) (reuse s m request.task_slices) (accepted s who request) (λ found e. taken_finds s who m request found checked has_inputs unsent (leb-false _ _ t) e) (λ e.
+    accepted_finds s who request (admit s request.task_slices 0) checked has_inputs unsent (leb-false _ _ t) refl))))
 tell_finds s who m (ask.Cancel task try_no kill) may =
     by_with (Adds s) (whole_task s task try_no) rule.NoTask (cancel s who kill) tt (λ row e. cancel_finds s who kill row (whole_is s task try_no row e).among)
 tell_finds s who m (ask.Result task try_no) may = by_with (Adds s) (named_task s task try_no) rule.NoTask (result_of s who) tt (λ row e. result_finds s who row)

@@ -29,15 +29,15 @@ final_through settings log e t task c follows is final =
 
 -- two parts of a log
 
-replay_parts : (s : PoolState) (log more : List Entry) → replay s (log ++ more) ≡ replay (replay s log) more
+pub replay_parts : (s : PoolState) (log more : List Entry) → replay s (log ++ more) ≡ replay (replay s log) more
 replay_parts s [] more = refl
 replay_parts s (e ∷ log) more = replay_parts (after s e) log more
 
-caused_first : (s : PoolState) (log more : List Entry) → IsCaused s (log ++ more) → IsCaused s log
+pub caused_first : (s : PoolState) (log more : List Entry) → IsCaused s (log ++ more) → IsCaused s log
 caused_first s [] more c = tt
 caused_first s (e ∷ log) more c = (c.0, caused_first (after s e) log more c.1)
 
-caused_rest : (s : PoolState) (log more : List Entry) → IsCaused s (log ++ more) → IsCaused (replay s log) more
+pub caused_rest : (s : PoolState) (log more : List Entry) → IsCaused s (log ++ more) → IsCaused (replay s log) more
 caused_rest s [] more c = c
 caused_rest s (e ∷ log) more c = caused_rest (after s e) log more c.1
 

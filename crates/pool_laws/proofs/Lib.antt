@@ -45,4 +45,15 @@ pub mod OutcomeLaw
 mod OutputLaw
 pub mod BlobLaws
 pub mod MachineLaws
+mod Weights
+mod BaseTasks
+pub mod BaseOrder
+mod BaseRows
+mod BaseNeeds
+pub mod BaseLaws
 mod Worked
+pub mod BaseVerdicts
+pub mod BaseClaims
+pub mod Rests
+mod WorkedBase
+mod WorkedRules

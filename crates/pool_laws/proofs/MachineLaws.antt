@@ -12,10 +12,11 @@ use Rattle.swarm_model.specs.Answers.{answer, if_named, named_task}
 use Rattle.swarm_model.specs.Claims.{HasRightRuns, IsRightClaim}
 use Rattle.swarm_model.specs.Deadlines.{due_entry}
 use Rattle.swarm_model.specs.Effects.{opening, after}
-use Rattle.swarm_model.specs.History.{replay, MayFollow, tally}
+use Rattle.swarm_model.specs.History.{replay, IsLegal, MayFollow, tally}
 use Rattle.swarm_model.specs.MachineState.{MachineState, IsHistory, IsRight, KeepsFinals, ShowsVerdict, ShowsOutput, ActsOnce, TakesOutcome}
 use Rattle.swarm_model.specs.Soundness.{IsSound}
 use Rattle.swarm_model.specs.Verdicts.{is_new, verdict, verdict_tally}
+use Rattle.swarm_model.proofs.Histories.{replayed_from_opening, legal_from_opening}
 use Rattle.pool_laws.proofs.Lists.{Among, all, each, find_is}
 use Rattle.pool_laws.proofs.Preconditions.{Finds}
 use Rattle.pool_laws.proofs.EntryPreconditions.{finds}
@@ -36,13 +37,19 @@ module _ (kept : MachineState) (h : IsHistory kept) where
   abbrev rows : PoolState
   rows = replay (opening kept.pool.settings) kept.log
 
+  replayed : kept.pool ≡ rows
+  replayed = replayed_from_opening kept h
+
+  legal : IsLegal (opening kept.pool.settings) kept.log
+  legal = legal_from_opening kept h
+
   -- the rows are sound
   pub is_sound : IsSound kept.pool
-  is_sound = subst IsSound (sym h.replayed) (sound_always kept.pool.settings kept.log h.legal.caused)
+  is_sound = subst IsSound (sym replayed) (sound_always kept.pool.settings kept.log legal.caused)
 
   -- the log tells the state of each task
   pub tells_state : (t : ℕ) (task : TaskRow) → task_of kept.pool t ≡ Some task → verdict kept.pool.settings kept.log t ≡ task.state
-  tells_state t task e = verdict_is_state kept.pool.settings kept.log t task h.legal.caused (ap (λ (s : PoolState). task_of s t) (sym h.replayed) ∙ e)
+  tells_state t task e = verdict_is_state kept.pool.settings kept.log t task legal.caused (ap (λ (s : PoolState). task_of s t) (sym replayed) ∙ e)
 
   -- so a result shows it
   pub shows_verdict : (who : List ℕ) (moment pass : ℕ) (request : Request) → ShowsVerdict kept request (answer kept.pool who moment pass request).reply
@@ -79,18 +86,18 @@ module _ (kept : MachineState) (h : IsHistory kept) where
 
   -- the tally counts what the log tells
   pub tally_told : tally kept.pool ≡ verdict_tally kept.pool.settings kept.log
-  tally_told = ap tally h.replayed ∙ tally_counts_verdicts kept.pool.settings kept.log h.legal.caused
+  tally_told = ap tally replayed ∙ tally_counts_verdicts kept.pool.settings kept.log legal.caused
 
   -- and adds up
   pub tally_total : sum_by (λ (count : ℕ). count) (tally kept.pool) ≡ count_by is_new kept.log
-  tally_total = ap (λ (s : PoolState). sum_by (λ (count : ℕ). count) (tally s)) h.replayed ∙ tally_adds_up kept.pool.settings kept.log h.legal.caused
+  tally_total = ap (λ (s : PoolState). sum_by (λ (count : ℕ). count) (tally s)) replayed ∙ tally_adds_up kept.pool.settings kept.log legal.caused
 
   -- the runs of each task are right
   pub right_runs : (t : ℕ) → IfSome (task_of kept.pool t) (HasRightRuns kept.pool kept.log)
   right_runs t = by_row (task_of kept.pool t) refl
     where
       each_right : All (HasRightRuns kept.pool kept.log) kept.pool.tasks
-      each_right = subst (λ (s : PoolState). All (HasRightRuns s kept.log) s.tasks) (sym h.replayed) (runs_right kept.pool.settings kept.log h.legal.caused)
+      each_right = subst (λ (s : PoolState). All (HasRightRuns s kept.log) s.tasks) (sym replayed) (runs_right kept.pool.settings kept.log legal.caused)
 
       by_row : (r : Option TaskRow) → task_of kept.pool t ≡ r → IfSome r (HasRightRuns kept.pool kept.log)
       by_row None g = tt
@@ -99,15 +106,15 @@ module _ (kept : MachineState) (h : IsHistory kept) where
   module _ (e : Entry) (follows : MayFollow kept.pool e) where
     -- the entry may follow the log
     may_follow : MayFollow rows e
-    may_follow = subst (λ (s : PoolState). MayFollow s e) h.replayed follows
+    may_follow = subst (λ (s : PoolState). MayFollow s e) replayed follows
 
     -- a claim that is added is right
     pub is_right : IsRight kept e
     is_right b t claim is =
-        subst (λ (s : PoolState). IsRightClaim s kept.log e.moment b t) (sym h.replayed) (claims_right kept.pool.settings kept.log e b t claim h.legal.caused may_follow is)
+        subst (λ (s : PoolState). IsRightClaim s kept.log e.moment b t) (sym replayed) (claims_right kept.pool.settings kept.log e b t claim legal.caused may_follow is)
 
     -- and what has ended stays
     pub keeps_finals : (new : MachineState) → new.pool ≡ after kept.pool e → KeepsFinals kept new
     keeps_finals new is t task there final =
-        ap (λ (s : PoolState). task_of s t) (is ∙ ap (λ (s : PoolState). after s e) h.replayed)
-        ∙ final_through kept.pool.settings kept.log e t task h.legal.caused may_follow (ap (λ (s : PoolState). task_of s t) (sym h.replayed) ∙ there) final
+        ap (λ (s : PoolState). task_of s t) (is ∙ ap (λ (s : PoolState). after s e) replayed)
+        ∙ final_through kept.pool.settings kept.log e t task legal.caused may_follow (ap (λ (s : PoolState). task_of s t) (sym replayed) ∙ there) final

@@ -209,8 +209,8 @@ module _ (s : PoolState) (m : ℕ) (k : EntryKind) (o : IsSound s) (f : Finds s 
         begins = λ b t id is found w own. tt;
         cancels = λ w. tt;
         marks = λ w. r.slices x a;
-        grows = λ chunk grown w. r.slices x a;
-        finishes = λ chunk last y w p. slice_none m (ended_run m chunk last y) (not_pending (ended_run m chunk last y).state (finished_final m chunk last y));
+        grows = λ chunk fresh grown w. r.slices x a;
+        finishes = λ chunk last report y w p. slice_none m (ended_run m chunk last y) (not_pending (ended_run m chunk last y).state (finished_final m chunk last y));
       }))
       (added_slice m k)
 
@@ -245,8 +245,8 @@ module _ (s : PoolState) (m : ℕ) (k : EntryKind) (o : IsSound s) (f : Finds s 
         loses = λ w r. absurd (cc (r, runner_lost s.settings.retries m x));
         cancels = λ w r. absurd (cc (r));
         marks = λ w r. contact_ahead b c x.request.bot_ping_tolerance_secs (h (sym (runner_marked x) ∙ r ∙ ap (λ n. Some n) (bot_no s m k o f g b c)));
-        grows = λ chunk grown w r. contact_ahead b c x.request.bot_ping_tolerance_secs (h (sym (runner_longer chunk x) ∙ r ∙ ap (λ n. Some n) (bot_no s m k o f g b c)));
-        finishes = λ chunk last y w p r. absurd (cc (r, runner_finished m chunk last y));
+        grows = λ chunk fresh grown w r. contact_ahead b c x.request.bot_ping_tolerance_secs (h (sym (runner_longer chunk x) ∙ r ∙ ap (λ n. Some n) (bot_no s m k o f g b c)));
+        finishes = λ chunk last report y w p r. absurd (cc (r, runner_finished m chunk last y));
         begins = λ n t id is found w own r. begun_ahead b x.request.bot_ping_tolerance_secs n t id is (sym (same_Some _ _ r ∙ bot_no s m k o f g b c));
       })
 

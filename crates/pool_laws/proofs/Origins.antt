@@ -33,8 +33,8 @@ origin_same s m k o f x a =
       begins = λ b t id is found w own. refl;
       cancels = λ w. refl;
       marks = λ w. refl;
-      grows = λ chunk g w. refl;
-      finishes = λ chunk last y w e. e;
+      grows = λ chunk fresh g w. refl;
+      finishes = λ chunk last report y w e. e;
     })
   where
     by_outcome : (to : Outcome) → origin_of (expired_slice m to x) ≡ origin_of x

@@ -50,7 +50,7 @@ completed_final : (state : TaskState) → is_state state Completed ≡ true → 
 completed_final Completed e = refl
 completed_final state e = absurd (cc (e))
 
-ended_final : (x : TaskRow) → ended_well x ≡ true → is_final x.state ≡ true
+pub ended_final : (x : TaskRow) → ended_well x ≡ true → is_final x.state ≡ true
 ended_final x e = completed_final x.state (and_parts (has_state Completed x) _ e).0
 
 -- what a new task takes, in a pool that has the source
@@ -80,7 +80,7 @@ module _ (s : PoolState) (e : Entry) (o : IsSound s) (follows : MayFollow s e) w
   f = finds s e follows
 
   -- a row that ended well is there after the entry, as it was
-  stays_there : (x : TaskRow) → Among x s.tasks → is_final x.state ≡ true → Among x (after s e).tasks
+  pub stays_there : (x : TaskRow) → Among x s.tasks → is_final x.state ≡ true → Among x (after s e).tasks
   stays_there x a final = subst (λ (z : TaskRow). Among z (after s e).tasks) (final_same s e.moment e.kind o f x a final) (still_among s e x a)
 
   took_still : (x : TaskRow) (n : ℕ) → Took s x n → Took (after s e) x n

@@ -22,6 +22,7 @@ use Rattle.swarm_model.specs.declared.rule.Rule.TheVariants as rule
 use Rattle.swarm_model.specs.Answers.{decide, named_task, stdout_of, output_between, output_gone, chunks_shown, may, denied, reply_only}
 use Rattle.swarm_model.specs.Blobs.{lacks_chunk}
 use Rattle.swarm_model.specs.Bytes.{nothing_held}
+use Rattle.swarm_model.specs.Bases.{empty_base}
 use Rattle.swarm_model.specs.Effects.{opening}
 use Rattle.swarm_model.specs.Finding.{is_task, task_of}
 use Rattle.swarm_model.specs.History.{replay}
@@ -221,5 +222,5 @@ module _ (kept : MachineState) (o : IsSound kept.pool) where
 -- so does every pool that a log leads to
 pub output_told : OutputIsTold
 output_told settings log caused who moment pass number try_no offset most task state parts named told =
-    let kept : MachineState = record { pool = replay (opening settings) log; log = log; ready = None; held = nothing_held } in
+    let kept : MachineState = record { start = empty_base settings; pool = replay (opening settings) log; log = log; ready = None; held = nothing_held } in
     subst (ShowsOutput kept (ask.Stdout number try_no offset most)) told (tell_output kept (sound_always settings log caused) who moment (ask.Stdout number try_no offset most)) task named

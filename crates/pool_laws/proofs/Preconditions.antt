@@ -24,7 +24,7 @@ use Rattle.swarm_model.specs.Finding.{has_state, is_state, is_final, task_of, bo
 use Rattle.swarm_model.specs.Slices.{first}
 use Rattle.swarm_model.specs.Reuse.{sent, ended_well, ran_hash}
 use Rattle.swarm_model.specs.Answers.{run_on, claimed, unfit_of, chunk_rule, unplaced_chunk, is_first_report}
-use Rattle.swarm_model.specs.Blobs.{missing_file, can_take}
+use Rattle.swarm_model.specs.Blobs.{missing_file, inputs_of, can_take}
 use Rattle.swarm_model.specs.Effects.{fresh_chunk}
 use Rattle.swarm_model.specs.Fits.{fits_chunk}
 use Rattle.swarm_model.specs.Uses.{is_used}
@@ -66,6 +66,7 @@ pub record FindsNew (s : PoolState) (t : ℕ) (who : List ℕ) (request : NewTas
   pub room : length s.tasks < s.settings.most_tasks
   pub idle : is_state state Running ≡ false
   pub checked : is_checked request ≡ true
+  pub has_inputs : missing_file s (inputs_of request.task_slices) ≡ None
   pub has_slice : slice < length request.task_slices
   pub unsent : sent s who request.request_uuid ≡ None
   pub takes : IfSome from (FindsSource s request state slice)

@@ -224,6 +224,23 @@ report_goes s o b t chunk last f x a n =
     let there : attempt_of s t ≡ Some f.attempt = ap (option_and_then (λ (y : TaskRow). y.attempt)) (find_task s o x t a (eqb-true x.no t n)) ∙ has in
     subst (λ (r : Option Attempt). IfSome (fresh_chunk r chunk) (λ c. GoesOn c x)) (sym there) (fresh_goes f.attempt chunk x has f.fits)
 
+-- the entry is a report that ends its run
+pub record IsReport (k : EntryKind) (chunk : Option Chunk) (last : Last) : Type 0 where
+  pub bot : ℕ
+  pub task : ℕ
+  pub try_no : ℕ
+  pub is : k ≡ kind.Update bot task try_no chunk (Some last)
+
+-- the entry is a report whose chunk goes on from the output
+pub record IsFresh (s : PoolState) (k : EntryKind) (chunk : Chunk) : Type 0 where
+  pub bot : ℕ
+  pub task : ℕ
+  pub try_no : ℕ
+  pub told : Option Chunk
+  pub last : Option Last
+  pub is : k ≡ kind.Update bot task try_no told last
+  pub fresh : fresh_chunk (attempt_of s task) told ≡ Some chunk
+
 -- a run that is lost is tried again, or ends for good
 pub lost_is : (P : TaskRow → Type 0) (retries m : ℕ) (x : TaskRow) → (is_tried_again retries x ≡ true → P (retried_run m x)) → (is_tried_again retries x ≡ false → P (died_run m x)) → P (lost_run retries m x)
 lost_is P retries m x again died = cond_both (is_tried_again retries x) (retried_run m x) (died_run m x) P again died
@@ -240,8 +257,8 @@ pub record Stays (P : TaskRow → Type 0) (s : PoolState) (m : ℕ) (k : EntryKi
   pub begins : (b t : ℕ) (id : List ℕ) → k ≡ kind.Claim b t id → (found : FindsClaim s b t id) → waits x ≡ true → found.task ≡ x → P (started_run m b id x)
   pub cancels : waits x ≡ true → P (canceled m x)
   pub marks : runs x ≡ true → P (kill_marked x)
-  pub grows : (chunk : Chunk) → GoesOn chunk x → runs x ≡ true → P (lengthened chunk x)
-  pub finishes : (chunk : Option Chunk) (last : Last) (y : TaskRow) → runs y ≡ true → P y → P (ended_run m chunk last y)
+  pub grows : (chunk : Chunk) → IsFresh s k chunk → GoesOn chunk x → runs x ≡ true → P (lengthened chunk x)
+  pub finishes : (chunk : Option Chunk) (last : Last) → IsReport k chunk last → (y : TaskRow) → runs y ≡ true → P y → P (ended_run m chunk last y)
 
 module _ (P : TaskRow → Type 0) (s : PoolState) (m : ℕ) (o : IsSound s) (x : TaskRow) (a : Among x s.tasks) where
   -- a task of a bot that comes anew is lost
@@ -253,11 +270,22 @@ module _ (P : TaskRow → Type 0) (s : PoolState) (m : ℕ) (o : IsSound s) (x :
       (λ n. same)
 
   -- the output of a run goes on, and then the run may end
-  reported_by : (k : EntryKind) → Stays P s m k x → runs x ≡ true → (fresh chunk : Option Chunk) (last : Option Last) → IfSome fresh (λ c. GoesOn c x) → P (reported_task m fresh chunk last x)
-  reported_by k p r None chunk None g = p.same
-  reported_by k p r None chunk (Some last) g = p.finishes chunk last x r p.same
-  reported_by k p r (Some c) chunk None g = p.grows c g r
-  reported_by k p r (Some c) chunk (Some last) g = p.finishes chunk last (lengthened c x) r (p.grows c g r)
+  reported_by : (k : EntryKind) → Stays P s m k x → runs x ≡ true → (fresh chunk : Option Chunk) (last : Option Last) → IfSome last (IsReport k chunk) → IfSome fresh (IsFresh s k) → IfSome fresh (λ c. GoesOn c x) →
+      P (reported_task m fresh chunk last x)
+  reported_by k p r None chunk None ends is g = p.same
+  reported_by k p r None chunk (Some last) ends is g = p.finishes chunk last ends x r p.same
+  reported_by k p r (Some c) chunk None ends is g = p.grows c is g r
+  reported_by k p r (Some c) chunk (Some last) ends is g = p.finishes chunk last ends (lengthened c x) r (p.grows c is g r)
+
+  -- the entry of a report is one
+  report_is : (b t try_no : ℕ) (chunk : Option Chunk) (last : Option Last) → IfSome last (IsReport (kind.Update b t try_no chunk last) chunk)
+  report_is b t try_no chunk None = tt
+  report_is b t try_no chunk (Some last) = record { bot = b; task = t; try_no = try_no; is = refl }
+
+  -- with the chunk that goes on
+  fresh_is : (b t try_no : ℕ) (told : Option Chunk) (last : Option Last) (r : Option Chunk) → fresh_chunk (attempt_of s t) told ≡ r → IfSome r (IsFresh s (kind.Update b t try_no told last))
+  fresh_is b t try_no told last None e = tt
+  fresh_is b t try_no told last (Some c) e = record { bot = b; task = t; try_no = try_no; told = told; last = last; is = refl; fresh = e }
 
   -- the row after an entry is as it was, or changed in one of seven ways
   pub task_by : (k : EntryKind) → Finds s k → Stays P s m k x → P (task_after s m k x)
@@ -277,7 +305,8 @@ module _ (P : TaskRow → Type 0) (s : PoolState) (m : ℕ) (o : IsSound s) (x :
       (let fresh : Option Chunk = fresh_chunk (attempt_of s t) chunk in
       subst P (sym (update_task s m b t try_no chunk last x))
       (cond_both (x.no == t) (reported_task m fresh chunk last x) x P (λ n.
-      reported_by (kind.Update b t try_no chunk last) p (row_is s o t runs (update_runs s o b t chunk last f) x a n) fresh chunk last (report_goes s o b t chunk last f x a n)) (λ n. p.same)))
+      reported_by (kind.Update b t try_no chunk last) p (row_is s o t runs (update_runs s o b t chunk last f) x a n) fresh chunk last (report_is b t try_no chunk last) (fresh_is b t try_no chunk last fresh refl)
+      (report_goes s o b t chunk last f x a n)) (λ n. p.same)))
   task_by entry f p = p.same
 
 -- what a fact of a bot needs so that an entry keeps it

@@ -1,5 +1,5 @@
 -- Each entry that may follow keeps a pool sound.
-use Rattle.std.proofs.Common.{◌≤◌, List, [], ◌∷◌, lit≤, arith}
+use Rattle.std.proofs.Common.{◌≡◌, ◌≤◌, List, [], ◌∷◌, refl, ◌∙◌, lit≤, arith}
 use Rattle.std.specs.List.{All}
 use Rattle.std.proofs.lemmas.List.Elements.{All-nil}
 use Rattle.swarm_model.specs.declared.pool_settings.PoolSettings.{PoolSettings}
@@ -12,7 +12,7 @@ use Rattle.swarm_model.specs.Effects.{opening, after}
 use Rattle.swarm_model.specs.History.{replay, IsCaused, MayFollow}
 use Rattle.swarm_model.specs.Soundness.{IsSound, IsSoundTask, IsSoundBot, IsSoundBlob, Agree, AreClaimedApart, AreSentApart, AreNamedApart, StaysSound}
 use Rattle.pool_laws.proofs.Tasks.{tasks_sound}
-use Rattle.pool_laws.proofs.Bots.{bots_sound}
+use Rattle.pool_laws.proofs.Bots.{bots_sound, settings_same}
 use Rattle.pool_laws.proofs.Runs.{runs_agree}
 use Rattle.pool_laws.proofs.Moments.{ahead_after}
 use Rattle.pool_laws.proofs.Numbers.{tasks_numbered, bots_numbered}
@@ -50,6 +50,11 @@ sound_after s e o follows =
 pub sound_replay : (s : PoolState) (log : List Entry) → IsSound s → IsCaused s log → IsSound (replay s log)
 sound_replay s [] o caused = o
 sound_replay s (e ∷ log) o caused = sound_replay (after s e) log (sound_after s e o caused.0) caused.1
+
+-- no log changes the settings
+pub settings_stay : (s : PoolState) (log : List Entry) → (replay s log).settings ≡ s.settings
+settings_stay s [] = refl
+settings_stay s (e ∷ log) = settings_stay (after s e) log ∙ settings_same s e.moment e.kind
 
 -- a pool without rows is sound
 pub opening_sound : (settings : PoolSettings) → IsSound (opening settings)

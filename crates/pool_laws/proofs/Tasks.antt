@@ -168,7 +168,7 @@ tries_map change e g (Some lost) (Some a) h = (e a ∙ h.0, λ same. h.1 (sym (g
 begun_try : (m b : ℕ) (id : List ℕ) (x : TaskRow) → is_kept_from b x ≡ false → IsRightTry x.retried (record { try_no = next_try x; bot = b; claim = id; begun = m; kill = false; chunks = []; length = 0; last = None; last_chunk = None })
 begun_try m b id x kept = by_retried x.retried kept
   where
-    by_retried : (r : Option Retried) → option_map_or (λ lost. lost.attempt.bot == b) r false ≡ false →
+    by_retried : (r : Option Retried) → option_map_or (λ (other : ℕ). other == b) (option_map (λ (lost : Retried). lost.attempt.bot) r) false ≡ false →
         IsRightTry r (record { try_no = cond (is_some r) 2 1; bot = b; claim = id; begun = m; kill = false; chunks = []; length = 0; last = None; last_chunk = None })
     by_retried None k = refl
     by_retried (Some lost) k = (refl, λ same. eqb-false lost.attempt.bot b k (sym same))
@@ -429,7 +429,7 @@ module _ (s : PoolState) (e : Entry) (o : IsSound s) (follows : MayFollow s e) w
         begins = λ b t id is f w own. begun_sound x (task_is s o x a) w b t id f own;
         cancels = λ w. canceled_sound x (task_is s o x a);
         marks = λ w. marked_sound x (task_is s o x a);
-        grows = λ chunk g w. longer_sound chunk x (task_is s o x a) g;
-        finishes = λ chunk last y w sound. finished_sound chunk last y sound;
+        grows = λ chunk fresh g w. longer_sound chunk x (task_is s o x a) g;
+        finishes = λ chunk last report y w sound. finished_sound chunk last y sound;
       }))
       (added_sound e.kind (finds s e follows))

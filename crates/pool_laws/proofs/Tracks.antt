@@ -48,8 +48,8 @@ final_same s m k o f x a final =
       begins = λ b t id is found w own. absurd (cc (w, not_pending x.state final));
       cancels = λ w. absurd (cc (w, not_pending x.state final));
       marks = λ w. absurd (cc (w, not_running x.state final));
-      grows = λ chunk g w. absurd (cc (w, not_running x.state final));
-      finishes = λ chunk last y w e. absurd (cc (w, e, not_running x.state final));
+      grows = λ chunk fresh g w. absurd (cc (w, not_running x.state final));
+      finishes = λ chunk last report y w e. absurd (cc (w, e, not_running x.state final));
     })
 
 -- so a final row lasts

@@ -40,7 +40,7 @@ IsQuiet t k (RunBy b q told) = (claimant t k ≡ None) × ((given : Told) → to
 IsQuiet t k (Over state) = Unit {0}
 
 -- what is claimed last
-or_other : {A : Type 0} (first second : Option A) (x : A) → (option_or first second otherwise x) ≡ (first otherwise (second otherwise x))
+pub or_other : {A : Type 0} (first second : Option A) (x : A) → (option_or first second otherwise x) ≡ (first otherwise (second otherwise x))
 or_other None second x = refl
 or_other (Some y) second x = refl
 

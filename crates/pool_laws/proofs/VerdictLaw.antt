@@ -90,7 +90,7 @@ quiet_of s m k o f x a = by_phase (phase x) refl
     by_phase (RunBy b q was) e = run_quiet s m o x a b q (run_is_by x.state x.attempt (told_of x) was b q e).0 k f
     by_phase (Over state) e = tt
 
-from_row : (s : PoolState) (log : List Entry) (r : ℕ) → s.settings.retries ≡ r → IsSound s → IsCaused s log → (x : TaskRow) (n : ℕ) → Among x s.tasks → x.no ≡ n →
+pub from_row : (s : PoolState) (log : List Entry) (r : ℕ) → s.settings.retries ≡ r → IsSound s → IsCaused s log → (x : TaskRow) (n : ℕ) → Among x s.tasks → x.no ≡ n →
     Tracked (λ (y : TaskRow). verdict_from r n (phase x) log ≡ y.state) (replay s log) n
 from_row s [] r same o c x n a e = record { row = x; among = a; named = e; holds = from_end_is r n (phase x) ∙ state_of_phase x.state x.attempt (told_of x) }
 from_row s (e ∷ log) r same o c x n a i =
@@ -189,7 +189,7 @@ silent s (kind.Slice u (outcome.Slice place)) t none f g =
     record { no_claim = refl; no_cancel = refl; no_slice = refl; same = ap (λ c. if c then record nothing_told { place = place } else nothing_told) (unknown s u t waits none f.waiting) }
 silent s k t none f g = record { no_claim = refl; no_cancel = refl; no_slice = refl; same = refl }
 
-from_none : (settings : PoolSettings) (s : PoolState) (log : List Entry) (t : ℕ) → s.settings.retries ≡ settings.retries → IsSound s → IsCaused s log → NoRow s t → (y : TaskRow) → Among y (replay s log).tasks → y.no ≡ t →
+pub from_none : (settings : PoolSettings) (s : PoolState) (log : List Entry) (t : ℕ) → s.settings.retries ≡ settings.retries → IsSound s → IsCaused s log → NoRow s t → (y : TaskRow) → Among y (replay s log).tasks → y.no ≡ t →
     verdict settings log t ≡ y.state
 from_none settings s [] t same o c none y a n = absurd (none y a n)
 from_none settings s (e ∷ log) t same o c none y a n = by_start (λ none_yet. from_none settings (after s e) log t later next c.1 none_yet y a n) (state_at_start t e.kind) refl

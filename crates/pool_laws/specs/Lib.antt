@@ -1,3 +1,9 @@
 pub mod NamedBlobs
 pub mod OutputLaw
+pub mod StateWeight
+pub mod BaseRules
 pub mod Worked
+pub mod Before
+pub mod Bases
+pub mod WorkedBase
+pub mod WorkedRules

@@ -15,14 +15,24 @@
 //! bytes that were asked for, that what is sent again adds at most a contact, that a new task takes
 //! the outcome of an earlier one that ran the same, and that rows that have ended stay. So a machine
 //! that adds only what is due and what its answers say keeps a legal log, and may count on sound
-//! rows. The crate has no code that runs.
+//! rows. `BaseVerdicts`, `BaseClaims`, `Rests`: the same of a log that begins from the rows of a base,
+//! where `before` says which entries a row stands for. `BaseLaws`: the rows to which a log leads from a
+//! base are a base again. `BaseOrder`: rows were created in the order of their numbers. The crate has no
+//! code that runs.
 #![tactic(auto)]
 
+mod bases;
+mod from_bases;
 mod laws;
 
+pub use bases::{a_base_is_reached, bases_lead_to_bases, weight_is_bounded};
+pub use from_bases::{
+    a_base_is_told, bases_tell_the_same, claims_from_a_base, runs_from_a_base, states_from_a_base,
+};
 pub use laws::{
-    a_blob_is_kept, a_claim_happens, a_run_ends, an_outcome_is_taken, an_output_is_reported,
-    claims_are_right, due_is_the_earliest, finals_stay, named_blobs_are_there,
-    outcomes_are_taken_over, output_is_told, refusals_add_nothing, repeats_act_once,
-    sources_are_the_newest, stays_sound, tally_counts_verdicts, verdicts_are_states,
+    a_blob_is_kept, a_claim_happens, a_run_ends, a_run_is_retried, an_outcome_is_taken,
+    an_output_is_reported, claims_are_right, due_is_the_earliest, finals_stay,
+    named_blobs_are_there, outcomes_are_taken_over, output_is_told, refusals_add_nothing,
+    repeats_act_once, runs_are_right, sources_are_the_newest, stays_sound, tally_counts_verdicts,
+    verdicts_are_states,
 };
