@@ -7,11 +7,11 @@ use Rattle.serde_json.specs.Read.{read, max_depth}
 use Rattle.serde_json.specs.Written.{has_float}
 use Rattle.dimensions.specs.Alike.{same}
 use Rattle.swarm_model.specs.declared.entry.Entry.{Entry}
-use Rattle.entry_lines.specs.Finding.{◌>>=◌}
+use Rattle.line_parts.specs.Finding.{◌>>=◌}
 use Rattle.entry_lines.specs.Kinds.{entry_data, entry_in, HoldsEntry}
 use Rattle.entry_lines.proofs.KindLaws.{entry_reads_back, entry_has_no_float, entry_is_shallow}
 use Rattle.entry_lines.specs.Lines.{line, if_line, entry_of_line, LinesAreDistinct, LinesReadBack}
-use Rattle.entry_lines.proofs.ReadTexts.{read-compact_text}
+use Rattle.line_parts.proofs.ReadTexts.{read-compact_text}
 use Rattle.entry_lines.proofs.ReadKinds.{entry_reads}
 
 pub is_plain : (e : Entry) → has_float (entry_data e) ≡ false

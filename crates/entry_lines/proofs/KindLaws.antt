@@ -12,13 +12,13 @@ use Rattle.swarm_model.specs.declared.attempt.Last.{Last}
 use Rattle.swarm_model.specs.declared.entry.Entry.{Entry}
 use Rattle.swarm_model.specs.declared.entry.EntryKind.{EntryKind}
 use Rattle.swarm_model.specs.declared.entry.EntryKind.TheVariants as kind
-use Rattle.entry_lines.specs.Finding.{field, whole, number_in}
-use Rattle.entry_lines.specs.Lists.{list_data, or_null, null_or, HoldsOption, option_reads_back, option_has_no_float, option_is_shallow}
-use Rattle.entry_lines.specs.Names.{state_reads_back, event_reads_back}
-use Rattle.entry_lines.specs.Numbers.{number_reads_back, digest_reads_back}
-use Rattle.entry_lines.specs.Parts.{word_in, IsWord, values_data, dims_in, chunk_data, chunk_in, HoldsChunk, last_data, last_in, HoldsLast}
-use Rattle.entry_lines.specs.PartLaws.{dims_reads_back, dims_has_no_float, dims_is_shallow, chunk_reads_back, chunk_is_shallow, last_reads_back, last_never_null, last_has_no_float, last_is_shallow, outcome_reads_back, outcome_has_no_float, outcome_is_shallow}
-use Rattle.entry_lines.specs.Tasks.{request_data, request_in, request_reads_back, request_has_no_float, request_is_shallow, uuid_of, uuid_reads_back}
+use Rattle.line_parts.specs.Finding.{field, whole, number_in}
+use Rattle.line_parts.specs.Lists.{list_data, or_null, null_or, HoldsOption, option_reads_back, option_has_no_float, option_is_shallow}
+use Rattle.line_parts.specs.Names.{state_reads_back, event_reads_back}
+use Rattle.line_parts.specs.Numbers.{number_reads_back, digest_reads_back}
+use Rattle.line_parts.specs.Parts.{word_in, IsWord, values_data, dims_in, chunk_data, chunk_in, HoldsChunk, last_data, last_in, HoldsLast}
+use Rattle.line_parts.specs.PartLaws.{dims_reads_back, dims_has_no_float, dims_is_shallow, chunk_reads_back, chunk_is_shallow, last_reads_back, last_never_null, last_has_no_float, last_is_shallow, outcome_reads_back, outcome_has_no_float, outcome_is_shallow}
+use Rattle.line_parts.specs.Tasks.{request_data, request_in, request_reads_back, request_has_no_float, request_is_shallow, uuid_of, uuid_reads_back}
 use Rattle.entry_lines.specs.Kinds.{kind_name, entry_data, KindFits, HoldsEntry, slice_kind_in, blob_kind_in, new_kind_in, handshake_kind_in, poll_kind_in, claim_kind_in, event_kind_in, update_kind_in, put_kind_in, numbered_kind_in, kind_in, entry_in}
 
 word_reads_back : (n : ℕ) → IsWord n → word_in (whole n) ≡ Some n

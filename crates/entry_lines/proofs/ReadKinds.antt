@@ -6,13 +6,13 @@ use Rattle.dimensions.specs.declared.bot_dims.BotDims.{BotDims}
 use Rattle.swarm_model.specs.declared.entry.Entry.{Entry}
 use Rattle.swarm_model.specs.declared.entry.EntryKind.{EntryKind}
 use Rattle.swarm_model.specs.declared.entry.EntryKind.TheVariants as kind
-use Rattle.entry_lines.specs.Finding.{whole}
+use Rattle.line_parts.specs.Finding.{whole}
 use Rattle.entry_lines.specs.Kinds.{entry_data, KindFits, HoldsEntry}
-use Rattle.entry_lines.specs.Lists.{list_data, or_null}
-use Rattle.entry_lines.specs.Parts.{IsWord, values_data, chunk_data, HoldsChunk, last_data, HoldsLast}
-use Rattle.entry_lines.specs.Tasks.{uuid_of}
-use Rattle.entry_lines.proofs.ReadTexts.{ReadsBack, whole_reads, option_reads}
-use Rattle.entry_lines.proofs.ReadParts.{word_reads, text_reads, dims_read, chunk_reads, last_reads, outcome_reads, request_reads}
+use Rattle.line_parts.specs.Lists.{list_data, or_null}
+use Rattle.line_parts.specs.Parts.{IsWord, values_data, chunk_data, HoldsChunk, last_data, HoldsLast}
+use Rattle.line_parts.specs.Tasks.{uuid_of}
+use Rattle.line_parts.proofs.ReadTexts.{ReadsBack, whole_reads, option_reads}
+use Rattle.line_parts.proofs.ReadParts.{word_reads, text_reads, dims_read, chunk_reads, last_reads, outcome_reads, request_reads}
 
 text_or_null_reads : (o : Option Text) → ReadsBack (or_null string o)
 text_or_null_reads None = record { value = refl; numbers = tt }

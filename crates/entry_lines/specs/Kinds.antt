@@ -8,10 +8,10 @@ use Rattle.dimensions.specs.declared.text.Text.{Text}
 use Rattle.swarm_model.specs.declared.entry.Entry.{Entry}
 use Rattle.swarm_model.specs.declared.entry.EntryKind.{EntryKind}
 use Rattle.swarm_model.specs.declared.entry.EntryKind.TheVariants as kind
-use Rattle.entry_lines.specs.Finding.{◌>>=◌, field, whole, digest_data, digest_in, IsDigest}
-use Rattle.entry_lines.specs.Lists.{list_data, or_null, null_or, HoldsOption}
-use Rattle.entry_lines.specs.Parts.{word_in, long_in, IsWord, values_data, dims_in, chunk_data, chunk_in, HoldsChunk, last_data, last_in, HoldsLast, state_data, state_in, event_data, event_in, outcome_data, outcome_in, HoldsOutcome}
-use Rattle.entry_lines.specs.Tasks.{request_data, request_in, HoldsRequest, uuid_of}
+use Rattle.line_parts.specs.Finding.{◌>>=◌, field, whole, digest_data, digest_in, IsDigest}
+use Rattle.line_parts.specs.Lists.{list_data, or_null, null_or, HoldsOption}
+use Rattle.line_parts.specs.Parts.{word_in, long_in, IsWord, values_data, dims_in, chunk_data, chunk_in, HoldsChunk, last_data, last_in, HoldsLast, state_data, state_in, event_data, event_in, outcome_data, outcome_in, HoldsOutcome}
+use Rattle.line_parts.specs.Tasks.{request_data, request_in, HoldsRequest, uuid_of}
 
 abbrev pub kind_name : EntryKind → List ℕ
 kind_name (kind.Slice t to) = codes "slice"

@@ -1,9 +1,2 @@
-pub mod Finding
-pub mod Lists
-pub mod Numbers
-pub mod Names
-pub mod Parts
-pub mod PartLaws
-pub mod Tasks
 pub mod Kinds
 pub mod Lines

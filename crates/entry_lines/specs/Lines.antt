@@ -4,7 +4,7 @@ use Rattle.serde_json.specs.Read.{read}
 use Rattle.serde_json.specs.Written.{compact_text}
 use Rattle.dimensions.specs.Alike.{same}
 use Rattle.swarm_model.specs.declared.entry.Entry.{Entry}
-use Rattle.entry_lines.specs.Finding.{◌>>=◌}
+use Rattle.line_parts.specs.Finding.{◌>>=◌}
 use Rattle.entry_lines.specs.Kinds.{entry_data, entry_in, HoldsEntry}
 
 -- compact JSON with the keys in order of bytes

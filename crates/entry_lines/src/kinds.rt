@@ -2,14 +2,11 @@
 ghost use Rattle.std.specs.Prelude.{◌≡◌, IfOk, OnOk, codes};
 ghost use Rattle.serde_json.specs.Data.{put, no_members};
 ghost use Rattle.serde_json.specs.View.{members_view};
-ghost use Rattle.entry_lines.specs.Tasks.{uuid_of};
 ghost use Rattle.entry_lines.specs.Kinds.{kind_members as spec_kind_members, kind_name as spec_kind_name, KindFits};
 
-use crate::line_field::LineField;
-use crate::members::with_field;
-use crate::tasks::request_value;
-use dimensions::{BotDims, Text, TryCopy};
+use dimensions::{BotDims, Text};
 use json_values::with;
+use line_parts::{LineField, request_value, uuid_of, with_field};
 use serde_json::{Map, Value};
 use std::alloc::{AllocError, Global};
 use swarm_model::{Chunk, EntryKind, EventKind, Last, TaskState};
@@ -64,17 +61,6 @@ fn two_members<A: LineField, B: LineField>(
 {
     let members = one_member(alloc, second_key, second)?;
     with_field(alloc, members, first_key, first)
-}
-
-/// A uuid, where there is one: the empty text stands for none.
-fn uuid_of(alloc: Global, uuid: &Text) -> Result<Option<Text>, AllocError>
-    ensures { IfOk result (λ o. o ≡ uuid_of uuid.now) }
-{
-    if uuid.as_str().is_empty() {
-        Ok(None)
-    } else {
-        Ok(Some(uuid.try_copy(alloc)?))
-    }
 }
 
 fn new_members(

@@ -29,23 +29,14 @@
 //! anywhere, or keeps the rules on a request, is not asked.
 //!
 //! `specs/Kinds.antt` has the value of each entry, and `specs/Lines.antt` the line and the laws.
-//! The crate stands on `swarm_model`, `task_props`, `dimensions`, `serde_json` and `hex`.
+//! The crate stands on `line_parts`, `swarm_model`, `task_props`, `dimensions` and `serde_json`.
 #![tactic(auto)]
 
-mod dims;
 mod kinds;
 mod line;
-mod line_fault;
-mod line_field;
-mod lists;
-mod members;
-mod names;
-mod parts;
-mod plain_values;
 mod read_kinds;
-mod tasks;
 
 pub use line::{
     a_line_is_of_one_entry, an_entry_is_read_of_its_line, is_line_of, line_of, read_line,
 };
-pub use line_fault::LineFault;
+pub use line_parts::LineFault;

@@ -1,18 +1,15 @@
 //! The line of an entry, and the entry of a line.
-ghost use Rattle.std.specs.Prelude.{◌≡◌, Some, Decides, IfOk, OnOk, codes};
-ghost use Rattle.serde_json.specs.Find.{as_str};
-ghost use Rattle.serde_json.specs.Read.{read};
+ghost use Rattle.std.specs.Prelude.{◌≡◌, Some, Decides, IfOk, OnOk};
 ghost use Rattle.serde_json.specs.View.{view};
-ghost use Rattle.entry_lines.specs.Finding.{Finds, FindsValue, field};
+ghost use Rattle.line_parts.specs.Finding.{Finds};
 ghost use Rattle.entry_lines.specs.Kinds.{entry_data, entry_in, HoldsEntry};
 ghost use Rattle.entry_lines.specs.Lines.{line as spec_line, if_line, entry_of_line, LinesAreDistinct, LinesReadBack};
 
-use crate::LineFault;
 use crate::kinds::{kind_members, kind_name};
-use crate::members::{read_field, value_at, with_field};
 use crate::read_kinds::read_kind;
 use dimensions::Text;
 use json_values::with;
+use line_parts::{LineFault, name_of, read_field, value_of, with_field};
 use serde_json::Value;
 use std::alloc::{AllocError, Global};
 use swarm_model::Entry;
@@ -39,28 +36,6 @@ pub fn line_of(alloc: Global, entry: &Entry) -> Result<Text, AllocError>
     let value = entry_value(alloc, entry)?;
     let text = value.to_string(alloc)?;
     Ok(Text::from_string(text))
-}
-
-fn value_of(alloc: Global, text: &str) -> Result<Value, LineFault>
-    ensures { FindsValue view result (read text.now) }
-{
-    match Value::from_str(alloc, text) {
-        Ok(value) => Ok(value),
-        Err(error) => {
-            if error.is_memory() {
-                Err(LineFault::Memory)
-            } else {
-                Err(LineFault::NotALine)
-            }
-        }
-    }
-}
-
-fn name_of(value: &Value) -> Result<&str, LineFault>
-    ensures { FindsValue (λ s. s.now) result (field as_str (codes "k") (view value.now)) }
-{
-    let name = value_at(value, "k")?;
-    name.as_str().ok_or(LineFault::NotALine)
 }
 
 #[tactic(auto, unfolding(crate::specs::Kinds::entry_in))]

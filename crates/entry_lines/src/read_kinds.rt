@@ -1,13 +1,10 @@
 //! What is read of the value of each kind of entry.
-ghost use Rattle.std.specs.Prelude.{◌≡◌, [], unwrap_or};
 ghost use Rattle.serde_json.specs.View.{view};
-ghost use Rattle.entry_lines.specs.Finding.{Finds};
+ghost use Rattle.line_parts.specs.Finding.{Finds};
 ghost use Rattle.entry_lines.specs.Kinds.{slice_kind_in, blob_kind_in, new_kind_in, handshake_kind_in, poll_kind_in, claim_kind_in, event_kind_in, update_kind_in, put_kind_in, numbered_kind_in, kind_in};
 
-use crate::LineFault;
-use crate::members::{read_field, value_at};
-use crate::tasks::read_request;
 use dimensions::{BotDims, Text};
+use line_parts::{LineFault, read_field, read_request, text_or_empty, value_at};
 use serde_json::Value;
 use std::alloc::Global;
 use swarm_model::{Chunk, EntryKind, EventKind, Last, Outcome, TaskState};
@@ -29,16 +26,6 @@ fn read_blob(alloc: Global, value: &Value) -> Result<EntryKind, LineFault>
     let kept = read_field::<bool>(alloc, value, "kept")?;
     let n = read_field::<u32>(alloc, value, "n")?;
     Ok(EntryKind::Blob { n, kept })
-}
-
-/// The text, or the empty text where there is none.
-fn text_or_empty(alloc: Global, text: Option<Text>) -> Text
-    ensures { result ≡ unwrap_or text [] }
-{
-    match text {
-        Some(text) => text,
-        None => Text::new(alloc),
-    }
 }
 
 #[tactic(auto, unfolding(crate::specs::Kinds::new_kind_in))]

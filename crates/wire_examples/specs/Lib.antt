@@ -1,3 +1,4 @@
+pub mod BaseLineExamples
 pub mod BodiesRead
 pub mod BotRequestExamples
 pub mod LineExamples

@@ -7,6 +7,7 @@
 #![tactic(auto)]
 
 pub mod asking_examples;
+pub mod base_line_examples;
 pub mod blob_body_examples;
 pub mod bot_body_examples;
 pub mod bot_request_examples;
