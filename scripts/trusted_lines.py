@@ -48,6 +48,8 @@ LAWS = [
     ("Rattle.swarm_model.specs.DueLaw", "DueIsEarliest"),
     ("Rattle.swarm_model.specs.RefusalLaw", "RefusalsAddNothing"),
     ("Rattle.swarm_model.specs.Soundness", "StaysSound"),
+    ("Rattle.pool_laws.specs.BaseRules", "KeepsBaseRows LeadsToABase OpeningIsABase"),
+    ("Rattle.pool_laws.specs.StateWeight", "OpeningWeighsNothing WeightAfter WeightIsBounded"),
     ("Rattle.bot_core.specs.Output", "SendsWhatWasWritten"),
     ("Rattle.bot_core.specs.Starts", "StartsOnce"),
     ("Rattle.bot_core.specs.Signals", "KillsAfterTermAndGrace"),
