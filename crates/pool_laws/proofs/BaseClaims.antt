@@ -24,8 +24,8 @@ use Rattle.pool_laws.proofs.Tasks.{not_pending}
 use Rattle.pool_laws.proofs.Tracks.{Tracked, track, final_lasts}
 use Rattle.pool_laws.proofs.ClaimLaw.{claims_from, claims_none, right_by}
 use Rattle.pool_laws.proofs.BaseVerdicts.{InBase, row, no_row, in_base}
-use Rattle.pool_laws.specs.Before.{accepted_in, accepted_at, lost_before, run_before, entries_of, before}
-use Rattle.pool_laws.specs.Bases.{bots_before, HasRightRunsSince, ClaimsFromABase, RunsFromABase}
+use Rattle.swarm_model.specs.Before.{accepted_in, accepted_at, lost_before, run_before, entries_of, before, bots_before, HasRightRunsSince}
+use Rattle.pool_laws.specs.Bases.{ClaimsFromABase, RunsFromABase}
 
 -- the run that a row tells of
 run_claims : (t : ℕ) (r : Option Attempt) (log : List Entry) → claimants t (map (entry_at 0 0) (run_before t r) ++ log) ≡ bots_in None r ++ claimants t log

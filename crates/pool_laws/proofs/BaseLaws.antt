@@ -9,7 +9,8 @@ use Rattle.swarm_model.specs.declared.entry.Entry.{Entry}
 use Rattle.swarm_model.specs.Effects.{after, opening}
 use Rattle.swarm_model.specs.History.{replay, IsCaused}
 use Rattle.swarm_model.specs.Soundness.{IsSound}
-use Rattle.pool_laws.specs.BaseRules.{IsKeptTask, HasOutcome, AreBaseRows, KeepsBaseRows, LeadsToABase, OpeningIsABase}
+use Rattle.swarm_model.specs.BaseRules.{IsKeptTask, HasOutcome, AreBaseRows}
+use Rattle.pool_laws.specs.BaseLaws.{KeepsBaseRows, LeadsToABase, OpeningIsABase}
 use Rattle.pool_laws.proofs.Sound.{sound_after, sound_replay, settings_stay, opening_sound}
 use Rattle.pool_laws.proofs.BlobLaws.{placed_through}
 use Rattle.pool_laws.proofs.Weights.{weight_bounded}

@@ -29,7 +29,7 @@ use Rattle.swarm_model.specs.Uses.{is_file_of, has_input, is_chunk_of, has_chunk
 use Rattle.swarm_model.specs.Effects.{after, task_after, added_tasks, with_blobs, put, put_chunk, blobs_in, life, new_row, expired_slice, retried_from, killed, with_chunk, with_last_report, ended_run, end_state}
 use Rattle.swarm_model.specs.History.{MayFollow}
 use Rattle.swarm_model.specs.Soundness.{IsSound}
-use Rattle.pool_laws.specs.BaseRules.{HasWhatIsUsed}
+use Rattle.swarm_model.specs.BaseRules.{HasWhatIsUsed}
 use Rattle.pool_laws.proofs.Alike.{same_is}
 use Rattle.pool_laws.proofs.Lists.{Among, here, later, Found, each_one, each_map, each_append, find_is, find_none, found_once, filter_has, among_map, among_left, among_right}
 use Rattle.pool_laws.proofs.Preconditions.{Finds, FindsBlob}

@@ -11,7 +11,7 @@ use Rattle.swarm_model.specs.declared.entry.EntryKind.TheVariants as kind
 use Rattle.swarm_model.specs.Effects.{task_after, added_tasks, new_row, after}
 use Rattle.swarm_model.specs.History.{MayFollow}
 use Rattle.swarm_model.specs.Soundness.{IsSound}
-use Rattle.pool_laws.specs.BaseRules.{IsKeptTask, AreCreatedInOrder}
+use Rattle.swarm_model.specs.BaseRules.{IsKeptTask, AreCreatedInOrder}
 use Rattle.pool_laws.proofs.Lists.{Among, here, later, each, all, each_append, each_map, each_one}
 use Rattle.pool_laws.proofs.EntryPreconditions.{finds}
 use Rattle.pool_laws.proofs.Origins.{Origin, origin_same}

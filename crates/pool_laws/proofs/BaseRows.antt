@@ -19,7 +19,7 @@ use Rattle.swarm_model.specs.Reuse.{ended_well}
 use Rattle.swarm_model.specs.Effects.{after, task_after, added_tasks, blobs_in, life, new_row}
 use Rattle.swarm_model.specs.History.{MayFollow}
 use Rattle.swarm_model.specs.Soundness.{IsSound}
-use Rattle.pool_laws.specs.BaseRules.{HasOutcome, HaveOutcomes}
+use Rattle.swarm_model.specs.BaseRules.{HasOutcome, HaveOutcomes}
 use Rattle.pool_laws.proofs.Lists.{Among, Found, each, each_one, find_is}
 use Rattle.pool_laws.proofs.Preconditions.{Finds, FindsSource}
 use Rattle.pool_laws.proofs.EntryPreconditions.{finds, fitting}

@@ -27,7 +27,7 @@ use Rattle.swarm_model.specs.Entries.{Asked, claim_of, update_of}
 use Rattle.swarm_model.specs.Effects.{no_of_bot, after, task_after, added_tasks, bot_after, added_bots, new_row, end_at, expired_slice, retried_from, lost_run, killed, started_run, with_chunk, with_last_report, ended_run}
 use Rattle.swarm_model.specs.History.{MayFollow}
 use Rattle.swarm_model.specs.Soundness.{IsSound}
-use Rattle.pool_laws.specs.BaseRules.{IsKeptAttempt, IsKeptTask}
+use Rattle.swarm_model.specs.BaseRules.{IsKeptAttempt, IsKeptTask}
 use Rattle.pool_laws.proofs.Lists.{Among, each, each_one, number_within}
 use Rattle.pool_laws.proofs.Preconditions.{FindsClaim}
 use Rattle.pool_laws.proofs.EntryPreconditions.{finds, fitting, IsFitting}

@@ -33,7 +33,7 @@ use Rattle.pool_laws.proofs.Phases.{Waiting, RunBy, as_claimed_once, phase, phas
 use Rattle.pool_laws.proofs.VerdictFrom.{verdict_from, wait_step, wait_skip, or_other, IsLeft, from_step, from_start}
 use Rattle.pool_laws.proofs.VerdictLaw.{from_row, from_none, NoRow, silent, starts}
 use Rattle.pool_laws.proofs.Finals.{replay_parts, caused_first, caused_rest}
-use Rattle.pool_laws.specs.Before.{accepted_in, accepted_at, lost_before, run_before, entries_of, before, verdict_since}
+use Rattle.swarm_model.specs.Before.{accepted_in, accepted_at, lost_before, run_before, entries_of, before, verdict_since}
 
 -- what is told of a task
 abbrev told_at : List Slice → ℕ → Bool → Told

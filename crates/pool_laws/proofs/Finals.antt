@@ -2,7 +2,6 @@
 use Rattle.std.proofs.Common.{◌≡◌, ℕ, List, [], ◌∷◌, ◌++◌, refl, ap, ◌∙◌, Some, IsTrue, eqb-true}
 use Rattle.swarm_model.specs.declared.task_row.TaskRow.{TaskRow}
 use Rattle.swarm_model.specs.declared.pool_state.PoolState.{PoolState}
-use Rattle.swarm_model.specs.declared.pool_settings.PoolSettings.{PoolSettings}
 use Rattle.swarm_model.specs.declared.entry.Entry.{Entry}
 use Rattle.swarm_model.specs.Finding.{is_final, is_task, task_of}
 use Rattle.swarm_model.specs.Effects.{opening, after}
@@ -21,11 +20,9 @@ final_after s more t task o c e final =
     let g : Tracked (λ (y : TaskRow). y ≡ task) (replay s more) t = track (λ (y : TaskRow). y ≡ task) (final_lasts task final) s more o c task t f.among (eqb-true task.no t f.passes) refl in
     find_task (replay s more) (sound_replay s more o c) g.row t g.among g.named ∙ ap (λ (y : TaskRow). Some y) g.holds
 
--- through one entry that may follow the log
-pub final_through : (settings : PoolSettings) (log : List Entry) (e : Entry) (t : ℕ) (task : TaskRow) → IsCaused (opening settings) log → MayFollow (replay (opening settings) log) e →
-    task_of (replay (opening settings) log) t ≡ Some task → IsTrue (is_final task.state) → task_of (after (replay (opening settings) log) e) t ≡ Some task
-final_through settings log e t task c follows is final =
-    final_after (replay (opening settings) log) (e ∷ []) t task (sound_replay (opening settings) log (opening_sound settings) c) (follows, tt) is final
+-- through one entry that may follow
+pub final_through : (s : PoolState) (e : Entry) (t : ℕ) (task : TaskRow) → IsSound s → MayFollow s e → task_of s t ≡ Some task → IsTrue (is_final task.state) → task_of (after s e) t ≡ Some task
+final_through s e t task o follows is final = final_after s (e ∷ []) t task o (follows, tt) is final
 
 -- two parts of a log
 

@@ -1,4 +1,4 @@
--- What is shown of a task has the state that the log tells of it.
+-- What is shown of a task has the state that the base and the log tell of it.
 use Rattle.std.proofs.Common.{◌≡◌, ℕ, zero, suc, List, Option, Some, subst, sym}
 use Rattle.std.specs.List.{All}
 use Rattle.std.proofs.lemmas.List.Elements.{All-map, All-take, All-filter}
@@ -11,17 +11,17 @@ use Rattle.swarm_model.specs.declared.reply.Reply.{Reply}
 use Rattle.swarm_model.specs.declared.reply.Reply.TheVariants as reply
 use Rattle.swarm_model.specs.declared.answer.Decision.{Decision}
 use Rattle.swarm_model.specs.Answers.{decide, named_task, list_tasks}
+use Rattle.swarm_model.specs.Before.{verdict_since}
 use Rattle.swarm_model.specs.MachineState.{MachineState, HasVerdict, ShowsResult, ShowsVerdict}
 use Rattle.swarm_model.specs.Pages.{is_listed, listed_tasks}
-use Rattle.swarm_model.specs.Verdicts.{verdict}
 use Rattle.swarm_model.specs.Views.{view_of}
 use Rattle.pool_laws.proofs.Decisions.{ShowsNone, of_each}
 use Rattle.pool_laws.proofs.Lists.{All-reverse}
 
--- where the log tells the state of each task
+-- where the base and the log tell the state of each task
 module _ (kept : MachineState)
-    (tells : (number : ℕ) (task : TaskRow) → named_task kept.pool number 0 ≡ Some task → verdict kept.pool.settings kept.log task.no ≡ task.state)
-    (tells_each : All (λ task. verdict kept.pool.settings kept.log task.no ≡ task.state) kept.pool.tasks) where
+    (tells : (number : ℕ) (task : TaskRow) → named_task kept.pool number 0 ≡ Some task → verdict_since kept.start.rows kept.log task.no ≡ task.state)
+    (tells_each : All (λ task. verdict_since kept.start.rows kept.log task.no ≡ task.state) kept.pool.tasks) where
   abbrev s : PoolState
   s = kept.pool
 
@@ -35,7 +35,7 @@ module _ (kept : MachineState)
       (All-take IsTold limit _ (All-reverse IsTold _ (All-filter (is_listed wanted below) IsTold s.tasks tells_each)))
     where
       IsTold : TaskRow → Type 0
-      IsTold task = verdict kept.pool.settings kept.log task.no ≡ task.state
+      IsTold task = verdict_since kept.start.rows kept.log task.no ≡ task.state
 
   -- other replies show none
   none_shown : (request : Request) (answered : Reply) → ShowsNone answered → ShowsVerdict kept request answered
@@ -48,7 +48,7 @@ module _ (kept : MachineState)
   result_shows number zero task e = tells number task e
   result_shows number (suc k) task e = tt
 
-  -- so each answer shows what the log tells
+  -- so each answer shows what they tell
   pub tell_shows : (who : List ℕ) (m : ℕ) (request : Request) → Shows request (decide s who m request)
   tell_shows who m request =
       of_each s (Shows request) (λ decision plain. none_shown request decision.reply plain.0) who m request (record {

@@ -1,4 +1,4 @@
--- The tally counts the verdicts, and adds up to the accepted tasks.
+-- The tally counts the verdicts, and adds up to the tasks of the base and those that were accepted since.
 use Rattle.std.proofs.Common.{◌≡◌, ℕ, ◌+◌, List, [], ◌∷◌, map, length, length-append, refl, ap, sym, ◌∙◌, cond, Bool, arith, sum_by, count_by}
 use Rattle.std.proofs.lemmas.List.{length-map}
 use Rattle.std.proofs.lemmas.List.Sums.{sum_by-cons, sum-map}
@@ -11,14 +11,16 @@ use Rattle.swarm_model.specs.declared.entry.EntryKind.{EntryKind}
 use Rattle.swarm_model.specs.declared.entry.EntryKind.TheVariants as kind
 use Rattle.swarm_model.specs.Numbers.{AreNumbered}
 use Rattle.swarm_model.specs.Finding.{is_state, has_state}
+use Rattle.swarm_model.specs.Before.{accepted_since, is_verdict_since, verdicts_since}
 use Rattle.swarm_model.specs.Effects.{opening, no_of_task, task_after, added_tasks, after}
 use Rattle.swarm_model.specs.History.{replay, states, count_in}
 use Rattle.swarm_model.specs.Soundness.{IsSound}
-use Rattle.swarm_model.specs.Verdicts.{is_new, is_new_kind, numbers, has_verdict, verdicts_in, TallyCountsVerdicts, TallyAddsUp}
+use Rattle.swarm_model.specs.Verdicts.{is_new, is_new_kind, numbers, has_verdict, TallyCountsVerdicts, TallyAddsUp}
+use Rattle.pool_laws.specs.Bases.{TallyFromABase, TallyAddsUpFromABase}
 use Rattle.pool_laws.proofs.Lists.{Among, here, later}
 use Rattle.pool_laws.proofs.Rows.{find_task}
-use Rattle.pool_laws.proofs.Sound.{sound_always}
-use Rattle.pool_laws.proofs.VerdictLaw.{verdict_is_state}
+use Rattle.pool_laws.proofs.Sound.{sound_replay, opening_sound}
+use Rattle.pool_laws.proofs.BaseVerdicts.{states_from}
 
 -- how many tasks there are
 
@@ -77,11 +79,11 @@ counts_rows (x ∷ xs) =
     a ∙ b ∙ omega (arith, c, d)
 
 -- and the tally adds up to the rows
+pub total_since : TallyAddsUpFromABase
+total_since base log o c = sum-map (count_in (replay base log)) states ∙ counts_rows (replay base log).tasks ∙ counted base log
+
 pub tally_adds_up : TallyAddsUp
-tally_adds_up settings log c =
-    let s : PoolState = replay (opening settings) log in
-    let rows = counted (opening settings) log in
-    sum-map (count_in s) states ∙ counts_rows s.tasks ∙ omega (arith, rows)
+tally_adds_up settings log c = total_since (opening settings) log (opening_sound settings) c ∙ omega arith
 
 -- the numbers of the rows
 
@@ -101,13 +103,19 @@ map_same f g e [] = refl
 map_same f g e (x ∷ xs) = cc (e x, map_same f g e xs)
 
 -- so the tally counts the verdicts
+pub tally_since : TallyFromABase
+tally_since base log o c =
+    let s : PoolState = replay base log in
+    let sound : IsSound s = sound_replay base log o c in
+    let names : map no_of_task s.tasks ≡ numbers 1 (accepted_since base log) = numbers_are 1 s.tasks sound.tasks_numbered ∙ ap (numbers 1) (counted base log) in
+    map_same (count_in s) (verdicts_since base log)
+    (λ state. count_through (is_verdict_since base log state) (has_state state) s.tasks
+    (λ task a. ap (λ q. is_state q state) (sym (states_from base log task.no task o c (find_task s sound task task.no a refl))))
+    ∙ ap (count_by (is_verdict_since base log state)) names) states
+
+-- of an empty base, those of the log alone
 pub tally_counts_verdicts : TallyCountsVerdicts
 tally_counts_verdicts settings log c =
-    let s : PoolState = replay (opening settings) log in
-    let o : IsSound s = sound_always settings log c in
-    let rows : length s.tasks ≡ count_by is_new log = counted (opening settings) log ∙ omega arith in
-    let names : map no_of_task s.tasks ≡ numbers 1 (count_by is_new log) = numbers_are 1 s.tasks o.tasks_numbered ∙ ap (numbers 1) rows in
-    map_same (count_in s) (verdicts_in settings log)
-    (λ state. count_through (has_verdict settings log state) (has_state state) s.tasks
-    (λ task a. ap (λ q. is_state q state) (sym (verdict_is_state settings log task.no task c (find_task s o task task.no a refl))))
-    ∙ ap (count_by (has_verdict settings log state)) names) states
+    let none : accepted_since (opening settings) log ≡ count_by is_new log = omega arith in
+    tally_since (opening settings) log (opening_sound settings) c
+    ∙ ap (λ (n : ℕ). map (λ (state : TaskState). count_by (has_verdict settings log state) (numbers 1 n)) states) none

@@ -27,7 +27,8 @@ use Rattle.swarm_model.specs.Soundness.{IsSound}
 use Rattle.pool_laws.proofs.Lists.{Among, here, later, find_none, number_within}
 use Rattle.pool_laws.proofs.Rows.{lost_is, reported_task, reporting_bot, update_task, update_bot}
 use Rattle.pool_laws.proofs.Sound.{sound_after}
-use Rattle.pool_laws.specs.StateWeight.{attempt_weight, retried_weight, task_row_weight, bot_row_weight, state_weight, WeightAfter}
+use Rattle.swarm_model.specs.StateWeight.{attempt_weight, retried_weight, task_row_weight, bot_row_weight, state_weight}
+use Rattle.pool_laws.specs.BaseLaws.{WeightAfter}
 
 -- ---- sums over changed rows
 

@@ -3,7 +3,7 @@ use Rattle.std.proofs.Common.{◌≡◌, ◌≤◌, refl, subst, lit≤, arith}
 use Rattle.swarm_model.specs.declared.pool_state.PoolState.{PoolState}
 use Rattle.swarm_model.specs.Effects.{opening}
 use Rattle.swarm_model.specs.History.{replay}
-use Rattle.pool_laws.specs.BaseRules.{IsBase}
+use Rattle.swarm_model.specs.BaseRules.{IsBase}
 use Rattle.pool_laws.specs.Worked.{retrying, first_chunk}
 use Rattle.pool_laws.specs.WorkedRules.{BaseIsReached, NeedsItsOutput, IsTooHeavy, lost_log, lost_rows}
 use Rattle.pool_laws.proofs.BaseLaws.{leads_to_base, opening_base}

@@ -1,16 +1,15 @@
 -- What holds of a log that begins from the rows of a base.
-use Rattle.std.specs.Prelude.{◌≡◌, ℕ, List, [], ◌++◌, Some, IfSome}
-use Rattle.std.specs.List.{All}
-use Rattle.std.specs.Option.{option_map_or}
+use Rattle.std.specs.Prelude.{◌≡◌, ℕ, List, ◌++◌, Some}
+use Rattle.std.specs.List.{All, sum_by}
 use Rattle.swarm_model.specs.declared.task_row.TaskRow.{TaskRow}
 use Rattle.swarm_model.specs.declared.pool_state.PoolState.{PoolState}
 use Rattle.swarm_model.specs.declared.entry.Entry.{Entry}
 use Rattle.swarm_model.specs.declared.entry.EntryKind.TheVariants as kind
 use Rattle.swarm_model.specs.Finding.{task_of}
-use Rattle.swarm_model.specs.Claims.{claimants, bots_of, IsRightClaim}
-use Rattle.swarm_model.specs.History.{replay, IsCaused, IsLegal, MayFollow}
-use Rattle.swarm_model.specs.Soundness.{IsSound, IsSoundRetried, IsRightTry}
-use Rattle.pool_laws.specs.Before.{before, verdict_since}
+use Rattle.swarm_model.specs.Claims.{IsRightClaim}
+use Rattle.swarm_model.specs.History.{replay, tally, IsCaused, IsLegal, MayFollow}
+use Rattle.swarm_model.specs.Soundness.{IsSound}
+use Rattle.swarm_model.specs.Before.{before, verdict_since, accepted_since, verdict_tally_since, HasRightRunsSince}
 
 -- the state of each task is the one that the base and the log tell
 abbrev pub StatesFromABase : Type 0
@@ -25,26 +24,26 @@ ClaimsFromABase =
     → MayFollow (replay base log) entry → entry.kind ≡ kind.Claim b t claim
     → IsRightClaim (replay base log) (before base t ++ log) entry.moment b t
 
--- the bots of the runs that the base has of a task
-abbrev pub bots_before : PoolState → ℕ → List ℕ
-bots_before base t = option_map_or bots_of (task_of base t) []
-
--- The runs of a task are those that the base has of it, and those of the bots that claimed it since, in the
--- order of their claims. One that was lost is tried again only where it may be, and by another bot.
-pub record HasRightRunsSince (base s : PoolState) (log : List Entry) (task : TaskRow) : Type 0 where
-  pub bots : bots_before base task.no ++ claimants task.no log ≡ bots_of task
-  pub retried : IfSome task.retried (IsSoundRetried s task.request.task_slices)
-  pub tries : IfSome task.attempt (IsRightTry task.retried)
-
 -- so it is for each task
 abbrev pub RunsFromABase : Type 0
 RunsFromABase =
     (base : PoolState) (log : List Entry) → IsSound base → IsCaused base log
     → All (HasRightRunsSince base (replay base log) log) (replay base log).tasks
 
+-- the tally counts what the base and the log tell
+abbrev pub TallyFromABase : Type 0
+TallyFromABase =
+    (base : PoolState) (log : List Entry) → IsSound base → IsCaused base log → tally (replay base log) ≡ verdict_tally_since base log
+
+-- and adds up to the tasks of the base and those that were accepted since
+abbrev pub TallyAddsUpFromABase : Type 0
+TallyAddsUpFromABase =
+    (base : PoolState) (log : List Entry) → IsSound base → IsCaused base log
+    → sum_by (λ count. count) (tally (replay base log)) ≡ accepted_since base log
+
 -- where a log is cut, its rest is legal from the rows at the cut
 abbrev pub RestIsLegal : Type 0
-RestIsLegal = (base : PoolState) (first rest : List Entry) → IsLegal base (first ++ rest) → IsLegal (replay base first) rest
+RestIsLegal = (base : PoolState) (first rest : List Entry) → IsSound base → IsLegal base (first ++ rest) → IsLegal (replay base first) rest
 
 -- and those rows, followed by the rest, tell the same of each task
 abbrev pub RestTellsTheSame : Type 0

@@ -1,9 +1,7 @@
 pub mod NamedBlobs
 pub mod OutputLaw
-pub mod StateWeight
-pub mod BaseRules
+pub mod BaseLaws
 pub mod Worked
-pub mod Before
 pub mod Bases
 pub mod WorkedBase
 pub mod WorkedRules

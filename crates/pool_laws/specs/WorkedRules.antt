@@ -12,7 +12,7 @@ use Rattle.swarm_model.specs.declared.entry.EntryKind.TheVariants as kind
 use Rattle.swarm_model.specs.Answers.{entry_at}
 use Rattle.swarm_model.specs.Effects.{opening}
 use Rattle.swarm_model.specs.History.{IsCaused}
-use Rattle.pool_laws.specs.BaseRules.{IsBase}
+use Rattle.swarm_model.specs.BaseRules.{IsBase}
 use Rattle.pool_laws.specs.Worked.{small_dims, other_dims, repeatable_task, retrying, first_chunk}
 
 -- a run reports the first chunk of its output and is lost, since its bot begins anew; another bot claims the task

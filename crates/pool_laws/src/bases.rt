@@ -1,10 +1,11 @@
 ghost use Rattle.std.specs.Prelude.{◌≡◌};
-ghost use Rattle.pool_laws.specs.BaseRules.{IsBase, KeepsBaseRows, LeadsToABase, OpeningIsABase};
-ghost use Rattle.pool_laws.specs.StateWeight.{OpeningWeighsNothing, WeightAfter, WeightIsBounded, state_weight};
+ghost use Rattle.pool_laws.specs.BaseLaws.{KeepsBaseRows, LeadsToABase, OpeningIsABase, OpeningWeighsNothing, WeightAfter, WeightIsBounded};
 ghost use Rattle.pool_laws.specs.Worked.{retrying};
 ghost use Rattle.pool_laws.specs.WorkedRules.{BaseIsReached, NeedsItsOutput, IsTooHeavy, lost_log, lost_rows};
+ghost use Rattle.swarm_model.specs.BaseRules.{IsBase};
 ghost use Rattle.swarm_model.specs.Effects.{opening};
 ghost use Rattle.swarm_model.specs.History.{replay};
+ghost use Rattle.swarm_model.specs.StateWeight.{state_weight};
 
 /// The rows of a pool gain no more weight by an entry than the entry has. So the rows to which a log
 /// leads weigh no more than those from which it begins and its entries together; empty rows weigh

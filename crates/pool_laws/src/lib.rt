@@ -8,17 +8,17 @@
 //! `Rows`: what an entry does to the rows. `UuidLaw`: the task that a caller sent under a uuid is
 //! found by both. `Decisions`: what holds of each decision, case by case, so that a law names only its
 //! own cases. `Refusals`: a request that is refused adds no entry. `NamedBlobs`: the pool has each blob
-//! that a reply names. `Carrying`: the bytes that an
-//! entry brings are those that came with its request. `BlobLaws`: there is room for a blob that is
-//! placed, and each blob keeps its bytes. `MachineLaws`: for a pool that keeps its log, that results
-//! and the tally show what the log tells, that a claim is right, that the parts of an output are the
-//! bytes that were asked for, that what is sent again adds at most a contact, that a new task takes
-//! the outcome of an earlier one that ran the same, and that rows that have ended stay. So a machine
-//! that adds only what is due and what its answers say keeps a legal log, and may count on sound
-//! rows. `BaseVerdicts`, `BaseClaims`, `Rests`: the same of a log that begins from the rows of a base,
-//! where `before` says which entries a row stands for. `BaseLaws`: the rows to which a log leads from a
-//! base are a base again. `BaseOrder`: rows were created in the order of their numbers. The crate has no
-//! code that runs.
+//! that a reply names. `Carrying`: the bytes that an entry brings are those that came with its request.
+//! `BlobLaws`: there is room for a blob that is placed, and each blob keeps its bytes. `BaseVerdicts`,
+//! `BaseClaims`, `TallyLaw`, `Rests`: states, claims, runs and the tally of a log that begins from the
+//! rows of a base, where `before` says which entries a row stands for, and of such a log that is cut.
+//! `BaseLaws`: the rows to which a log leads from a base are a base again. `BaseOrder`: rows were
+//! created in the order of their numbers. `MachineLaws`: for a pool that keeps its base and its log,
+//! that results and the tally show what both tell, that a claim is right, that the parts of an output
+//! are the bytes that were asked for, that what is sent again adds at most a contact, that a new task
+//! takes the outcome of an earlier one that ran the same, that rows that have ended stay, and that its
+//! rows may be the base of the next log. So a machine that adds only what is due and what its answers
+//! say keeps a legal log, and may count on sound rows. The crate has no code that runs.
 #![tactic(auto)]
 
 mod bases;
@@ -28,6 +28,7 @@ mod laws;
 pub use bases::{a_base_is_reached, bases_lead_to_bases, weight_is_bounded};
 pub use from_bases::{
     a_base_is_told, bases_tell_the_same, claims_from_a_base, runs_from_a_base, states_from_a_base,
+    tally_from_a_base,
 };
 pub use laws::{
     a_blob_is_kept, a_claim_happens, a_run_ends, a_run_is_retried, an_outcome_is_taken,

@@ -30,5 +30,7 @@ pub use changing::{Change, Row, change_row, place_of, row_of};
 pub use deadlines::{blob_end, death_of, silence_of, slice_end};
 pub use output::{fresh_chunk, keep_chunk, make_fresh_room, record_report};
 pub use parts::{BotParts, TaskParts};
-pub use queries::{has_claim, is_capable, is_sent, is_tried_again, needs, waits_for};
+pub use queries::{
+    ended_well, has_claim, is_capable, is_sent, is_tried_again, is_young, needs, waits_for,
+};
 pub use task_changes::{Cancel, ExpireSlice, Finish, LoseRun, MarkKill, StartRun, new_row};

@@ -5,7 +5,7 @@ ghost use Rattle.std.specs.Option.{option_copied, option_map_or};
 ghost use Rattle.swarm_model.specs.Effects.{is_idempotent, is_first_run, is_tried_again};
 ghost use Rattle.swarm_model.specs.Slices.{could_run, takes_slice, waits_for};
 ghost use Rattle.swarm_model.specs.Answers.{was_claimed, has_claim};
-ghost use Rattle.swarm_model.specs.Reuse.{is_sent};
+ghost use Rattle.swarm_model.specs.Reuse.{is_sent, ended_well, is_young};
 ghost use Rattle.swarm_model.specs.Uses.{is_file_of, has_input, is_chunk_of, has_chunk, needs};
 
 use dimensions::{BotDims, DimSet, Text};
@@ -86,6 +86,24 @@ pub fn is_tried_again(retries: u32, task: &TaskRow) -> bool
     ensures { result ≡ is_tried_again retries task.now }
 {
     retries == 1 && is_first_run(&task.attempt) && is_idempotent(task)
+}
+
+/// Whether the run of the task reported its end with 0.
+pub fn ended_well(task: &TaskRow) -> bool
+    ensures { result ≡ ended_well task.now }
+{
+    task.has_state(TaskState::Completed)
+        && match task.last_report() {
+            None => false,
+            Some(last) => last.exit_code == 0,
+        }
+}
+
+/// Whether the task was created less than so many seconds before the moment.
+pub fn is_young(age: u32, moment: u64, task: &TaskRow) -> bool
+    ensures { result ≡ is_young age moment task.now }
+{
+    moment < task.created || moment - task.created < u64::from(age)
 }
 
 fn is_file_of(digest: &Digest, file: &File) -> bool

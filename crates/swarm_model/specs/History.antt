@@ -4,7 +4,6 @@ use Rattle.std.specs.Bool.{MatchBool}
 use Rattle.std.specs.List.{fold, sum_by, count_by}
 use Rattle.swarm_model.specs.declared.task_state.TaskState.{TaskState}
 use Rattle.swarm_model.specs.declared.task_state.TaskState.TheVariants.{Pending, Running, Expired, TimedOut, BotDied, Canceled, Completed, Killed, NoResource}
-use Rattle.swarm_model.specs.declared.pool_settings.PoolSettings.{PoolSettings}
 use Rattle.swarm_model.specs.declared.pool_state.PoolState.{PoolState}
 use Rattle.swarm_model.specs.declared.entry.Entry.{Entry}
 use Rattle.swarm_model.specs.Finding.{has_state}
@@ -13,6 +12,7 @@ use Rattle.swarm_model.specs.Answers.{answer}
 use Rattle.swarm_model.specs.Entries.{weight, is_deadline, asks, Asked}
 use Rattle.swarm_model.specs.Effects.{after}
 use Rattle.swarm_model.specs.Deadlines.{due_entry}
+use Rattle.swarm_model.specs.StateWeight.{state_weight}
 
 -- the pool after the entries
 abbrev pub replay : PoolState → List Entry → PoolState
@@ -42,16 +42,16 @@ abbrev pub IsCaused : PoolState → List Entry → Type 0
 IsCaused s [] = ⊤
 IsCaused s (entry ∷ entries) = MayFollow s entry × IsCaused (after s entry) entries
 
--- the log has as many entries, and weighs as much, as the settings allow at most
+-- the log has no more entries, and together with the rows from which it begins no more weight, than the settings allow
 pub record IsLegal (s : PoolState) (entries : List Entry) : Type 0 where
   pub caused : IsCaused s entries
   pub few : length entries ≤ s.settings.most_entries
-  pub light : sum_by weight entries ≤ s.settings.most_weight
+  pub light : state_weight s + sum_by weight entries ≤ s.settings.most_weight
 
--- the log has room for one entry more
-abbrev pub has_room : PoolSettings → List Entry → Entry → Bool
-has_room settings log entry =
-    nat_lt (length log) settings.most_entries && nat_le (sum_by weight log + weight entry) settings.most_weight
+-- the log, which begins from these rows, has room for one entry more
+abbrev pub has_room : PoolState → List Entry → Entry → Bool
+has_room base log entry =
+    nat_lt (length log) base.settings.most_entries && nat_le (state_weight base + sum_by weight log + weight entry) base.settings.most_weight
 
 abbrev pub states : List TaskState
 states = Pending ∷ Running ∷ Expired ∷ TimedOut ∷ BotDied ∷ Canceled ∷ Completed ∷ Killed ∷ NoResource ∷ []

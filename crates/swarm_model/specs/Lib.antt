@@ -17,6 +17,7 @@ pub mod Blobs
 pub mod Uses
 pub mod Output
 pub mod Deadlines
+pub mod StateWeight
 pub mod History
 pub mod States
 pub mod Soundness
@@ -26,6 +27,8 @@ pub mod Claims
 pub mod Repeats
 pub mod ReuseLaw
 pub mod Verdicts
+pub mod Before
+pub mod BaseRules
 pub mod Points
 pub mod Bytes
 pub mod MachineState

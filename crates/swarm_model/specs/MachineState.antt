@@ -1,5 +1,5 @@
 -- What a machine keeps.
-use Rattle.std.specs.Prelude.{◌≡◌, ◌⊎◌, ℕ, zero, ⊤, IsTrue, List, Option, Some, None, IfSome, is_some}
+use Rattle.std.specs.Prelude.{◌≡◌, ◌⊎◌, ◌++◌, ℕ, zero, ⊤, IsTrue, List, Option, Some, None, IfSome, is_some}
 use Rattle.std.specs.List.{All}
 use Rattle.blob_rows.specs.declared.filled.Filled.{Filled}
 use Rattle.swarm_model.specs.declared.pool_state.PoolState.{PoolState}
@@ -19,12 +19,13 @@ use Rattle.swarm_model.specs.Answers.{named_task, chunks_shown}
 use Rattle.swarm_model.specs.Bytes.{HeldBytes, filled, held_after_fill}
 use Rattle.swarm_model.specs.Claims.{IsRightClaim}
 use Rattle.swarm_model.specs.Effects.{new_row, fresh_chunk}
-use Rattle.swarm_model.specs.Bases.{Base, empty_base}
+use Rattle.swarm_model.specs.Bases.{Base}
+use Rattle.swarm_model.specs.BaseRules.{IsBase}
+use Rattle.swarm_model.specs.Before.{before, verdict_since}
 use Rattle.swarm_model.specs.History.{replay, IsLegal}
 use Rattle.swarm_model.specs.Output.{AreBytesFrom}
 use Rattle.swarm_model.specs.ReuseLaw.{HasSource}
 use Rattle.swarm_model.specs.Soundness.{sent_key, HasKey}
-use Rattle.swarm_model.specs.Verdicts.{verdict}
 
 -- where the log begins, the rows, the log, the entry that is made ready, and the bytes that are held
 pub record MachineState : Type 0 where
@@ -34,9 +35,9 @@ pub record MachineState : Type 0 where
   pub ready : Option Entry
   pub held : HeldBytes
 
--- nothing led to where the log begins, the rows are the replay of the log from there, and the log is legal
+-- the log begins from a base, the rows are the replay of the log from there, and the log is legal
 pub record IsHistory (kept : MachineState) : Type 0 where
-  pub opened : kept.start ≡ empty_base kept.pool.settings
+  pub base : IsBase kept.pool.settings kept.start.count kept.start.rows
   pub replayed : kept.pool ≡ replay kept.start.rows kept.log
   pub legal : IsLegal kept.start.rows kept.log
 
@@ -49,9 +50,9 @@ pub record Fills (old new : MachineState) (digest bytes : List ℕ) (result : Fi
   pub told : result ≡ filled old.pool digest bytes
   pub holds : new ≡ record old { ready = None; held = held_after_fill result digest bytes old.held }
 
--- what is shown of a task has the state that the log tells of it
+-- what is shown of a task has the state that the base and the log tell of it
 abbrev pub HasVerdict : MachineState → TaskView → Type 0
-HasVerdict kept view = verdict kept.pool.settings kept.log view.task_id ≡ view.state
+HasVerdict kept view = verdict_since kept.start.rows kept.log view.task_id ≡ view.state
 
 -- so has the task that is asked for by its own id, and each task of a page
 abbrev pub ShowsResult : MachineState → Request → TaskView → Type 0
@@ -67,9 +68,9 @@ ShowsVerdict kept request other = ⊤
 abbrev pub KeepsFinals : MachineState → MachineState → Type 0
 KeepsFinals old new = (t : ℕ) (task : TaskRow) → task_of old.pool t ≡ Some task → IsTrue (is_final task.state) → task_of new.pool t ≡ Some task
 
--- a claim that is added is right for the rows and the log before it
+-- a claim that is added is right for the rows, and for what the base tells of its task, followed by the log
 abbrev pub IsRight : MachineState → Entry → Type 0
-IsRight kept entry = (b t : ℕ) (claim : List ℕ) → entry.kind ≡ kind.Claim b t claim → IsRightClaim kept.pool kept.log entry.moment b t
+IsRight kept entry = (b t : ℕ) (claim : List ℕ) → entry.kind ≡ kind.Claim b t claim → IsRightClaim kept.pool (before kept.start.rows t ++ kept.log) entry.moment b t
 
 -- the entry, where there is one, says only that the bot was heard
 abbrev pub SaysContact : BotRow → Option Entry → Type 0

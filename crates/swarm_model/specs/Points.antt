@@ -89,7 +89,7 @@ next_entry s call = option_or (due_entry s call.moment call.pass) (answer_to s c
 
 -- the log has no room for the entry that comes next
 abbrev pub LacksRoom : PoolState → List Entry → Option Entry → Type 0
-LacksRoom s log next = IsSomeAnd next (λ entry. has_room s.settings log entry ≡ false)
+LacksRoom s log next = IsSomeAnd next (λ entry. has_room s log entry ≡ false)
 
 -- A call that stopped: what was due was settled in part, and the request added nothing. Where it
 -- stopped for a full log, the log has no room for the entry that comes next.

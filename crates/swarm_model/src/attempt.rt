@@ -66,3 +66,19 @@ impl TryCopy for Last {
         })
     }
 }
+
+impl TryCopy for Attempt {
+    fn try_copy(&self, alloc: Global) -> Result<Attempt, AllocError> {
+        Ok(Attempt {
+            try_no: self.try_no,
+            bot: self.bot,
+            claim: self.claim.try_copy(alloc)?,
+            begun: self.begun,
+            kill: self.kill,
+            chunks: ReservedVec::from_slice(alloc, self.chunks.as_slice())?,
+            length: self.length,
+            last: self.last.try_copy(alloc)?,
+            last_chunk: self.last_chunk,
+        })
+    }
+}

@@ -2,12 +2,14 @@
 //!
 //! `specs/` says, over whole lists: what a checked request may hold (`Fits`), how each request is
 //! answered (`Answers`), what an entry of the log weighs and asks for (`Entries`), what it does to
-//! the rows (`Effects`), where a log begins (`Bases`), which logs are legal (`History`) and what one
-//! call does at its point of a shared log (`Points`). [`Machine`] is what keeps such a log; its contract is these definitions alone.
-//! The rows of blobs are those of `blob_rows`, which [`BlobRow`] is passed on from; [`allowed`]
-//! tells whether a pool gives a caller a permission. [`due_uncounted`], [`answer_uncounted`] and
-//! [`task_uncounted`] ask a machine where nobody counts the rows that are read. The crate has no body
-//! of a machine. It stands on `task_props` and `blob_rows`.
+//! the rows (`Effects`), where a log begins (`Bases`), from which rows it may begin (`BaseRules`) and
+//! for which entries those rows stand (`Before`), what the rows weigh (`StateWeight`), which logs are
+//! legal (`History`) and what one call does at its point of a shared log (`Points`). [`Machine`] is
+//! what keeps such a log; its contract is these definitions alone. The rows of blobs are those of
+//! `blob_rows`, which [`BlobRow`] is passed on from; [`allowed`] tells whether a pool gives a caller a
+//! permission. [`due_uncounted`], [`answer_uncounted`] and [`task_uncounted`] ask a machine where
+//! nobody counts the rows that are read. The crate has no body of a machine. It stands on `task_props`
+//! and `blob_rows`.
 #![tactic(auto)]
 
 mod allowing;
@@ -59,4 +61,4 @@ pub use task_row::TaskRow;
 pub use task_state::{STATES, TaskState};
 pub use task_view::TaskView;
 pub use uncounted::{answer_uncounted, due_uncounted, task_uncounted};
-pub use weighing::weight;
+pub use weighing::{rows_weight, weight};

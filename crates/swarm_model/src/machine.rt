@@ -1,5 +1,5 @@
 ghost use Rattle.std.specs.Prelude.{◌≡◌, ◌≤◌, ◌^◌, ◌↔◌, ◌++◌, ◌∷◌, [], length, true, false, None, Some, Ok, IsTrue, IfSome, IfOk, OnOk, OnErr, IsErrOf, option_map};
-ghost use Rattle.std.specs.List.{count_by, sum_by};
+ghost use Rattle.std.specs.List.{sum_by};
 ghost use Rattle.std.specs.Option.{option_copied};
 ghost use Rattle.sha2.specs.Sha256.{sha256};
 ghost use Rattle.swarm_model.specs.Settings.{keeps_rules};
@@ -7,15 +7,15 @@ ghost use Rattle.swarm_model.specs.Finding.{task_of, bot_of, blob_numbered, blob
 ghost use Rattle.swarm_model.specs.Fits.{fits};
 ghost use Rattle.swarm_model.specs.Answers.{answer};
 ghost use Rattle.swarm_model.specs.Bytes.{nothing_held, brings, held_after};
-ghost use Rattle.swarm_model.specs.Claims.{HasRightRuns};
+ghost use Rattle.swarm_model.specs.BaseRules.{IsBase};
+ghost use Rattle.swarm_model.specs.Before.{HasRightRunsSince, accepted_since, verdict_tally_since};
 ghost use Rattle.swarm_model.specs.Effects.{opening, after};
 ghost use Rattle.swarm_model.specs.Bases.{empty_base, front, entry_from};
 ghost use Rattle.swarm_model.specs.Deadlines.{due_entry};
 ghost use Rattle.swarm_model.specs.History.{MayFollow, has_room, tally};
 ghost use Rattle.swarm_model.specs.MachineState.{IsHistory, IsRight, KeepsFinals, ShowsVerdict, ShowsOutput, ActsOnce, TakesOutcome, Fills};
-ghost use Rattle.swarm_model.specs.Verdicts.{is_new, verdict_tally};
 
-use crate::{Answer, BlobRow, BotRow, Entry, PoolSettings, Request, Steps, TaskRow};
+use crate::{Answer, BlobRow, BotRow, Entry, PoolSettings, PoolState, Request, Steps, TaskRow};
 use blob_rows::Filled;
 use dimensions::Text;
 use std::alloc::{AllocError, Global};
@@ -26,22 +26,31 @@ use task_props::Digest;
 #[derive(Clone, Copy, Debug, PartialEq, Eq)]
 pub enum ReserveFault {
     Memory,
-    /// The log has as many entries, or weighs as much, as it may.
+    /// The log has as many entries, or weighs as much with the rows from which it begins, as it may.
     LogFull,
 }
 
-/// A pool that keeps its log, and its rows as the replay of that log.
+/// A pool that keeps its log, and its rows as the replay of that log from the base on which it was
+/// opened.
 ///
-/// Only `new`, `answer` and `reserve` take memory.
+/// Only `new`, `of_rows`, `answer` and `reserve` take memory.
 pub trait Machine: Sized {
     ghost use Rattle.swarm_model.specs.MachineState.{MachineState};
 
     /// What the machine keeps.
     ghost kept: { Self → MachineState };
 
+    /// A machine to which nothing led.
     fn new(alloc: Global, settings: PoolSettings) -> Result<Self, AllocError>
         requires { IsTrue (keeps_rules settings) }
         ensures { IfOk result (λ m. kept m ≡ record { start = empty_base settings; pool = opening settings; log = []; ready = None; held = nothing_held }) };
+
+    /// A machine whose log begins from these rows, after so many entries. No bytes are held: `fill`
+    /// brings them.
+    fn of_rows(alloc: Global, base: PoolState, count: u64) -> Result<Self, AllocError>
+        requires rules { IsTrue (keeps_rules base.settings) }
+        requires base { IsBase base.settings count base }
+        ensures { IfOk result (λ m. kept m ≡ record { start = record { rows = base; count = count }; pool = base; log = []; ready = None; held = nothing_held }) };
 
     /// The entry of the first deadline that has come by the moment.
     fn due<L: Ledger>(&self, moment: u64, pass: u32, steps: &mut Steps<L>) -> Option<Entry>
@@ -70,8 +79,8 @@ pub trait Machine: Sized {
     fn reserve(&mut self, entry: &Entry) -> Result<(), ReserveFault>
         ensures ok { OnOk result (kept self.new ≡ record (kept self.old) { ready = Some entry.now }) }
         ensures err { OnErr result (kept self.new ≡ record (kept self.old) { ready = None }) }
-        ensures room { OnOk result (IsTrue (has_room (kept self.old).pool.settings (kept self.old).log entry.now)) }
-        ensures full { IsErrOf result ReserveFault.LogFull ↔ (has_room (kept self.old).pool.settings (kept self.old).log entry.now ≡ false) };
+        ensures room { OnOk result (IsTrue (has_room (kept self.old).start.rows (kept self.old).log entry.now)) }
+        ensures full { IsErrOf result ReserveFault.LogFull ↔ (has_room (kept self.old).start.rows (kept self.old).log entry.now ≡ false) };
 
     /// Adds the entry that was reserved just before. `bytes` are those of the content that is put, or
     /// of the chunk that is reported; they are held where the entry places a blob. In a replay there
@@ -79,7 +88,7 @@ pub trait Machine: Sized {
     fn commit(&mut self, entry: Entry, bytes: Option<&[u8]>)
         requires ready { (kept self.old).ready ≡ Some entry }
         requires follows { MayFollow (kept self.old).pool entry }
-        requires room { IsTrue (has_room (kept self.old).pool.settings (kept self.old).log entry) }
+        requires room { IsTrue (has_room (kept self.old).start.rows (kept self.old).log entry) }
         requires bytes { IfSome bytes (λ b. brings entry.kind ≡ Some (sha256 b.now, length b.now)) }
         ensures right { IsRight (kept self.old) entry }
         ensures finals { KeepsFinals (kept self.old) (kept self.new) }
@@ -108,12 +117,24 @@ pub trait Machine: Sized {
     /// How many tasks are in each of the nine states, in the order of [`TaskState`](crate::TaskState).
     fn tally(&self) -> [u64; 9]
         ensures tally { result ≡ tally (kept self.now).pool }
-        ensures verdicts { result ≡ verdict_tally (kept self.now).pool.settings (kept self.now).log }
-        ensures total { sum_by (λ count. count) result ≡ count_by is_new (kept self.now).log };
+        ensures verdicts { result ≡ verdict_tally_since (kept self.now).start.rows (kept self.now).log }
+        ensures total { sum_by (λ count. count) result ≡ accepted_since (kept self.now).start.rows (kept self.now).log };
 
-    /// The moment of the last entry, 0 where there is none.
+    /// The moment of the last entry; where there is none, that of the base.
     fn last(&self) -> u64
         ensures last { result ≡ (kept self.now).pool.last };
+
+    /// How many blobs were ever placed.
+    fn placed(&self) -> u32
+        ensures { result ≡ (kept self.now).pool.placed };
+
+    /// The rows from which the log begins.
+    fn base(&self) -> &PoolState
+        ensures { result.now ≡ (kept self.now).start.rows };
+
+    /// How many entries led to these.
+    fn count(&self) -> u64
+        ensures { result ≡ (kept self.now).start.count };
 
     /// The blob row of this number.
     fn blob(&self, no: u32) -> Option<&BlobRow>
@@ -125,7 +146,7 @@ pub trait Machine: Sized {
 
     fn task<L: Ledger>(&self, no: u32, steps: &mut Steps<L>) -> Option<&TaskRow>
         ensures row { option_copied result ≡ task_of (kept self.now).pool no }
-        ensures runs { IfSome (option_copied result) (HasRightRuns (kept self.now).pool (kept self.now).log) };
+        ensures runs { IfSome (option_copied result) (HasRightRunsSince (kept self.now).start.rows (kept self.now).pool (kept self.now).log) };
 
     fn bot(&self, no: u32) -> Option<&BotRow>
         ensures { option_copied result ≡ bot_of (kept self.now).pool no };

@@ -2,7 +2,7 @@ ghost use Rattle.std.specs.Prelude.{◌≡◌, Some, None, IfOk};
 ghost use Rattle.std.specs.Option.{option_copied};
 
 use crate::Attempt;
-use dimensions::Text;
+use dimensions::{Text, TryCopy};
 use reserved_vec::ReservedVec;
 use std::alloc::{AllocError, Global};
 use std::marker::Model;
@@ -46,6 +46,28 @@ impl MaybeRetried {
         match &self.run {
             None => None,
             Some(run) => Some(&**run),
+        }
+    }
+}
+
+impl TryCopy for Retried {
+    fn try_copy(&self, alloc: Global) -> Result<Retried, AllocError> {
+        Ok(Retried {
+            attempt: self.attempt.try_copy(alloc)?,
+            slice: self.slice,
+            over: self.over,
+        })
+    }
+}
+
+impl TryCopy for MaybeRetried {
+    fn try_copy(&self, alloc: Global) -> Result<MaybeRetried, AllocError> {
+        match self.as_ref() {
+            None => Ok(MaybeRetried::none()),
+            Some(lost) => {
+                let run = Box::new(alloc, lost.try_copy(alloc)?)?;
+                Ok(MaybeRetried { run: Some(run) })
+            }
         }
     }
 }

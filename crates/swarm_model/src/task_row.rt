@@ -1,5 +1,6 @@
 use crate::{Attempt, Last, MaybeRetried, TaskState};
-use dimensions::Text;
+use dimensions::{Text, TryCopy};
+use std::alloc::{AllocError, Global};
 use task_props::{SharedTask, Slice};
 
 /// What a pool knows of a task. Tasks are numbered from 1 in the order of their acceptance.
@@ -32,6 +33,7 @@ impl TaskRow {
     ghost use Rattle.swarm_model.specs.Effects.{next_try};
     ghost use Rattle.swarm_model.specs.Views.{last_of};
     ghost use Rattle.swarm_model.specs.Answers.{is_claimed, has_try, try_of};
+    ghost use Rattle.swarm_model.specs.Soundness.{runner};
 
     pub fn has_state(&self, state: TaskState) -> bool
         ensures { result ≡ has_state state self.now }
@@ -95,6 +97,19 @@ impl TaskRow {
         }
     }
 
+    /// The bot that runs the task.
+    pub fn runner(&self) -> Option<u32>
+        ensures { result ≡ runner self.now }
+    {
+        if !self.has_state(TaskState::Running) {
+            return None;
+        }
+        match &self.attempt {
+            None => None,
+            Some(attempt) => Some(attempt.bot),
+        }
+    }
+
     /// The bot that ran the task before, which doesn't get it again.
     pub fn kept_from(&self) -> Option<u32>
         ensures { result ≡ kept_from self.now }
@@ -113,5 +128,24 @@ impl TaskRow {
             None => false,
             Some(other) => other == bot,
         }
+    }
+}
+
+/// The copy shares the request.
+impl TryCopy for TaskRow {
+    fn try_copy(&self, alloc: Global) -> Result<TaskRow, AllocError> {
+        Ok(TaskRow {
+            no: self.no,
+            creator: self.creator.try_copy(alloc)?,
+            request: self.request.try_copy(alloc)?,
+            created: self.created,
+            state: self.state,
+            slice: self.slice,
+            since: self.since,
+            attempt: self.attempt.try_copy(alloc)?,
+            retried: self.retried.try_copy(alloc)?,
+            source: self.source,
+            ended: self.ended,
+        })
     }
 }

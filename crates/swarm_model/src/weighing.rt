@@ -3,15 +3,16 @@ ghost use Rattle.std.specs.List.{sum_by};
 ghost use Rattle.std.specs.Option.{option_map_or};
 ghost use Rattle.swarm_model.specs.Words.{capped};
 ghost use Rattle.swarm_model.specs.Entries.{weight, weight_of, values_weight, dims_weight, chunk_weight, last_weight, task_weight, properties_weight, slice_weight, cache_weight, file_weight, pair_weight};
+ghost use Rattle.swarm_model.specs.StateWeight.{attempt_weight, retried_weight, task_row_weight, bot_row_weight, state_weight};
 
-use crate::{Chunk, Entry, EntryKind, Last};
+use crate::{Attempt, BotRow, Chunk, Entry, EntryKind, Last, MaybeRetried, PoolState, TaskRow};
 use dimensions::{BotDims, Seq, Text};
 use task_props::{Cache, File, NewTask, Properties, Slice};
 
 /// The bytes that a digest with its size counts for.
 const DIGEST_WEIGHT: u64 = 36;
 
-/// What counts for the weight of a log. A weight past the greatest `u64` is told as that.
+/// What counts for the weight of a log or of rows. A weight past the greatest `u64` is told as that.
 trait Weighs {
     ghost use Rattle.std.specs.Prelude.{ℕ};
 
@@ -205,4 +206,56 @@ pub fn weight(entry: &Entry) -> u64
         | EntryKind::Contact { .. }
         | EntryKind::Terminate { .. } => 0,
     }
+}
+
+impl Weighs for Attempt {
+    ghost use Rattle.swarm_model.specs.StateWeight.{attempt_weight};
+
+    ghost weight = { attempt_weight };
+
+    fn weight(&self) -> u64 {
+        let chunks = weight_of_all(self.chunks.as_slice());
+        let told = chunks.saturating_add(weight_if_some(&self.last));
+        self.claim.weight().saturating_add(told)
+    }
+}
+
+fn retried_weight(retried: &MaybeRetried) -> u64
+    ensures { result ≡ capped (option_map_or retried_weight retried.now 0) }
+{
+    match retried.as_ref() {
+        Some(lost) => lost.attempt.weight(),
+        None => 0,
+    }
+}
+
+impl Weighs for TaskRow {
+    ghost use Rattle.swarm_model.specs.StateWeight.{task_row_weight};
+
+    ghost weight = { task_row_weight };
+
+    fn weight(&self) -> u64 {
+        let runs = weight_if_some(&self.attempt).saturating_add(retried_weight(&self.retried));
+        let asked = task_weight(&self.request).saturating_add(runs);
+        self.creator.weight().saturating_add(asked)
+    }
+}
+
+impl Weighs for BotRow {
+    ghost use Rattle.swarm_model.specs.StateWeight.{bot_row_weight};
+
+    ghost weight = { bot_row_weight };
+
+    fn weight(&self) -> u64 {
+        handshake_weight(&self.name, &self.session, &self.dims, &self.quarantined)
+    }
+}
+
+/// What the rows of a pool weigh, in bytes: those of all their texts, and 36 for each digest that they
+/// keep.
+pub fn rows_weight(state: &PoolState) -> u64
+    ensures { result ≡ capped (state_weight state.now) }
+{
+    let bots = weight_of_all(state.bots.as_slice());
+    weight_of_all(state.tasks.as_slice()).saturating_add(bots)
 }

@@ -1,18 +1,13 @@
 -- How much the rows of a pool weigh.
-use Rattle.std.specs.Prelude.{◌≡◌, ℕ, ◌+◌, ◌≤◌, List, length}
+use Rattle.std.specs.Prelude.{ℕ, ◌+◌, length}
 use Rattle.std.specs.List.{sum_by}
 use Rattle.std.specs.Option.{option_map_or}
 use Rattle.swarm_model.specs.declared.attempt.Attempt.{Attempt}
 use Rattle.swarm_model.specs.declared.retried.Retried.{Retried}
-use Rattle.swarm_model.specs.declared.pool_settings.PoolSettings.{PoolSettings}
 use Rattle.swarm_model.specs.declared.task_row.TaskRow.{TaskRow}
 use Rattle.swarm_model.specs.declared.bot_row.BotRow.{BotRow}
 use Rattle.swarm_model.specs.declared.pool_state.PoolState.{PoolState}
-use Rattle.swarm_model.specs.declared.entry.Entry.{Entry}
-use Rattle.swarm_model.specs.Entries.{task_weight, dims_weight, chunk_weight, last_weight, weight}
-use Rattle.swarm_model.specs.Effects.{after, opening}
-use Rattle.swarm_model.specs.History.{replay, IsCaused}
-use Rattle.swarm_model.specs.Soundness.{IsSound}
+use Rattle.swarm_model.specs.Entries.{task_weight, dims_weight, chunk_weight, last_weight}
 
 -- the id of the claim, a digest for each chunk that is kept, and the files of the last report
 abbrev pub attempt_weight : Attempt → ℕ
@@ -33,16 +28,3 @@ bot_row_weight bot = length bot.name + (length bot.session + (dims_weight bot.di
 -- the bytes of all texts in the rows of tasks and bots, and 36 for each digest of their requests, chunks and files
 abbrev pub state_weight : PoolState → ℕ
 state_weight s = sum_by task_row_weight s.tasks + sum_by bot_row_weight s.bots
-
--- a pool without rows weighs nothing
-abbrev pub OpeningWeighsNothing : Type 0
-OpeningWeighsNothing = (settings : PoolSettings) → state_weight (opening settings) ≡ 0
-
--- no entry adds more to the rows than it weighs
-abbrev pub WeightAfter : Type 0
-WeightAfter = (s : PoolState) (entry : Entry) → IsSound s → state_weight (after s entry) ≤ state_weight s + weight entry
-
--- so the rows to which a log leads weigh no more than those from which it begins, and the log
-abbrev pub WeightIsBounded : Type 0
-WeightIsBounded =
-    (base : PoolState) (log : List Entry) → IsSound base → IsCaused base log → state_weight (replay base log) ≤ state_weight base + sum_by weight log

@@ -1,5 +1,5 @@
--- The entries for which a row of a base stands.
-use Rattle.std.specs.Prelude.{ℕ, ◌==◌, List, [], ◌∷◌, ◌++◌, map, Option, None, Some, if◌then◌else◌}
+-- The entries for which a row of a base stands, and what the base and the log since tell.
+use Rattle.std.specs.Prelude.{◌≡◌, ℕ, ◌+◌, ◌==◌, Bool, List, [], ◌∷◌, ◌++◌, map, length, count_by, Option, None, Some, IfSome, if◌then◌else◌}
 use Rattle.std.specs.Option.{option_map_or}
 use Rattle.swarm_model.specs.declared.task_state.TaskState.{TaskState}
 use Rattle.swarm_model.specs.declared.task_state.TaskState.TheVariants.{Pending, Running}
@@ -11,9 +11,12 @@ use Rattle.swarm_model.specs.declared.entry.Entry.{Entry}
 use Rattle.swarm_model.specs.declared.entry.EntryKind.{EntryKind}
 use Rattle.swarm_model.specs.declared.entry.EntryKind.TheVariants as kind
 use Rattle.swarm_model.specs.declared.entry.Outcome.TheVariants as outcome
-use Rattle.swarm_model.specs.Finding.{is_final, task_of}
+use Rattle.swarm_model.specs.Finding.{is_state, is_final, task_of}
 use Rattle.swarm_model.specs.Answers.{entry_at}
-use Rattle.swarm_model.specs.Verdicts.{verdict}
+use Rattle.swarm_model.specs.Claims.{claimants, bots_of}
+use Rattle.swarm_model.specs.History.{states}
+use Rattle.swarm_model.specs.Soundness.{IsSoundRetried, IsRightTry}
+use Rattle.swarm_model.specs.Verdicts.{numbers, is_new, verdict}
 
 -- the state in which a task was accepted, as far as its row tells: what runs was pending
 abbrev pub accepted_in : TaskState → TaskState
@@ -53,3 +56,28 @@ before base t = option_map_or entries_of (task_of base t) []
 -- the state of a task, from the base and the log since
 abbrev pub verdict_since : PoolState → List Entry → ℕ → TaskState
 verdict_since base log t = verdict base.settings (before base t ++ log) t
+
+-- how many tasks the base has, and were accepted since
+abbrev pub accepted_since : PoolState → List Entry → ℕ
+accepted_since base log = length base.tasks + count_by is_new log
+
+abbrev pub is_verdict_since : PoolState → List Entry → TaskState → ℕ → Bool
+is_verdict_since base log state t = is_state (verdict_since base log t) state
+
+abbrev pub verdicts_since : PoolState → List Entry → TaskState → ℕ
+verdicts_since base log state = count_by (is_verdict_since base log state) (numbers 1 (accepted_since base log))
+
+-- how many of these tasks have each state
+abbrev pub verdict_tally_since : PoolState → List Entry → List ℕ
+verdict_tally_since base log = map (verdicts_since base log) states
+
+-- the bots of the runs that the base has of a task
+abbrev pub bots_before : PoolState → ℕ → List ℕ
+bots_before base t = option_map_or bots_of (task_of base t) []
+
+-- The runs of a task are those that the base has of it, and those of the bots that claimed it since, in the
+-- order of their claims. One that was lost is tried again only where it may be, and by another bot.
+pub record HasRightRunsSince (base s : PoolState) (log : List Entry) (task : TaskRow) : Type 0 where
+  pub bots : bots_before base task.no ++ claimants task.no log ≡ bots_of task
+  pub retried : IfSome task.retried (IsSoundRetried s task.request.task_slices)
+  pub tries : IfSome task.attempt (IsRightTry task.retried)

@@ -1,23 +1,19 @@
 -- The rows from which a pool may open.
-use Rattle.std.specs.Prelude.{◌≡◌, ℕ, ◌+◌, ◌≤◌, ◌<◌, ◌^◌, false, IsTrue, List, length, None, IfSome, is_some}
-use Rattle.std.specs.List.{All, AllPairs, sum_by}
+use Rattle.std.specs.Prelude.{◌≡◌, ℕ, ◌≤◌, ◌<◌, ◌^◌, false, IsTrue, List, length, None, IfSome, is_some}
+use Rattle.std.specs.List.{All, AllPairs}
 use Rattle.std.specs.Option.{option_map_or}
 use Rattle.swarm_model.specs.declared.task_state.TaskState.TheVariants.{Completed}
 use Rattle.swarm_model.specs.declared.attempt.Attempt.{Attempt}
 use Rattle.swarm_model.specs.declared.pool_settings.PoolSettings.{PoolSettings}
 use Rattle.swarm_model.specs.declared.task_row.TaskRow.{TaskRow}
 use Rattle.swarm_model.specs.declared.pool_state.PoolState.{PoolState}
-use Rattle.swarm_model.specs.declared.entry.Entry.{Entry}
 use Rattle.swarm_model.specs.declared.request.Request.TheVariants as ask
 use Rattle.swarm_model.specs.Finding.{task_of, blob_of}
 use Rattle.swarm_model.specs.Fits.{fits, fits_chunk, fits_last, is_name}
 use Rattle.swarm_model.specs.Reuse.{ended_well}
 use Rattle.swarm_model.specs.Uses.{is_used}
-use Rattle.swarm_model.specs.Entries.{weight}
-use Rattle.swarm_model.specs.Effects.{after, opening}
-use Rattle.swarm_model.specs.History.{replay, MayFollow, IsCaused}
 use Rattle.swarm_model.specs.Soundness.{IsSound}
-use Rattle.pool_laws.specs.StateWeight.{state_weight}
+use Rattle.swarm_model.specs.StateWeight.{state_weight}
 
 -- ---- what the rows keep of requests and reports
 
@@ -79,20 +75,3 @@ pub record IsBase (settings : PoolSettings) (count : ℕ) (base : PoolState) : T
   pub light : state_weight base ≤ settings.most_weight
   pub placed : base.placed ≤ count
   pub few : count ≤ 2 ^ 31
-
--- ---- laws
-
--- each entry keeps the rows such rows
-abbrev pub KeepsBaseRows : Type 0
-KeepsBaseRows = (s : PoolState) (entry : Entry) → IsSound s → AreBaseRows s → MayFollow s entry → AreBaseRows (after s entry)
-
--- so a log that a pool may have from a base leads to a base, where it is light and short enough
-abbrev pub LeadsToABase : Type 0
-LeadsToABase =
-    (settings : PoolSettings) (count : ℕ) (base : PoolState) (log : List Entry) → IsBase settings count base → IsCaused base log
-    → state_weight base + sum_by weight log ≤ settings.most_weight → count + length log ≤ 2 ^ 31
-    → IsBase settings (count + length log) (replay base log)
-
--- the empty rows are a base, after as many entries as a count may be
-abbrev pub OpeningIsABase : Type 0
-OpeningIsABase = (settings : PoolSettings) (count : ℕ) → count ≤ 2 ^ 31 → IsBase settings count (opening settings)
