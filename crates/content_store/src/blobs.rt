@@ -62,6 +62,13 @@ impl Blobs {
         self.rows.len()
     }
 
+    /// How many blobs were ever placed.
+    pub fn placed(&self) -> u32
+        ensures { result ≡ self.now.placed }
+    {
+        self.placed
+    }
+
     /// The row at a place of the list of rows, in which they stand in the order in which they were
     /// placed. It is read without a search.
     pub fn row_at(&self, at: usize) -> Option<&BlobRow>

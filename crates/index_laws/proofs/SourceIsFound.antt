@@ -12,7 +12,7 @@ use Rattle.swarm_model.specs.Effects.{no_of_task}
 use Rattle.swarm_model.specs.Soundness.{IsSound}
 use Rattle.pool_laws.proofs.Lists.{Among, here, later}
 use Rattle.pool_laws.proofs.Rows.{find_task}
-use Rattle.pool_laws.specs.BaseRules.{AreCreatedInOrder}
+use Rattle.swarm_model.specs.BaseRules.{AreCreatedInOrder}
 use Rattle.pool_laws.proofs.BaseOrder.{first_in_order, rest_in_order}
 use Rattle.index_laws.specs.TaskSources.{has_source_hash, last_source, if_young, SourceIsFound}
 

@@ -1,4 +1,4 @@
--- Each use weighs as much as a digest in the entry that brings it.
+-- Each use weighs as much as a digest, in the entry that brings it and in the row that has it.
 use Rattle.std.proofs.Common.{ℕ, ◌+◌, ◌*◌, ◌≤◌, ◌==◌, cond, List, [], ◌∷◌, inl, inr, arith, Option, Some, None}
 use Rattle.std.specs.List.{sum_by}
 use Rattle.std.specs.Option.{option_map_or}
@@ -9,17 +9,21 @@ use Rattle.task_props.specs.declared.file.File.{File}
 use Rattle.task_props.specs.declared.slice.Slice.{Slice}
 use Rattle.swarm_model.specs.declared.attempt.Attempt.{Attempt}
 use Rattle.swarm_model.specs.declared.attempt.Chunk.{Chunk}
+use Rattle.swarm_model.specs.declared.retried.Retried.{Retried}
+use Rattle.swarm_model.specs.declared.task_row.TaskRow.{TaskRow}
 use Rattle.swarm_model.specs.declared.pool_state.PoolState.{PoolState}
 use Rattle.swarm_model.specs.declared.entry.Entry.{Entry}
 use Rattle.swarm_model.specs.declared.entry.EntryKind.{EntryKind}
 use Rattle.swarm_model.specs.declared.entry.EntryKind.TheVariants as kind
-use Rattle.swarm_model.specs.Uses.{is_file_of}
+use Rattle.swarm_model.specs.Finding.{is_final}
+use Rattle.swarm_model.specs.Uses.{is_file_of, is_chunk_of}
 use Rattle.swarm_model.specs.Entries.{weight, weight_of, digest_weight, file_weight, slice_weight, chunk_weight}
-use Rattle.swarm_model.specs.Effects.{fresh_chunk, opening, after}
+use Rattle.swarm_model.specs.StateWeight.{attempt_weight, retried_weight, task_row_weight}
+use Rattle.swarm_model.specs.Effects.{fresh_chunk, after}
 use Rattle.swarm_model.specs.History.{replay, IsCaused, MayFollow}
 use Rattle.swarm_model.specs.Soundness.{IsSound}
-use Rattle.pool_laws.proofs.Sound.{sound_after, opening_sound}
-use Rattle.index_laws.specs.TaskUses.{inputs_with, uses_in, attempt_in, chunk_use, uses_to_come, touched_has_ended, UsesWeigh, UsesAreFew}
+use Rattle.pool_laws.proofs.Sound.{sound_after}
+use Rattle.index_laws.specs.TaskUses.{inputs_with, chunks_with, times_named, uses_of, uses_in, attempt_in, chunk_use, uses_to_come, touched_has_ended, UsesWeigh, UsesOfRowsWeigh, UsesAreFew}
 use Rattle.index_laws.proofs.UsesChange.{uses_where_ended, uses_where_not_ended}
 
 -- what is less for each element is less for all
@@ -61,6 +65,37 @@ uses_weigh tasks e digest = by_kind e.kind
     by_kind (kind.Update b t try_no chunk last) = (let its = chunk_weighs digest (attempt_in tasks t) chunk in omega (arith, its))
     by_kind k = omega arith
 
+-- ---- the rows
+
+chunk_of_row_weighs : (digest : List ℕ) (chunk : Chunk) → digest_weight * cond (is_chunk_of digest chunk) 1 0 ≤ chunk_weight chunk
+chunk_of_row_weighs digest chunk = cond_both (is_chunk_of digest chunk) 1 0 (λ (n : ℕ). digest_weight * n ≤ chunk_weight chunk) (λ t. omega arith) (λ t. omega arith)
+
+attempt_weighs : (digest : List ℕ) (attempt : Attempt) → digest_weight * chunks_with digest attempt ≤ attempt_weight attempt
+attempt_weighs digest attempt =
+    let chunks : digest_weight * chunks_with digest attempt ≤ sum_by chunk_weight attempt.chunks =
+    sums_weigh (λ (chunk : Chunk). cond (is_chunk_of digest chunk) 1 0) chunk_weight (chunk_of_row_weighs digest) attempt.chunks in
+    omega (arith, chunks)
+
+run_weighs : (digest : List ℕ) (r : Option Attempt) → digest_weight * option_map_or (chunks_with digest) r 0 ≤ option_map_or attempt_weight r 0
+run_weighs digest None = omega arith
+run_weighs digest (Some attempt) = attempt_weighs digest attempt
+
+lost_run_weighs : (digest : List ℕ) (r : Option Retried) → digest_weight * option_map_or (λ (lost : Retried). chunks_with digest lost.attempt) r 0 ≤ option_map_or retried_weight r 0
+lost_run_weighs digest None = omega arith
+lost_run_weighs digest (Some lost) = attempt_weighs digest lost.attempt
+
+row_weighs : (digest : List ℕ) (task : TaskRow) → digest_weight * uses_of digest task ≤ task_row_weight task
+row_weighs digest task =
+    let slices = sums_weigh (inputs_with digest) slice_weight (slice_weighs digest) task.request.task_slices in
+    let run = run_weighs digest task.attempt in
+    let lost = lost_run_weighs digest task.retried in
+    cond_both (is_final task.state) 0 (times_named digest task) (λ (n : ℕ). digest_weight * n ≤ task_row_weight task) (λ t. omega arith) (λ t. omega (arith, slices, run, lost))
+
+pub uses_of_rows_weigh : UsesOfRowsWeigh
+uses_of_rows_weigh s digest = let tasks = sums_weigh (uses_of digest) task_row_weight (row_weighs digest) s.tasks in omega (arith, tasks)
+
+-- ---- a log
+
 -- an entry adds no more uses than it brings
 at_most_to_come : (s : PoolState) (e : Entry) → IsSound s → MayFollow s e → (digest : List ℕ) → uses_in (after s e) digest ≤ uses_in s digest + uses_to_come s.tasks e.kind digest
 at_most_to_come s e o follows digest = elim (cases_Bool (touched_has_ended s e)) [
@@ -78,4 +113,4 @@ few_from s (e ∷ log) o caused digest =
     omega (arith, rest, step, its, all)
 
 pub uses_are_few : UsesAreFew
-uses_are_few settings log caused digest = let all = few_from (opening settings) log (opening_sound settings) caused digest in omega (arith, all)
+uses_are_few base log o caused digest = let all = few_from base log o caused digest in let rows = uses_of_rows_weigh base digest in omega (arith, all, rows)

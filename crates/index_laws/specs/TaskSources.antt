@@ -9,17 +9,16 @@ use Rattle.swarm_model.specs.declared.attempt.Attempt.{Attempt}
 use Rattle.swarm_model.specs.declared.attempt.Last.{Last}
 use Rattle.swarm_model.specs.declared.task_row.TaskRow.{TaskRow}
 use Rattle.swarm_model.specs.declared.pool_state.PoolState.{PoolState}
-use Rattle.swarm_model.specs.declared.pool_settings.PoolSettings.{PoolSettings}
 use Rattle.swarm_model.specs.declared.entry.Entry.{Entry}
 use Rattle.swarm_model.specs.declared.entry.EntryKind.{EntryKind}
 use Rattle.swarm_model.specs.declared.entry.EntryKind.TheVariants as kind
 use Rattle.swarm_model.specs.Finding.{is_task, task_of}
 use Rattle.swarm_model.specs.Slices.{current_slice}
 use Rattle.swarm_model.specs.Reuse.{ended_well, is_young, ran_hash, newer, newest_source}
-use Rattle.swarm_model.specs.Effects.{no_of_task, opening, after}
+use Rattle.swarm_model.specs.Effects.{no_of_task, after}
 use Rattle.swarm_model.specs.History.{replay, IsCaused, MayFollow}
 use Rattle.swarm_model.specs.Soundness.{IsSound}
-use Rattle.pool_laws.specs.BaseRules.{AreCreatedInOrder}
+use Rattle.swarm_model.specs.BaseRules.{AreCreatedInOrder, AreBaseRows}
 use Rattle.pool_index.specs.declared.source_link.SourceLink.{SourceLink}
 use Rattle.pool_index.specs.Sources.{newest_in, AreWith}
 use Rattle.index_laws.specs.Touched.{touched_task}
@@ -88,9 +87,9 @@ SourceHashIsKnownBefore = (s : PoolState) (e : Entry) → IsSound s → MayFollo
 
 -- ---- a look-up
 
--- rows of lower numbers were created no later, in every pool that a log leads to
+-- rows of lower numbers were created no later, in every pool to which a log leads from the rows of a base
 abbrev pub CreatedInOrder : Type 0
-CreatedInOrder = (settings : PoolSettings) (log : List Entry) → IsCaused (opening settings) log → AreCreatedInOrder (replay (opening settings) log).tasks
+CreatedInOrder = (base : PoolState) (log : List Entry) → IsSound base → AreBaseRows base → IsCaused base log → AreCreatedInOrder (replay base log).tasks
 
 -- a task, where it is young enough at a moment
 abbrev pub if_young : PoolState → ℕ → TaskRow → Option TaskRow

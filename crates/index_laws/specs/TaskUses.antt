@@ -8,14 +8,14 @@ use Rattle.swarm_model.specs.declared.attempt.Attempt.{Attempt}
 use Rattle.swarm_model.specs.declared.attempt.Chunk.{Chunk}
 use Rattle.swarm_model.specs.declared.task_row.TaskRow.{TaskRow}
 use Rattle.swarm_model.specs.declared.pool_state.PoolState.{PoolState}
-use Rattle.swarm_model.specs.declared.pool_settings.PoolSettings.{PoolSettings}
 use Rattle.swarm_model.specs.declared.entry.Entry.{Entry}
 use Rattle.swarm_model.specs.declared.entry.EntryKind.{EntryKind}
 use Rattle.swarm_model.specs.declared.entry.EntryKind.TheVariants as kind
 use Rattle.swarm_model.specs.Finding.{is_final, is_task}
 use Rattle.swarm_model.specs.Uses.{is_file_of, is_chunk_of, is_used}
 use Rattle.swarm_model.specs.Entries.{weight, digest_weight}
-use Rattle.swarm_model.specs.Effects.{fresh_chunk, opening, after}
+use Rattle.swarm_model.specs.StateWeight.{state_weight}
+use Rattle.swarm_model.specs.Effects.{fresh_chunk, after}
 use Rattle.swarm_model.specs.History.{replay, IsCaused, MayFollow}
 use Rattle.swarm_model.specs.Soundness.{IsSound}
 use Rattle.index_laws.specs.Touched.{touched_task}
@@ -110,8 +110,12 @@ UsesWhereNotEnded =
 abbrev pub UsesWeigh : Type 0
 UsesWeigh = (tasks : List TaskRow) (e : Entry) (digest : List ℕ) → digest_weight * uses_to_come tasks e.kind digest ≤ weight e
 
--- so a log that weighs little leads to few uses
+-- each use of a row weighs as much as a digest in the row
+abbrev pub UsesOfRowsWeigh : Type 0
+UsesOfRowsWeigh = (s : PoolState) (digest : List ℕ) → digest_weight * uses_in s digest ≤ state_weight s
+
+-- so a log that weighs little, with the rows from which it begins, leads to few uses
 abbrev pub UsesAreFew : Type 0
 UsesAreFew =
-    (settings : PoolSettings) (log : List Entry) → IsCaused (opening settings) log → (digest : List ℕ) →
-    digest_weight * uses_in (replay (opening settings) log) digest ≤ sum_by weight log
+    (base : PoolState) (log : List Entry) → IsSound base → IsCaused base log → (digest : List ℕ) →
+    digest_weight * uses_in (replay base log) digest ≤ state_weight base + sum_by weight log

@@ -11,7 +11,8 @@ pub fn source_hash_is_known_before()
     ensures { SourceHashIsKnownBefore }
 {}
 
-/// Rows of lower numbers were created no later.
+/// Rows of lower numbers were created no later, in every pool to which a log leads from the rows of
+/// a base.
 pub fn created_in_order()
     ensures { CreatedInOrder }
 {}

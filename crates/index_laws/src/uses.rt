@@ -1,4 +1,4 @@
-ghost use Rattle.index_laws.specs.TaskUses.{NamesOfTouched, UseIsCounted, UsesAreFew, UsesOfTouched, UsesWeigh, UsesWhereEnded, UsesWhereNotEnded};
+ghost use Rattle.index_laws.specs.TaskUses.{NamesOfTouched, UseIsCounted, UsesAreFew, UsesOfRowsWeigh, UsesOfTouched, UsesWeigh, UsesWhereEnded, UsesWhereNotEnded};
 
 /// A task needs the blob of a digest exactly where the count of the digest's uses is not 0.
 pub fn use_is_counted()
@@ -20,9 +20,10 @@ pub fn uses_change()
     ensures not_ended { UsesWhereNotEnded }
 {}
 
-/// Each use weighs as much as a digest in the entry that brings it. So the uses of a digest are few
-/// where the log weighs little.
+/// Each use weighs as much as a digest, in the entry that brings it and in the row that has it. So
+/// the uses of a digest are few where the log and the rows from which it begins weigh little.
 pub fn uses_are_few()
     ensures brought { UsesWeigh }
+    ensures rows { UsesOfRowsWeigh }
     ensures all { UsesAreFew }
 {}

@@ -1,16 +1,15 @@
 -- The rows go on as the log does.
-use Rattle.std.proofs.Common.{◌≡◌, ℕ, ◌<◌, List, [], ◌∷◌, ◌++◌, length, Option, Some, None, Bor, sym, ap, ◌∙◌, refl, arith}
+use Rattle.std.proofs.Common.{◌≡◌, ℕ, ◌+◌, ◌≤◌, List, [], ◌∷◌, ◌++◌, length, Option, Some, None, Bor, sym, ap, ◌∙◌, refl, arith}
 use Rattle.std.specs.Prelude.{IfSome}
 use Rattle.std.specs.Option.{option_map}
 use Rattle.sha2.specs.Sha256.{sha256}
 use Rattle.swarm_model.specs.declared.entry.Entry.{Entry}
 use Rattle.swarm_model.specs.declared.entry.EntryKind.{EntryKind}
-use Rattle.swarm_model.specs.declared.pool_settings.PoolSettings.{PoolSettings}
 use Rattle.swarm_model.specs.declared.pool_state.PoolState.{PoolState}
 use Rattle.swarm_model.specs.Bytes.{brings}
-use Rattle.swarm_model.specs.Effects.{opening, after}
+use Rattle.swarm_model.specs.Effects.{after}
 use Rattle.swarm_model.specs.History.{replay}
-use Rattle.pool_laws.proofs.BlobLaws.{placed_few}
+use Rattle.pool_laws.proofs.BlobLaws.{placed_through}
 use Rattle.pool_changes.specs.Blobs.{AreBrought}
 
 replay_push : (s : PoolState) (log : List Entry) (entry : Entry) → replay s (log ++ entry ∷ []) ≡ after (replay s log) entry
@@ -21,9 +20,9 @@ pub replayed_more : (s old new : PoolState) (log more : List Entry) (entry : Ent
 replayed_more s old new log more entry is grown changed =
     changed ∙ ap (λ (o : PoolState). after o entry) is ∙ sym (replay_push s log entry) ∙ ap (replay s) (sym grown)
 
--- a log of at most so many entries, to which one is added, has placed fewer blobs
-pub placed_below : (settings : PoolSettings) (s : PoolState) (log : List Entry) → s ≡ replay (opening settings) log → length log < settings.most_entries → s.placed < settings.most_entries
-placed_below settings s log is few = let placed = placed_few settings log in let same = ap (λ (p : PoolState). p.placed) is in omega (arith, placed, same, few)
+-- a log places at most one blob an entry
+pub placed_within : (base s : PoolState) (log : List Entry) → s ≡ replay base log → s.placed ≤ base.placed + length log
+placed_within base s log is = let placed = placed_through base log in let same = ap (λ (p : PoolState). p.placed) is in omega (arith, placed, same)
 
 -- bytes that are lent are those that they are
 pub brought_is : (k : EntryKind) (bytes : Option (Bor (List ℕ))) → IfSome bytes (λ b. brings k ≡ Some (sha256 b.now, length b.now)) → AreBrought k (option_map (λ b. b.now) bytes)

@@ -3,3 +3,4 @@ pub mod Growing
 pub mod Contents
 pub mod Storing
 pub mod BlobEffects
+pub mod Loading

@@ -1,3 +1,4 @@
+pub mod Limits
 pub mod Reached
 mod Logs
 pub mod RowFacts

@@ -1,6 +1,10 @@
-ghost use Rattle.std.specs.Prelude.{◌≡◌, ◌≤◌, ◌+◌, ◌^◌, slice_get};
+ghost use Rattle.std.specs.Prelude.{◌≡◌, ◌≤◌, ◌+◌, ◌-◌, ◌^◌, [], nat_le, if◌then◌else◌, None, IfOk, IsTrue, slice_get};
 ghost use Rattle.std.specs.Option.{option_map, option_copied};
 ghost use Rattle.swarm_model.specs.Answers.{entry_at};
+ghost use Rattle.swarm_model.specs.BaseRules.{IsBase};
+ghost use Rattle.swarm_model.specs.Bytes.{nothing_held};
+ghost use Rattle.swarm_model.specs.Settings.{keeps_rules};
+ghost use Rattle.pool_log.specs.Plain.{machine_of};
 
 use crate::PoolRows;
 use blob_rows::Filled;
@@ -10,18 +14,22 @@ use std::alloc::{AllocError, Global};
 use std::marker::Model;
 use std::sync::ledger::Ledger;
 use swarm_model::{
-    Answer, BlobRow, BotRow, Decision, Entry, EntryKind, Machine, PoolSettings, Request,
-    ReserveFault, Steps, TaskRow, weight,
+    Answer, BlobRow, BotRow, Decision, Entry, EntryKind, Machine, PoolSettings, PoolState, Request,
+    ReserveFault, Steps, TaskRow, rows_weight, weight,
 };
 use task_props::Digest;
 
-/// A pool that keeps its log, and rows that are the replay of that log.
+/// A pool that keeps its log, and rows that are the replay of that log from a base.
 #[derive(Drop)]
 pub struct LoggedPool<R: PoolRows> {
     alloc: Global,
     rows: R,
+    /// The rows from which the log begins.
+    base: PoolState,
+    /// How many entries led to these.
+    count: u64,
     log: Vec<Entry>,
-    /// The weight of the log.
+    /// The weight of the base and the log.
     weight: u64,
     /// The weight of the entry for which all lies ready, where there is one.
     added: u64,
@@ -48,31 +56,55 @@ fn entry_of(moment: u64, pass: u32, entry: Option<EntryKind>) -> Option<Entry>
     }
 }
 
-fn entry_in(log: &[Entry], at: u64) -> Option<&Entry>
-    ensures { option_copied result ≡ slice_get log.now at }
+/// The entry of a log that begins after so many entries.
+fn entry_in(log: &[Entry], count: u64, at: u64) -> Option<&Entry>
+    ensures { option_copied result ≡ if nat_le count at then slice_get log.now (at - count) else None }
 {
-    log.get(at as usize)
+    if at < count {
+        return None;
+    }
+    log.get((at - count) as usize)
+}
+
+/// A pool without an entry of its own, which begins from the base after so many entries.
+fn opened<R: PoolRows>(
+    alloc: Global,
+    base: PoolState,
+    count: u64,
+) -> Result<LoggedPool<R>, AllocError>
+    requires rules { IsTrue (keeps_rules base.settings) }
+    requires base { IsBase base.settings count base }
+    ensures { IfOk result (λ pool. machine_of pool ≡ record { start = record { rows = base; count = count }; pool = base; log = []; ready = None; held = nothing_held }) }
+{
+    let rows = R::of_rows(alloc, &base)?;
+    let weight = rows_weight(&base);
+    Ok(LoggedPool {
+        alloc,
+        rows,
+        base,
+        count,
+        log: Vec::new(alloc),
+        weight,
+        added: 0,
+    })
 }
 
 impl<R: PoolRows> Machine for LoggedPool<R> {
-    ghost use Rattle.std.specs.Prelude.{None, IfOk, IfSome, IsTrue};
+    ghost use Rattle.std.specs.Prelude.{IfSome};
     ghost use Rattle.swarm_model.specs.Fits.{fits};
     ghost use Rattle.swarm_model.specs.Answers.{answer};
     ghost use Rattle.swarm_model.specs.Deadlines.{due_entry};
     ghost use Rattle.swarm_model.specs.MachineState.{ShowsVerdict, ShowsOutput, ActsOnce, TakesOutcome};
     ghost use Rattle.pool_rules.specs.Costs.{asks_for_work};
-    ghost use Rattle.pool_log.specs.Plain.{machine_of};
 
     ghost kept = { machine_of };
 
     fn new(alloc: Global, settings: PoolSettings) -> Result<LoggedPool<R>, AllocError> {
-        Ok(LoggedPool {
-            alloc,
-            rows: R::new(alloc, settings)?,
-            log: Vec::new(alloc),
-            weight: 0,
-            added: 0,
-        })
+        opened(alloc, PoolState::opening(alloc, settings), 0)
+    }
+
+    fn of_rows(alloc: Global, base: PoolState, count: u64) -> Result<LoggedPool<R>, AllocError> {
+        opened(alloc, base, count)
     }
 
     /// At most one task row is read.
@@ -115,7 +147,7 @@ impl<R: PoolRows> Machine for LoggedPool<R> {
     fn reserve(&mut self, entry: &Entry) -> Result<(), ReserveFault> {
         self.rows.release();
         let weight = weight(entry);
-        let settings = self.rows.settings();
+        let settings = &self.base.settings;
         if self.log.len() >= settings.most_entries as usize
             || weight > u64::from(settings.most_weight) - self.weight
         {
@@ -130,7 +162,7 @@ impl<R: PoolRows> Machine for LoggedPool<R> {
 
     fn commit(&mut self, entry: Entry, bytes: Option<&[u8]>) {
         // For the proof: the limits of the settings.
-        let _most = self.rows.settings().most_weight;
+        let _most = self.base.settings.most_weight;
         self.rows.apply(&entry, bytes);
         self.weight += self.added;
         self.log.push_reserved(entry);
@@ -145,11 +177,11 @@ impl<R: PoolRows> Machine for LoggedPool<R> {
     }
 
     fn length(&self) -> u64 {
-        self.log.len() as u64
+        self.count + self.log.len() as u64
     }
 
     fn entry(&self, at: u64) -> Option<&Entry> {
-        entry_in(self.log.as_slice(), at)
+        entry_in(self.log.as_slice(), self.count, at)
     }
 
     fn tally(&self) -> [u64; 9] {
@@ -158,6 +190,18 @@ impl<R: PoolRows> Machine for LoggedPool<R> {
 
     fn last(&self) -> u64 {
         self.rows.last()
+    }
+
+    fn placed(&self) -> u32 {
+        self.rows.placed()
+    }
+
+    fn base(&self) -> &PoolState {
+        &self.base
+    }
+
+    fn count(&self) -> u64 {
+        self.count
     }
 
     fn blob(&self, no: u32) -> Option<&BlobRow> {

@@ -1,9 +1,10 @@
-ghost use Rattle.std.specs.Prelude.{◌≡◌, [], length, Some, None, IsTrue, IfOk, IfSome, OnOk, OnErr, option_map};
+ghost use Rattle.std.specs.Prelude.{◌≡◌, ◌^◌, length, Some, None, IsTrue, IfOk, IfSome, OnOk, OnErr, option_map};
 ghost use Rattle.std.specs.Option.{option_copied};
 ghost use Rattle.sha2.specs.Sha256.{sha256};
 ghost use Rattle.content_store.specs.Contents.{bytes_of};
-ghost use Rattle.swarm_model.specs.Bytes.{brings, filled, held_after, held_after_fill};
-ghost use Rattle.swarm_model.specs.Effects.{opening, after};
+ghost use Rattle.swarm_model.specs.BaseRules.{IsBase};
+ghost use Rattle.swarm_model.specs.Bytes.{nothing_held, brings, filled, held_after, held_after_fill};
+ghost use Rattle.swarm_model.specs.Effects.{after};
 ghost use Rattle.swarm_model.specs.Finding.{blob_placed, has_blob};
 ghost use Rattle.swarm_model.specs.History.{tally};
 ghost use Rattle.swarm_model.specs.Settings.{keeps_rules};
@@ -12,12 +13,12 @@ ghost use Rattle.pool_log.specs.Reached.{MayComeNext};
 use blob_rows::Filled;
 use pool_queries::PoolQueries;
 use std::alloc::{AllocError, Global};
-use swarm_model::{BlobRow, Entry, PoolSettings};
+use swarm_model::{BlobRow, Entry, PoolState};
 use task_props::Digest;
 
 /// The rows of a pool, which its log changes entry by entry, and the bytes of its blobs.
 ///
-/// Only `new` and `reserve` take memory.
+/// Only `of_rows` and `reserve` take memory.
 pub trait PoolRows: PoolQueries + Sized + Drop {
     ghost use Rattle.std.specs.Prelude.{List, Option};
     ghost use Rattle.content_store.specs.Contents.{Content};
@@ -29,12 +30,13 @@ pub trait PoolRows: PoolQueries + Sized + Drop {
     /// The contents that are held.
     ghost held: { Self → List Content };
 
-    /// The rows of a pool without an entry.
-    fn new(alloc: Global, settings: PoolSettings) -> Result<Self, AllocError>
-        requires { IsTrue (keeps_rules settings) }
-        ensures state { IfOk result (λ rows. Self.state rows ≡ opening settings) }
+    /// The rows of a base. Nothing is ready, and no bytes are held.
+    fn of_rows(alloc: Global, base: &PoolState) -> Result<Self, AllocError>
+        requires rules { IsTrue (keeps_rules base.now.settings) }
+        requires base { IsBase base.now.settings (2 ^ 31) base.now }
+        ensures state { IfOk result (λ rows. Self.state rows ≡ base.now) }
         ensures ready { IfOk result (λ rows. ready rows ≡ None) }
-        ensures held { IfOk result (λ rows. held rows ≡ []) };
+        ensures held { IfOk result (λ rows. bytes_of (held rows) ≡ nothing_held) };
 
     /// Nothing is ready any more.
     fn release(&mut self)
@@ -76,9 +78,13 @@ pub trait PoolRows: PoolQueries + Sized + Drop {
     fn tally(&self) -> [u64; 9]
         ensures { result ≡ tally (Self.state self.now) };
 
-    /// The moment of the last entry, 0 where there is none.
+    /// The moment of the last entry; where there is none, that of the base.
     fn last(&self) -> u64
         ensures { result ≡ (Self.state self.now).last };
+
+    /// How many blobs were ever placed.
+    fn placed(&self) -> u32
+        ensures { result ≡ (Self.state self.now).placed };
 
     /// The blob row at this place, from 0.
     fn blob_at(&self, at: u32) -> Option<&BlobRow>

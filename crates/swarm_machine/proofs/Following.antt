@@ -53,7 +53,7 @@ blob_ends_after s e sound follows old new gone come fresh rows are before own no
 
 -- ---- the counts
 
-counted : (state : TaskState) (row : Option TaskRow) → one_if (is_in (state_of_row row) state) ≡ count_of_row state row
+pub counted : (state : TaskState) (row : Option TaskRow) → one_if (is_in (state_of_row row) state) ≡ count_of_row state row
 counted state None = refl
 counted state (Some row) = refl
 

@@ -1,5 +1,5 @@
 -- What is known of the rows, since a log leads to them.
-use Rattle.std.proofs.Common.{ℕ, ◌≤◌, ◌<◌, ◌^◌, ◌&&◌, Bool, true, false, length, refl, arith, IsTrue, nat_le}
+use Rattle.std.proofs.Common.{◌≡◌, ℕ, ◌≤◌, ◌<◌, ◌^◌, ◌&&◌, Bool, true, false, length, refl, ap, arith, IsTrue, nat_le}
 use Rattle.std.specs.List.{list_all}
 use Rattle.std.proofs.lemmas.Bool.{and_parts}
 use borrow.Author.Tests.{leb-true}
@@ -51,7 +51,7 @@ sizes_of true true true true false f all = absurd (cc (all))
 at_most : (low high n : ℕ) → IsTrue (is_between low high n) → n ≤ high
 at_most low high n between = leb-true n high (and_parts (nat_le low n) (nat_le n high) between).1
 
--- how many tasks and bots there may be, and how much the log may weigh
+-- how many tasks and bots there may be, and how much the rows and the log may weigh
 pub few_rows : (p : PoolSettings) → IsTrue (keeps_rules p) → (p.most_tasks ≤ 262144) × (p.most_bots ≤ 4096) × (p.most_weight ≤ 134217728)
 few_rows p rules =
     let own = fifth (nat_le p.place 3) (is_pool_name p.name) (nat_le p.reuse_age_secs 31536000) (is_between 60 2592000 p.death_timeout_secs) (is_between 60 31536000 p.blob_life_secs) (sizes p) rules in
@@ -75,4 +75,6 @@ module _ (own : Inside) (kept : IsKept own) where
 pub few_uses : (s : PoolState) (e : Entry) → MayComeNext s e → HasFewUses s e
 few_uses s e next =
     let most = (few_rows s.settings next.replay_of.rules).2 in
-    uses_are_small s.settings next.log s e s.settings.most_weight next.replay_of.replayed next.replay_of.legal.caused (room_before s e next).light (omega (arith, most))
+    let base = next.start.rows in
+    let same : base.settings.most_weight ≡ s.settings.most_weight = ap (λ (p : PoolSettings). p.most_weight) next.replay_of.base.own in
+    uses_are_small base next.log s e base.settings.most_weight next.replay_of.base.sound next.replay_of.replayed next.replay_of.legal.caused (room_before s e next).light (omega (arith, most, same))

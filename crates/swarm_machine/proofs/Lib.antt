@@ -8,4 +8,5 @@ mod Counts
 mod Committing
 mod UsesChange
 mod UsesFollow
+mod Loading
 pub mod Sending

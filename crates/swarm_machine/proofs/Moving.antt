@@ -2,10 +2,10 @@
 use Rattle.std.proofs.Common.{List, [], inl, inr, sym, ap, Option, Some, None}
 use Rattle.std.proofs.lemmas.Option.{same_Some}
 use Rattle.swarm_model.specs.declared.deadline.Deadline.{Deadline}
-use Rattle.swarm_model.specs.declared.pool_settings.PoolSettings.{PoolSettings}
-use Rattle.swarm_model.specs.Effects.{opening}
+use Rattle.swarm_model.specs.declared.pool_state.PoolState.{PoolState}
 use Rattle.pool_index.specs.QueuedDeadlines.{Adds, Removes}
 use Rattle.index_laws.specs.BlobDeadlines.{AreBlobDeadlines, AreMoved}
+use Rattle.swarm_machine.specs.Loading.{with_bots}
 
 pub none_moved : (old : List Deadline) → AreMoved None None old old
 none_moved old = record { each = λ x. (λ c. inr (c, λ e. cc (e)), λ h. elim h [ inl e ↦ absurd (cc (e)) | inr pair ↦ pair.0 ]) }
@@ -41,6 +41,6 @@ moved left come old rest new out back =
       );
     }
 
--- a new pool has no blob
-pub no_blob_ends : (settings : PoolSettings) → AreBlobDeadlines [] (opening settings)
-no_blob_ends settings = record { each = λ d. (λ c. c, λ c. c) }
+-- a pool without rows has no blob
+pub no_blob_ends : (s : PoolState) → AreBlobDeadlines [] (with_bots s [])
+no_blob_ends s = record { each = λ d. (λ c. c, λ c. c) }

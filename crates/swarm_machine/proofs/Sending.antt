@@ -14,6 +14,7 @@ use Rattle.swarm_model.specs.contracts.bot_row.BotRow as BotRow
 use Rattle.swarm_model.specs.contracts.attempt.Last as Last
 use Rattle.swarm_model.specs.contracts.entry.Entry as Entry
 use Rattle.swarm_model.specs.contracts.entry.EntryKind as EntryKind
+use Rattle.swarm_model.specs.contracts.pool_state.PoolState as PoolState
 use Rattle.swarm_model.specs.contracts.retried.Retried as Retried
 use Rattle.swarm_model.specs.contracts.retried.MaybeRetried as MaybeRetried
 use Rattle.swarm_model.specs.contracts.retried.RetriedRoom as RetriedRoom
@@ -72,6 +73,9 @@ kind_send = search (text_send, bot_dims_send, last_send, shared_task_send, singl
 entry_send : IsSend Entry.the_field.row
 entry_send = search (kind_send, single.crosses, maps.crosses, sendable) depth 60 fits 100000
 
+pool_state_send : IsSend PoolState.the_field.row
+pool_state_send = search (task_row_send, bot_row_send, single.crosses, maps.crosses, sendable) depth 60 fits 100000
+
 -- field by field: one search for all of them breaks off
 inside_send : IsSend inside.the_row
 inside_send =
@@ -83,4 +87,4 @@ indexed_rows_send : IsSend IndexedRows.the_row
 indexed_rows_send = view_send _ _ _ _ _ inside_send
 
 pub pool_send : (own : _) (queries : _) → IsSend (LoggedPool.the_row IndexedRows.the_row own queries)
-pool_send own queries = search (indexed_rows_send, entry_send, single.crosses, maps.crosses, sendable) depth 60 fits 100000
+pool_send own queries = search (indexed_rows_send, entry_send, pool_state_send, single.crosses, maps.crosses, sendable) depth 60 fits 100000

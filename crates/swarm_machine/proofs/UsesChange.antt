@@ -1,8 +1,9 @@
 -- What one use more or less means for the counts of all uses.
-use Rattle.std.proofs.Common.{◌≡◌, ℕ, ◌+◌, ◌-◌, ◌<◌, ◌≤◌, ◌^◌, Bool, cond, List, length, get_or, take, refl, sym, ap, ◌∙◌, subst, arith, inl, inr}
+use Rattle.std.proofs.Common.{◌≡◌, ℕ, ◌+◌, ◌-◌, ◌<◌, ◌≤◌, ◌^◌, Bool, cond, List, [], length, get_or, take, refl, sym, ap, ◌∙◌, subst, arith, inl, inr}
 use Rattle.std.specs.List.{All, sum_by}
 use Rattle.std.specs.Cmp.Lexicographic.{bytes_decides}
 use Rattle.std.proofs.lemmas.Bool.{cases_Bool, cond-false}
+use Rattle.std.proofs.lemmas.List.{get_or_default}
 use Rattle.std.proofs.lemmas.List.Elements.{All-get_or, All-more, All-weaker}
 use Rattle.std.proofs.lemmas.List.Sums.{sum_by_more, sum_by_more_le}
 use Rattle.dimensions.specs.Alike.{same}
@@ -10,6 +11,7 @@ use Rattle.pool_index.specs.declared.use_link.UseLink.{UseLink}
 use Rattle.task_props.specs.declared.file.File.{File}
 use Rattle.task_props.specs.declared.slice.Slice.{Slice}
 use Rattle.pool_index.specs.Uses.{uses_of, IsListed, StaysListed, HasUses}
+use Rattle.swarm_model.specs.declared.attempt.Chunk.{Chunk}
 use Rattle.swarm_machine.specs.Uses.{AreInputsListed, AddsUses, RemovesUses, HasRoomFor, HasUsesFor}
 
 -- one, where the digests are the same
@@ -67,6 +69,13 @@ pub slices_stay : (old new : List UseLink) → StaysListed old new → (slices :
 slices_stay old new kept slices all = All-weaker (AreInputsListed old) (AreInputsListed new) (λ slice. inputs_stay old new kept slice.properties.inputs) slices all
 
 -- ---- item by item
+
+-- the chunk at a place
+abbrev pub chunk_at : List Chunk → ℕ → Chunk
+chunk_at chunks place = get_or chunks place (record { start = 0; size = 0; digest = [] })
+
+pub chunk_at_is : (chunks : List Chunk) (place : ℕ) → place < length chunks → chunk_at chunks place ≡ get_or chunks place (chunk_at chunks place)
+chunk_at_is chunks place within = get_or_default chunks place (record { start = 0; size = 0; digest = [] }) (chunk_at chunks place) within
 
 -- what all items add
 abbrev pub sum_of : {X : Type 0} → (List ℕ → X → ℕ) → List X → List ℕ → ℕ

@@ -7,13 +7,13 @@ use Rattle.swarm_model.specs.declared.attempt.Attempt.{Attempt}
 use Rattle.swarm_model.specs.declared.attempt.Chunk.{Chunk}
 use Rattle.swarm_model.specs.declared.task_row.TaskRow.{TaskRow}
 use Rattle.swarm_model.specs.declared.pool_state.PoolState.{PoolState}
-use Rattle.swarm_model.specs.declared.pool_settings.PoolSettings.{PoolSettings}
 use Rattle.swarm_model.specs.declared.entry.Entry.{Entry}
 use Rattle.swarm_model.specs.declared.entry.EntryKind.{EntryKind}
 use Rattle.swarm_model.specs.declared.entry.EntryKind.TheVariants as kind
 use Rattle.swarm_model.specs.Finding.{is_final}
 use Rattle.swarm_model.specs.Entries.{weight}
-use Rattle.swarm_model.specs.Effects.{fresh_chunk, attempt_of, opening, after}
+use Rattle.swarm_model.specs.StateWeight.{state_weight}
+use Rattle.swarm_model.specs.Effects.{fresh_chunk, attempt_of, after}
 use Rattle.swarm_model.specs.History.{replay, IsCaused, MayFollow}
 use Rattle.swarm_model.specs.Soundness.{IsSound}
 use Rattle.pool_changes.specs.Blobs.{fresh_in}
@@ -111,11 +111,12 @@ module _ (s : PoolState) (e : Entry) (sound : IsSound s) (follows : MayFollow s 
 
 -- ---- how many uses there may be
 
--- where the log and an entry weigh little, the uses with those that the entry brings are few
-pub uses_are_small : (settings : PoolSettings) (log : List Entry) (s : PoolState) (e : Entry) (most : ℕ) → s ≡ replay (opening settings) log → IsCaused (opening settings) log →
-    sum_by weight log + weight e ≤ most → most < 2 ^ 32 → (digest : List ℕ) → uses_in s digest + uses_to_come s.tasks e.kind digest < 2 ^ 32
-uses_are_small settings log s e most is caused weighs low digest =
-    let few = uses_are_few settings log caused digest in
-    let same : uses_in s digest ≡ uses_in (replay (opening settings) log) digest = ap (λ (x : PoolState). uses_in x digest) is in
+-- where the log and an entry weigh little, with the rows from which the log begins, the uses with those that the
+-- entry brings are few
+pub uses_are_small : (base : PoolState) (log : List Entry) (s : PoolState) (e : Entry) (most : ℕ) → IsSound base → s ≡ replay base log → IsCaused base log →
+    state_weight base + sum_by weight log + weight e ≤ most → most < 2 ^ 32 → (digest : List ℕ) → uses_in s digest + uses_to_come s.tasks e.kind digest < 2 ^ 32
+uses_are_small base log s e most sound is caused weighs low digest =
+    let few = uses_are_few base log sound caused digest in
+    let same : uses_in s digest ≡ uses_in (replay base log) digest = ap (λ (x : PoolState). uses_in x digest) is in
     let its = uses_weigh s.tasks e digest in
     omega (arith, few, same, its, weighs, low)

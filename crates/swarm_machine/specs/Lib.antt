@@ -6,3 +6,4 @@ pub mod Uses
 pub mod UsesBehind
 pub mod Indexes
 pub mod Invariant
+pub mod Loading

@@ -19,7 +19,7 @@ use std::marker::Model;
 use std::mem;
 use std::sync::ledger::Ledger;
 use swarm_model::{
-    BlobRow, BotRow, Deadline, Entry, PoolSettings, ReadRows, Steps, TaskRow, TaskState,
+    BlobRow, BotRow, Deadline, Entry, PoolSettings, PoolState, ReadRows, Steps, TaskRow, TaskState,
 };
 use task_props::Digest;
 
@@ -222,11 +222,11 @@ impl PoolRows for IndexedRows {
 
     ghost held = { λ rows. rows.held };
 
-    fn new(alloc: Global, settings: PoolSettings) -> Result<IndexedRows, AllocError> {
+    fn of_rows(alloc: Global, base: &PoolState) -> Result<IndexedRows, AllocError> {
         Ok(IndexedRows {
             alloc,
-            rows: Rows::new(alloc, settings)?,
-            indexes: Indexes::new(alloc),
+            rows: Rows::of_base(alloc, base)?,
+            indexes: Indexes::of_base(alloc, base)?,
             ready: None,
         })
     }
@@ -264,6 +264,10 @@ impl PoolRows for IndexedRows {
 
     fn last(&self) -> u64 {
         self.rows.last
+    }
+
+    fn placed(&self) -> u32 {
+        self.rows.blobs.placed()
     }
 
     fn blob_at(&self, at: u32) -> Option<&BlobRow> {

@@ -1,14 +1,13 @@
 //! What a pool keeps beside its rows, so that a request finds the rows that it needs at once.
-ghost use Rattle.std.specs.Prelude.{◌≡◌, ◌<◌, ◌^◌, length, OnOk};
-ghost use Rattle.swarm_model.specs.declared.pool_settings.PoolSettings.{PoolSettings};
+ghost use Rattle.std.specs.Prelude.{◌≡◌, ◌<◌, ◌^◌, [], length, OnOk};
 ghost use Rattle.swarm_model.specs.declared.pool_state.PoolState.{PoolState};
 ghost use Rattle.swarm_model.specs.Deadlines.{next_deadline};
-ghost use Rattle.swarm_model.specs.Effects.{opening};
 ghost use Rattle.swarm_model.specs.Soundness.{IsSound};
 ghost use Rattle.index_laws.specs.TaskClaims.{claim_link_to_come};
 ghost use Rattle.index_laws.specs.TaskUuids.{uuid_link_to_come};
 ghost use Rattle.swarm_machine.specs.Inside.{state_of};
 ghost use Rattle.swarm_machine.specs.Indexes.{AreIndexes, AreReadyFor, IsTouchedBy, AreBehind};
+ghost use Rattle.swarm_machine.specs.Loading.{with_bots};
 
 use crate::counting::{shift_counts, state_in};
 use crate::deadlines::{blob_end_with, move_deadline, put_bot_deadline, put_task_deadline};
@@ -106,7 +105,7 @@ pub(crate) fn touched_by(rows: &Rows, entry: &Entry) -> Touched
 impl Indexes {
     /// Those of a pool without a row. It takes no memory.
     pub fn new(alloc: Global) -> Indexes
-        ensures { (settings : PoolSettings) → AreIndexes result (opening settings) }
+        ensures { (s : PoolState) → AreIndexes result (with_bots s []) }
     {
         Indexes {
             queues: Queues::new(alloc),

@@ -7,7 +7,8 @@
 //! (`changing_tasks.rt`), and `indexes.rt` the indexes. These are set anew for the rows that an
 //! entry touched (`touched.rt`): deadlines (`deadlines.rt`), queues (`queueing.rt`), sources of
 //! outcomes (`sources.rt`), uses of digests (`uses.rt`) and counts of states (`counting.rt`).
-//! `pages.rt` reads tasks one after another.
+//! `pages.rt` reads tasks one after another. A pool that opens from the rows of a base copies them
+//! (`loading_rows.rt`), and loads each index row by row (`loading_indexes.rt`).
 //!
 //! A task or a bot is found at its place by its number, and by bisection by its name, uuid or
 //! claim, and so is the newest source of a hash, and whether a blob is in use. A task whose run was
@@ -32,6 +33,8 @@ mod counting;
 mod deadlines;
 mod indexed_rows;
 mod indexes;
+mod loading_indexes;
+mod loading_rows;
 mod pages;
 mod queueing;
 mod rows;

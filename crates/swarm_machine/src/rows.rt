@@ -1,24 +1,24 @@
 //! The rows of a pool, which follow its log.
-ghost use Rattle.std.specs.Prelude.{◌≡◌, ◌<◌, ◌≤◌, ◌^◌, [], IfOk, OnOk};
+ghost use Rattle.std.specs.Prelude.{◌≡◌, ◌+◌, ◌<◌, ◌≤◌, ◌^◌, IfOk, OnOk};
 ghost use Rattle.std.specs.Option.{option_map};
-ghost use Rattle.swarm_model.specs.Effects.{opening, run_of_bot};
+ghost use Rattle.swarm_model.specs.BaseRules.{IsBase};
+ghost use Rattle.swarm_model.specs.Bytes.{nothing_held};
+ghost use Rattle.swarm_model.specs.Effects.{run_of_bot};
 ghost use Rattle.swarm_model.specs.History.{MayFollow};
-ghost use Rattle.swarm_model.specs.Settings.{keeps_rules};
 ghost use Rattle.swarm_model.specs.Soundness.{IsSound};
-ghost use Rattle.pool_changes.specs.Blobs.{AreBrought, fresh_in};
+ghost use Rattle.pool_changes.specs.Blobs.{AreBrought, fresh_in, held_in};
 ghost use Rattle.swarm_machine.specs.Changing.{run_to_end};
 ghost use Rattle.swarm_machine.specs.Inside.{state_of, IsReadyFor, IsOfSettings, IsAfter};
 
 use crate::changing_tasks::change_tasks;
+use crate::loading_rows::{load_bots, load_tasks};
 use bot_registry::Registry;
 use content_store::Blobs;
-use pool_changes::{blob_effect, change_blobs};
+use dimensions::TryCopy;
+use pool_changes::{blob_effect, change_blobs, load_blobs};
 use std::alloc::{AllocError, Global};
-use swarm_model::{Chunk, Entry, EntryKind, PoolSettings};
+use swarm_model::{Chunk, Entry, EntryKind, PoolSettings, PoolState};
 use task_rows::TaskRows;
-
-/// The most blobs of a pool.
-const MOST_BLOBS: u32 = 262144;
 
 /// The rows of a pool.
 #[derive(Drop)]
@@ -31,18 +31,20 @@ pub(crate) struct Rows {
 }
 
 impl Rows {
-    /// No task, no bot and no blob yet.
-    pub fn new(alloc: Global, settings: PoolSettings) -> Result<Rows, AllocError>
-        ensures state { IfOk result (λ rows. state_of rows ≡ opening settings) }
+    /// The rows of a base. Of their blobs no bytes are held.
+    pub fn of_base(alloc: Global, base: &PoolState) -> Result<Rows, AllocError>
+        requires { IsBase base.now.settings (2 ^ 31) base.now }
+        ensures state { IfOk result (λ rows. state_of rows ≡ base.now) }
         ensures of_settings { IfOk result IsOfSettings }
-        ensures held { IfOk result (λ rows. rows.blobs.store.held ≡ []) }
+        ensures held { IfOk result (λ rows. held_in rows.blobs ≡ nothing_held) }
     {
-        let blobs = Blobs::new(alloc, settings.store_units, MOST_BLOBS)?;
-        let bots = Registry::new(alloc, settings.most_bots);
-        let tasks = TaskRows::new(alloc, settings.retries);
+        let settings = base.settings.try_copy(alloc)?;
+        let tasks = load_tasks(alloc, settings.retries, base.tasks.as_slice())?;
+        let bots = load_bots(alloc, settings.most_bots, base.bots.as_slice())?;
+        let blobs = load_blobs(alloc, base)?;
         Ok(Rows {
             settings,
-            last: 0,
+            last: base.last,
             tasks,
             bots,
             blobs,
@@ -107,15 +109,13 @@ impl Rows {
         requires follows { MayFollow (state_of self.old) entry.now }
         requires ready { IsReadyFor self.old entry.now.kind }
         requires of_settings { IsOfSettings self.old }
-        requires few { self.old.blobs.placed < self.old.settings.most_entries }
+        requires number { self.old.blobs.placed + 1 < 2 ^ 32 }
         requires bytes { AreBrought entry.now.kind (option_map (λ b. b.now) bytes) }
         ensures { IsAfter self.old self.new entry.now.moment entry.now.kind (option_map (λ b. b.now) bytes.entry) }
     {
         let effect = blob_effect(&entry.kind, self.fresh_in(&entry.kind));
         let life = self.blob_life();
         let run = self.run_to_end(&entry.kind);
-        // For the proof: the limits of the settings.
-        let _most = self.settings.most_entries;
         change_tasks(&mut self.tasks, run, entry);
         self.bots.apply(entry);
         change_blobs(&mut self.blobs, life, entry.moment, effect, bytes);

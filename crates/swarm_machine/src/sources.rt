@@ -1,22 +1,17 @@
 //! Whose outcome a new task may take.
 ghost use Rattle.std.specs.Prelude.{◌≡◌, IfOk, OnOk, None, Some, false, if◌then◌else◌};
 ghost use Rattle.std.specs.Option.{option_copied, option_and_then, option_map, option_map_or};
-ghost use Rattle.swarm_model.specs.Reuse.{is_young};
-ghost use Rattle.index_laws.specs.TaskSources.{hash_of_slice, slice_hash_of, link_under, link_by_report, source_link_before};
+ghost use Rattle.swarm_model.specs.Reuse.{is_young, ended_well};
+ghost use Rattle.pool_index.specs.Sources.{AreWith};
+ghost use Rattle.index_laws.specs.TaskSources.{hash_of_slice, slice_hash_of, source_hash_of, source_of, link_under, link_by_report, source_link_before};
 ghost use Rattle.index_laws.specs.TaskSources as sources;
 
 use crate::rows::Rows;
 use pool_index::SourceIndex;
+use row_changes::{ended_well, is_young};
 use std::alloc::{AllocError, Global};
 use swarm_model::{Attempt, EntryKind, Last, TaskRow};
 use task_props::{Digest, Slice};
-
-/// Whether the task was created less than so many seconds before the moment.
-fn is_young(age: u32, moment: u64, task: &TaskRow) -> bool
-    ensures { result ≡ is_young age moment task.now }
-{
-    moment < task.created || moment - task.created < u64::from(age)
-}
 
 /// The task, where there is one and it is young enough.
 pub(crate) fn if_young<'a>(age: u32, moment: u64, task: Option<&'a TaskRow>) -> Option<&'a TaskRow>
@@ -123,5 +118,30 @@ pub(crate) fn prepare_source(
         }
     }
     sources.release();
+    Ok(())
+}
+
+/// The hash under which others may take the task's outcome, where they may.
+fn source_hash_of(alloc: Global, task: &TaskRow) -> Result<Option<Digest>, AllocError>
+    ensures { IfOk result (λ hash. hash ≡ source_hash_of task.now) }
+{
+    if ended_well(task) {
+        slice_hash_of(alloc, task)
+    } else {
+        Ok(None)
+    }
+}
+
+/// Notes the task, where others may take its outcome.
+pub(crate) fn load_source(
+    alloc: Global,
+    sources: &mut SourceIndex,
+    task: &TaskRow,
+) -> Result<(), AllocError>
+    ensures { OnOk result (AreWith (source_of task.now) sources.old.links sources.new.links) }
+{
+    let hash = source_hash_of(alloc, task)?;
+    prepare_hash(sources, hash, task.no)?;
+    sources.add();
     Ok(())
 }

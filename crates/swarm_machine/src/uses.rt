@@ -3,8 +3,9 @@ ghost use Rattle.std.specs.Prelude.{◌≡◌, ℕ, ◌+◌, ◌<◌, ◌≤◌,
 ghost use Rattle.std.specs.List.{All, count_by};
 ghost use Rattle.std.specs.Option.{option_map_or};
 ghost use Rattle.swarm_model.specs.Uses.{is_chunk_of, is_file_of};
-ghost use Rattle.pool_index.specs.Uses.{uses_of, IsListed, SameUses, StaysListed};
+ghost use Rattle.pool_index.specs.Uses.{uses_of, HasUses, IsListed, SameUses, StaysListed};
 ghost use Rattle.index_laws.specs.TaskUses.{chunks_with, times_named, uses_of_slices};
+ghost use Rattle.index_laws.specs.TaskUses as tasks;
 ghost use Rattle.swarm_machine.specs.Uses.{AreInputsListed, AreListedFor, IsChunkOf, uses_of_chunk, uses_brought, AddsUses, RemovesUses, HasRoomFor, HasUsesFor};
 ghost use Rattle.swarm_machine.specs.Inside.{state_of};
 ghost use Rattle.swarm_machine.specs.UsesBehind.{AreUses, UsesAreBehind};
@@ -179,5 +180,89 @@ pub(crate) fn follow_uses(uses: &mut UseCounts, entry: &Entry, touched: Touched,
                 remove_uses(uses, task);
             }
         }
+    }
+}
+
+/// Counts one use more of a digest, which may not be listed yet.
+fn load_use(uses: &mut UseCounts, digest: &Digest) -> Result<(), AllocError>
+    requires { uses_of uses.old digest.now + 1 < 2 ^ 32 }
+    ensures { OnOk result (HasUses digest.now (uses_of uses.old digest.now + 1) uses.old uses.new) }
+{
+    list_digest(uses, digest)?;
+    uses.add(digest);
+    Ok(())
+}
+
+fn load_inputs(uses: &mut UseCounts, inputs: &[File]) -> Result<(), AllocError>
+    requires { HasRoomFor (λ digest. count_by (is_file_of digest) inputs.now) uses.old }
+    ensures { OnOk result (AddsUses (λ digest. count_by (is_file_of digest) inputs.now) uses.old uses.new) }
+{
+    for file in inputs {
+        load_use(uses, &file.digest)?;
+    }
+    Ok(())
+}
+
+fn load_slices(uses: &mut UseCounts, slices: &[Slice]) -> Result<(), AllocError>
+    requires { HasRoomFor (λ digest. uses_of_slices digest slices.now) uses.old }
+    ensures { OnOk result (AddsUses (λ digest. uses_of_slices digest slices.now) uses.old uses.new) }
+{
+    for slice in slices {
+        load_inputs(uses, slice.properties.inputs.as_slice())?;
+    }
+    Ok(())
+}
+
+fn load_chunks(uses: &mut UseCounts, chunks: &[Chunk]) -> Result<(), AllocError>
+    requires { HasRoomFor (λ digest. count_by (is_chunk_of digest) chunks.now) uses.old }
+    ensures { OnOk result (AddsUses (λ digest. count_by (is_chunk_of digest) chunks.now) uses.old uses.new) }
+{
+    for chunk in chunks {
+        load_use(uses, &chunk.digest)?;
+    }
+    Ok(())
+}
+
+/// Counts the chunks of the output of a run.
+fn load_output(uses: &mut UseCounts, attempt: &Option<Attempt>) -> Result<(), AllocError>
+    requires { HasRoomFor (λ digest. option_map_or (chunks_with digest) attempt.now 0) uses.old }
+    ensures { OnOk result (AddsUses (λ digest. option_map_or (chunks_with digest) attempt.now 0) uses.old uses.new) }
+{
+    match attempt {
+        None => Ok(()),
+        Some(attempt) => load_chunks(uses, attempt.chunks.as_slice()),
+    }
+}
+
+/// The same for the run that was lost before, where there was one.
+fn load_lost_output(uses: &mut UseCounts, retried: &MaybeRetried) -> Result<(), AllocError>
+    requires { HasRoomFor (λ digest. option_map_or (λ lost. chunks_with digest lost.attempt) retried.now 0) uses.old }
+    ensures { OnOk result (AddsUses (λ digest. option_map_or (λ lost. chunks_with digest lost.attempt) retried.now 0) uses.old uses.new) }
+{
+    match retried.as_ref() {
+        None => Ok(()),
+        Some(lost) => load_chunks(uses, lost.attempt.chunks.as_slice()),
+    }
+}
+
+/// Counts what a task names: its inputs, and the output of its runs.
+fn load_named(uses: &mut UseCounts, task: &TaskRow) -> Result<(), AllocError>
+    requires { HasRoomFor (λ digest. times_named digest task.now) uses.old }
+    ensures { OnOk result (AddsUses (λ digest. times_named digest task.now) uses.old uses.new) }
+{
+    load_slices(uses, task.request.task_slices.as_slice())?;
+    load_output(uses, &task.attempt)?;
+    load_lost_output(uses, &task.retried)
+}
+
+/// Counts the uses of a task: one that has ended uses nothing.
+pub(crate) fn load_uses(uses: &mut UseCounts, task: &TaskRow) -> Result<(), AllocError>
+    requires { HasRoomFor (λ digest. tasks.uses_of digest task.now) uses.old }
+    ensures { OnOk result (AddsUses (λ digest. tasks.uses_of digest task.now) uses.old uses.new) }
+{
+    if task.state.is_final() {
+        Ok(())
+    } else {
+        load_named(uses, task)
     }
 }

@@ -1,5 +1,5 @@
 //! What each entry does to the rows, in place.
-ghost use Rattle.std.specs.Prelude.{◌≡◌, ◌<◌, ◌≤◌, ◌^◌, ◌++◌, ◌∷◌, [], map, vec_len, vec_capacity};
+ghost use Rattle.std.specs.Prelude.{◌≡◌, ◌<◌, ◌≤◌, ◌+◌, ◌^◌, ◌++◌, ◌∷◌, [], map, vec_len, vec_capacity};
 ghost use Rattle.std.specs.Option.{option_map};
 ghost use Rattle.swarm_model.specs.Numbers.{AreNumbered};
 ghost use Rattle.swarm_model.specs.Effects.{no_of_task, if_some, lost_run_at, run_of_bot, task_after, added_tasks};
@@ -203,7 +203,7 @@ impl Rows {
         requires room { HasRoom self.old }
         requires chunk { HasChunkRoom self.old.tasks.items self.old.spare entry.now.kind }
         requires of_pool { IsOfPool self.old.settings self.old.blobs }
-        requires few { self.old.blobs.placed < self.old.settings.most_entries }
+        requires number { self.old.blobs.placed + 1 < 2 ^ 32 }
         requires task { task ≡ task_parts entry.now.kind }
         requires bot { bot ≡ bot_parts entry.now.kind }
         requires bytes { AreBrought entry.now.kind (option_map (λ b. b.now) bytes) }
@@ -211,8 +211,6 @@ impl Rows {
     {
         let effect = blob_effect(&entry.kind, self.fresh_in(&entry.kind));
         let life = self.blob_life();
-        // For the proof: the limits of the settings.
-        let _most = self.settings.most_entries;
         self.change_tasks(alloc, entry.moment, &entry.kind, task);
         change_bots(&mut self.bots, alloc, entry.moment, &entry.kind, bot);
         change_blobs(&mut self.blobs, life, entry.moment, effect, bytes);

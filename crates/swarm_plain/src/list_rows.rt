@@ -12,7 +12,9 @@ use std::alloc::{AllocError, Global};
 use std::marker::Model;
 use std::mem;
 use std::sync::ledger::Ledger;
-use swarm_model::{BlobRow, BotRow, Deadline, Entry, PoolSettings, Steps, TaskRow, TaskState};
+use swarm_model::{
+    BlobRow, BotRow, Deadline, Entry, PoolSettings, PoolState, Steps, TaskRow, TaskState,
+};
 use task_props::Digest;
 
 /// What is made ready of an entry.
@@ -171,10 +173,10 @@ impl PoolRows for ListRows {
 
     ghost held = { λ rows. rows.held };
 
-    fn new(alloc: Global, settings: PoolSettings) -> Result<ListRows, AllocError> {
+    fn of_rows(alloc: Global, base: &PoolState) -> Result<ListRows, AllocError> {
         Ok(ListRows {
             alloc,
-            rows: Rows::new(alloc, settings)?,
+            rows: Rows::of_base(alloc, base)?,
             ready: None,
         })
     }
@@ -220,6 +222,10 @@ impl PoolRows for ListRows {
 
     fn last(&self) -> u64 {
         self.rows.last
+    }
+
+    fn placed(&self) -> u32 {
+        self.rows.blobs.placed()
     }
 
     fn blob_at(&self, at: u32) -> Option<&BlobRow> {

@@ -4,27 +4,10 @@ ghost use Rattle.std.specs.List.{fold};
 ghost use Rattle.std.specs.Option.{option_copied};
 ghost use Rattle.swarm_model.specs.Reuse.{ended_well, is_young, has_hash, ran_hash, is_source, newer};
 
+use row_changes::{ended_well, is_young};
 use std::alloc::{AllocError, Global};
-use swarm_model::{TaskRow, TaskState};
+use swarm_model::TaskRow;
 use task_props::{Digest, Slice};
-
-/// Whether the run reported its end with 0.
-fn ended_well(task: &TaskRow) -> bool
-    ensures { result ≡ ended_well task.now }
-{
-    task.has_state(TaskState::Completed)
-        && match task.last_report() {
-            None => false,
-            Some(last) => last.exit_code == 0,
-        }
-}
-
-/// Whether the task was created less than so many seconds before the moment.
-fn is_young(age: u32, moment: u64, task: &TaskRow) -> bool
-    ensures { result ≡ is_young age moment task.now }
-{
-    moment < task.created || moment - task.created < u64::from(age)
-}
 
 fn has_hash(alloc: Global, digest: &Digest, slice: &Slice) -> Result<bool, AllocError>
     ensures { IfOk result (λ has. has ≡ has_hash digest.now slice.now) }

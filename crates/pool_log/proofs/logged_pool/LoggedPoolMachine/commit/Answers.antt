@@ -4,15 +4,13 @@ use Rattle.std.specs.List.{sum_by}
 use Rattle.std.specs.Option.{option_map}
 use Rattle.std.proofs.lemmas.List.Sums.{sum_by-append}
 use Rattle.content_store.specs.Contents.{bytes_of}
-use Rattle.swarm_model.specs.declared.pool_state.PoolState.{PoolState}
-use Rattle.swarm_model.specs.Bases.{empty_base}
 use Rattle.swarm_model.specs.Bytes.{held_after}
 use Rattle.swarm_model.specs.Effects.{after}
 use Rattle.swarm_model.specs.Entries.{weight}
 use Rattle.swarm_model.specs.MachineState.{MachineState, KeepsFinals}
-use Rattle.pool_laws.proofs.Bots.{settings_same}
 use Rattle.pool_laws.proofs.MachineLaws.{is_right, keeps_finals}
 use Rattle.pool_log.specs.Plain.{KeptPool, machine_of}
+use Rattle.pool_log.specs.Invariant.{start_of}
 use Rattle.pool_log.proofs.Logs.{history_of, ready_for, same_machine}
 use Rattle.pool_log.proofs.Reached.{replay_of_more}
 use Rattle.pool_log.proofs.logged_pool.LoggedPoolMachine.commit.Goals as goal
@@ -23,6 +21,7 @@ apply-requires-clause-ready g c = ap (λ (kept : KeptPool). kept.ready) c.self.v
 pub apply-requires-clause-next : goal.apply-requires-clause-next
 apply-requires-clause-next g c =
     record {
+      start = start_of c.self.inside;
       log = c.self.inside.log.items;
       replay_of = c.self.invariant.replay_of;
       follows = rw (← c.self.view_is) at c.requires.follows;
@@ -38,7 +37,7 @@ invariant_of-self g c =
     let room = rw (← c.self.view_is) at c.requires.room in
     let made = ready_for _ _ c.self.inside c.args.entry c.self.invariant (ap (λ (kept : KeptPool). kept.ready) c.self.view_is ∙ c.requires.ready) in
     record {
-      replay_of = replay_of_more _ _ c.self.inside.log.items c.push_reserved.new.self.items c.args.entry c.self.invariant.replay_of follows room c.push_reserved.ensures.items c.apply.ensures.state;
+      replay_of = replay_of_more (start_of c.self.inside) _ _ c.self.inside.log.items c.push_reserved.new.self.items c.args.entry c.self.invariant.replay_of follows room c.push_reserved.ensures.items c.apply.ensures.state;
       weighs = omega (arith, sum_by-append weight c.self.inside.log.items (c.args.entry ∷ []), ap (sum_by weight) c.push_reserved.ensures.items, made.weighs, c.self.invariant.weighs);
       prepared = rw c.apply.ensures.ready tt;
     }
@@ -51,7 +50,7 @@ returns g c =
     let bytes = option_map (λ (b : Bor (List ℕ)). b.now) c.args.bytes in
     let history = history_of _ own c.self.view_is c.self.invariant.replay_of in
     let state = c.apply.ensures.state ∙ ap (λ (kept : KeptPool). after kept.pool entry) c.self.view_is in
-    let start = ap (λ (s : PoolState). empty_base s.settings) state ∙ ap empty_base (settings_same old.pool entry.moment entry.kind) in
+    let start = ap (λ (kept : KeptPool). kept.start) c.self.view_is in
     let log = c.push_reserved.ensures.items ∙ ap (λ (kept : KeptPool). kept.log ++ entry ∷ []) c.self.view_is in
     let ready = c.apply.ensures.ready in
     let held = c.apply.ensures.held ∙ ap (λ (kept : KeptPool). held_after kept.pool entry.kind bytes (bytes_of kept.held)) c.self.view_is in

@@ -1,19 +1,19 @@
--- A pool without an entry.
-use Rattle.std.proofs.Common.{refl}
-use Rattle.content_store.specs.Contents.{bytes_of}
-use Rattle.swarm_model.specs.Bases.{empty_base}
-use Rattle.swarm_model.specs.MachineState.{MachineState}
-use Rattle.pool_log.proofs.Reached.{replay_of_nothing}
+-- A pool without rows is a base.
+use Rattle.std.proofs.Common.{◌≡◌, [], None, IfOk, sym, subst, arith}
+use Rattle.swarm_model.specs.declared.pool_state.PoolState.{PoolState}
+use Rattle.swarm_model.specs.BaseRules.{IsBase}
+use Rattle.swarm_model.specs.Bytes.{nothing_held}
+use Rattle.pool_laws.proofs.BaseLaws.{opening_base}
+use Rattle.pool_log.specs.Plain.{machine_of}
 use Rattle.pool_log.proofs.logged_pool.LoggedPoolMachine.new.Goals as goal
 
-pub invariant_of-result : goal.invariant_of-result
-invariant_of-result g c =
-    record {
-      replay_of = rw c.new-2.ensures.items (replay_of_nothing c.args.settings _ c.requires c.in_ok-new.ensures.state);
-      weighs = rw c.new-2.ensures.items refl;
-      prepared = rw c.in_ok-new.ensures.ready tt;
-    }
+pub opened-requires-clause-rules : goal.opened-requires-clause-rules
+opened-requires-clause-rules g c = rw c.opening.ensures c.requires
+
+pub opened-requires-clause-base : goal.opened-requires-clause-base
+opened-requires-clause-base g c = subst (λ (s : PoolState). IsBase s.settings 0 s) (sym c.opening.ensures) (opening_base c.args.settings 0 (omega arith))
 
 pub returns : goal.returns
 returns g c =
-    λ i. let x : MachineState = record { start = empty_base (c.in_ok-new.ensures.state i).settings; pool = c.in_ok-new.ensures.state i; log = c.new-2.ensures.items i; ready = c.in_ok-new.ensures.ready i; held = bytes_of (c.in_ok-new.ensures.held i) } in x
+    subst (λ (s : PoolState). IfOk c.opened.result (λ pool. machine_of pool ≡ record { start = record { rows = s; count = 0 }; pool = s; log = []; ready = None; held = nothing_held }))
+    c.opening.ensures c.opened.ensures

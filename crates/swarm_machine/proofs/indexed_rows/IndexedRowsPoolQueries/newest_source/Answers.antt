@@ -5,7 +5,7 @@ use Rattle.swarm_model.specs.declared.task_row.TaskRow.{TaskRow}
 use Rattle.swarm_model.specs.declared.pool_state.PoolState.{PoolState}
 use Rattle.swarm_model.specs.Finding.{task_of}
 use Rattle.index_laws.specs.TaskSources.{if_young}
-use Rattle.pool_laws.specs.BaseRules.{AreCreatedInOrder}
+use Rattle.swarm_model.specs.BaseRules.{AreCreatedInOrder}
 use Rattle.index_laws.proofs.CreatedInOrder.{created_in_order}
 use Rattle.index_laws.proofs.SourceIsFound.{source_is_found}
 use Rattle.swarm_machine.specs.Inside.{state_of}
@@ -17,7 +17,8 @@ returns-clause-value g c =
     let s = state_of c.self.inside.rows in
     let kept = c.self.invariant in
     let reached = kept.reached in
-    let created = subst (λ (p : PoolState). AreCreatedInOrder p.tasks) (sym reached.replay_of.replayed) (created_in_order s.settings reached.log reached.replay_of.legal.caused) in
+    let base = reached.replay_of.base in
+    let created = subst (λ (p : PoolState). AreCreatedInOrder p.tasks) (sym reached.replay_of.replayed) (created_in_order reached.start.rows reached.log base.sound base.rows reached.replay_of.legal.caused) in
     let found = rw (← c.self.view_is) at c.found_row-newest.ensures.value in
     rw (← c.self.view_is)
     (c.if_young.ensures

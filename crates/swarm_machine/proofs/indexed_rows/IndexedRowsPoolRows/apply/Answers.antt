@@ -25,8 +25,8 @@ pub apply-requires-clause-ready : goal.apply-requires-clause-ready
 apply-requires-clause-ready c =
     (made_for c.self.inside c.self.invariant c.args.entry.now (ap (λ (kept : RowsState). kept.ready) c.self.view_is ∙ c.requires.ready)).rows_of
 
-pub apply-requires-clause-few : goal.apply-requires-clause-few
-apply-requires-clause-few c = few_placed (state_of c.self.inside.rows) c.args.entry.now (rw (← c.self.view_is) at c.requires.next)
+pub apply-requires-clause-number : goal.apply-requires-clause-number
+apply-requires-clause-number c = few_placed (state_of c.self.inside.rows) c.args.entry.now (rw (← c.self.view_is) at c.requires.next)
 
 pub apply-requires-clause-bytes : goal.apply-requires-clause-bytes
 apply-requires-clause-bytes c = brought_is c.args.entry.now.kind c.args.bytes c.requires.bytes

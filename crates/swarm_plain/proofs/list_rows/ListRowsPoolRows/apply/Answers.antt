@@ -21,8 +21,8 @@ apply-requires-clause-follows c = (rw (← c.self.view_is) at c.requires.next).f
 pub apply-requires-clause-of_pool : goal.apply-requires-clause-of_pool
 apply-requires-clause-of_pool c = c.self.invariant.of_pool
 
-pub apply-requires-clause-few : goal.apply-requires-clause-few
-apply-requires-clause-few c = few_placed (state_of c.self.inside.rows) c.args.entry.now (rw (← c.self.view_is) at c.requires.next)
+pub apply-requires-clause-number : goal.apply-requires-clause-number
+apply-requires-clause-number c = few_placed (state_of c.self.inside.rows) c.args.entry.now (rw (← c.self.view_is) at c.requires.next)
 
 pub apply-requires-clause-bytes : goal.apply-requires-clause-bytes
 apply-requires-clause-bytes c = brought_is c.args.entry.now.kind c.args.bytes c.requires.bytes
