@@ -1,3 +1,9 @@
 pub mod Keys
 pub mod Rows
 pub mod Agreeing
+pub mod Runs
+pub mod RowRules
+pub mod Deadlines
+pub mod Outcomes
+pub mod Needs
+pub mod Bases

@@ -6,6 +6,7 @@ use Rattle.std.specs.declared.cmp.Ordering.{Ordering}
 use Rattle.dimensions.specs.Order.{text_cmp}
 use Rattle.blob_rows.specs.declared.blob_row.BlobRow.{BlobRow}
 use Rattle.blob_rows.specs.BlobRows.{has_digest}
+use Rattle.base_checks.specs.Keys.{IsFull}
 use Rattle.swarm_model.specs.declared.task_row.TaskRow.{TaskRow}
 use Rattle.swarm_model.specs.declared.bot_row.BotRow.{BotRow}
 use Rattle.swarm_model.specs.Soundness.{IsRightTry, claim_key, lost_key, sent_key, AreClaimedApart, AreSentApart, AreNamedApart}
@@ -41,6 +42,10 @@ claim_cmp a b = ordering_then (nat_cmp a.0 b.0) (text_cmp a.1 b.1)
 -- the run of a task is its first, or its second and by another bot
 abbrev pub HasRightTry : TaskRow → Type 0
 HasRightTry task = IfSome task.attempt (IsRightTry task.retried)
+
+-- the blob's bytes lie in a unit of the region at least
+abbrev pub HasUnits : BlobRow → Type 0
+HasUnits blob = IsFull blob.extent
 
 -- ---- rows of one key are one
 

@@ -3,24 +3,10 @@ ghost use Rattle.std.specs.Prelude.{◌≡◌, MatchBool};
 ghost use Rattle.std.specs.List.{AllPass};
 ghost use Rattle.swarm_model.specs.Numbers.{AreNumbered};
 ghost use Rattle.swarm_model.specs.Effects.{no_of_task, no_of_bot};
-ghost use Rattle.swarm_model.specs.Soundness.{runner};
 ghost use Rattle.base_checks.specs.Agreeing.{bot_agrees, task_agrees, NameEachOther};
 
 use row_changes::row_of;
-use swarm_model::{BotRow, TaskRow, TaskState};
-
-/// The bot that runs the task.
-fn runner(task: &TaskRow) -> Option<u32>
-    ensures { result ≡ runner task.now }
-{
-    if !task.has_state(TaskState::Running) {
-        return None;
-    }
-    match &task.attempt {
-        None => None,
-        Some(attempt) => Some(attempt.bot),
-    }
-}
+use swarm_model::{BotRow, TaskRow};
 
 /// Whether the task that the bot names, where it is there, runs on the bot.
 fn bot_agrees(tasks: &[TaskRow], bot: &BotRow) -> bool
@@ -32,7 +18,7 @@ fn bot_agrees(tasks: &[TaskRow], bot: &BotRow) -> bool
     };
     match row_of(tasks, number) {
         None => true,
-        Some(task) => runner(task) == Some(bot.no),
+        Some(task) => task.runner() == Some(bot.no),
     }
 }
 
@@ -41,7 +27,7 @@ fn task_agrees(bots: &[BotRow], task: &TaskRow) -> bool
     requires { AreNumbered no_of_bot 1 bots.now }
     ensures { result ≡ task_agrees bots.now task.now }
 {
-    let Some(number) = runner(task) else {
+    let Some(number) = task.runner() else {
         return true;
     };
     match row_of(bots, number) {

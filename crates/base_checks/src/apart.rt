@@ -1,10 +1,13 @@
 //! Rows of one key that are one row.
-ghost use Rattle.std.specs.Prelude.{◌≡◌, All, IfOk, MatchBool};
+ghost use Rattle.std.specs.Prelude.{All, map, IfOk, MatchBool};
+ghost use Rattle.blob_rows.specs.BlobRows.{extent_of_row};
+ghost use Rattle.blob_rows.specs.Extents.{AreApart};
 ghost use Rattle.swarm_model.specs.Numbers.{AreNumbered};
 ghost use Rattle.swarm_model.specs.Effects.{no_of_task, no_of_bot};
-ghost use Rattle.base_checks.specs.Rows.{HasRightTry, HaveOwnNames, HaveOwnClaims, HaveOwnUuids, HaveOwnDigests};
+ghost use Rattle.base_checks.specs.Rows.{HasRightTry, HasUnits, HaveOwnNames, HaveOwnClaims, HaveOwnUuids, HaveOwnDigests};
 
-use crate::keys::{claims, digests, names, uuids};
+use crate::keys::{claims, digests, extents, names, uuids};
+use crate::overlap::extents_overlap;
 use crate::twice::stands_twice;
 use blob_rows::BlobRow;
 use std::alloc::{AllocError, Global};
@@ -48,4 +51,13 @@ pub fn have_own_digests(alloc: Global, blobs: &[BlobRow]) -> Result<bool, AllocE
 {
     let mut keys = digests(alloc, blobs)?;
     Ok(!stands_twice(&mut keys))
+}
+
+/// Whether no two blobs share a unit of the region.
+pub fn are_blobs_apart(alloc: Global, blobs: &[BlobRow]) -> Result<bool, AllocError>
+    requires units { All HasUnits blobs.now }
+    ensures { IfOk result (λ apart. MatchBool apart (AreApart (map extent_of_row blobs.now)) (AreApart (map extent_of_row blobs.now) → ⊥)) }
+{
+    let mut extents = extents(alloc, blobs)?;
+    Ok(!extents_overlap(&mut extents))
 }

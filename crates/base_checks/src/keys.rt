@@ -1,11 +1,12 @@
 //! The keys of rows, as they are compared.
 ghost use Rattle.std.specs.Prelude.{◌≡◌, ◌++◌, map, flat_map, filter_map, IfOk, OnOk};
 ghost use Rattle.std.specs.Option.{option_map, option_to_list};
+ghost use Rattle.blob_rows.specs.BlobRows.{extent_of_row};
 ghost use Rattle.swarm_model.specs.Soundness.{claim_key, lost_key, sent_key};
 ghost use Rattle.base_checks.specs.Keys.{text_in, claim_in, pair_in};
 ghost use Rattle.base_checks.specs.Rows.{name_of, digest_of, claims_of};
 
-use blob_rows::{BlobRow, Digest};
+use blob_rows::{BlobRow, Digest, Extent};
 use dimensions::Text;
 use std::alloc::{AllocError, Global};
 use swarm_model::{BotRow, TaskRow};
@@ -18,10 +19,21 @@ pub(crate) fn names(alloc: Global, bots: &[BotRow]) -> Result<Vec<&Text>, AllocE
 }
 
 /// The digests of blobs.
-pub(crate) fn digests(alloc: Global, blobs: &[BlobRow]) -> Result<Vec<&Digest>, AllocError>
-    ensures { IfOk result (λ digests. map text_in digests.items ≡ map digest_of blobs.now) }
+pub(crate) fn digests(alloc: Global, blobs: &[BlobRow]) -> Result<Vec<Digest>, AllocError>
+    ensures { IfOk result (λ digests. digests.items ≡ map digest_of blobs.now) }
 {
-    blobs.iter().map(|blob| &blob.digest).collect(alloc)
+    let mut digests = Vec::with_capacity(alloc, blobs.len())?;
+    for blob in blobs {
+        digests.push(blob.digest)?;
+    }
+    Ok(digests)
+}
+
+/// Where the bytes of blobs lie.
+pub(crate) fn extents(alloc: Global, blobs: &[BlobRow]) -> Result<Vec<Extent>, AllocError>
+    ensures { IfOk result (λ extents. extents.items ≡ map extent_of_row blobs.now) }
+{
+    blobs.iter().map(|blob| blob.extent).collect(alloc)
 }
 
 /// The bot that runs the task, or ran it last, and the id of its claim.

@@ -1,5 +1,5 @@
 ghost use Rattle.std.specs.Prelude.{◌≡◌, AllPairs, MatchBool};
-ghost use Rattle.pool_laws.specs.BaseRules.{AreCreatedInOrder};
+ghost use Rattle.swarm_model.specs.BaseRules.{AreCreatedInOrder};
 ghost use Rattle.base_checks.specs.Rows.{HasLowerNumber};
 
 use blob_rows::BlobRow;

@@ -1,8 +1,6 @@
 ghost use Rattle.std.specs.Prelude.{◌≡◌, ◌&&◌, ◌==◌, nat_le, true};
 ghost use Rattle.std.specs.List.{list_all};
 ghost use Rattle.std.specs.Option.{option_map_or};
-ghost use Rattle.dimensions.specs.Alike.{same};
-ghost use Rattle.task_props.specs.Checked.{is_checked as spec_is_checked, pool_of_task};
 ghost use Rattle.swarm_model.specs.Words.{is_between};
 ghost use Rattle.swarm_model.specs.Fits.{fits_bot, is_task_number, fits_task, is_limit, fits_chunk, fits_last, is_blob_size, fits};
 
@@ -16,8 +14,9 @@ use task_props::{Digest, NewTask};
 /// The bytes of the longest output.
 const LONGEST_OUTPUT: u64 = 67_108_864;
 
-fn fits_pool(settings: &PoolSettings, request: &NewTask) -> bool
-    ensures { result ≡ (spec_is_checked request.now && same (pool_of_task request.now) settings.now.name) }
+/// Whether the pool may be asked for the task.
+pub fn fits_pool(settings: &PoolSettings, request: &NewTask) -> bool
+    ensures { result ≡ fits settings.now (Request.New request.now) }
 {
     is_checked(request) && request.pool() == settings.name.as_str()
 }
@@ -26,6 +25,19 @@ fn fits_bot(settings: &PoolSettings, bot: &Text, dims: &BotDims) -> bool
     ensures { result ≡ fits_bot settings.now bot.now dims.now }
 {
     is_name(bot.as_str()) && dims.is_checked(bot.as_str()) && dims.pool() == settings.name.as_str()
+}
+
+/// Whether a bot may come to the pool so.
+pub fn fits_session(
+    settings: &PoolSettings,
+    bot: &Text,
+    session: &Text,
+    dims: &BotDims,
+    quarantined: &Text,
+) -> bool
+    ensures { result ≡ fits settings.now (Request.Handshake bot.now session.now dims.now quarantined.now) }
+{
+    fits_bot(settings, bot, dims) && is_name(session.as_str()) && quarantined.as_str().len() <= 256
 }
 
 fn is_task_number(number: u32) -> bool
@@ -62,7 +74,8 @@ fn is_task_number_or_none(number: Option<u32>) -> bool
     }
 }
 
-fn fits_chunk(chunk: &Chunk) -> bool
+/// Whether a report may bring the piece of output.
+pub fn fits_chunk(chunk: &Chunk) -> bool
     ensures { result ≡ fits_chunk chunk.now }
 {
     1 <= chunk.size
@@ -70,7 +83,8 @@ fn fits_chunk(chunk: &Chunk) -> bool
         && u64::from(chunk.start) + u64::from(chunk.size) <= LONGEST_OUTPUT
 }
 
-fn fits_chunk_or_none(chunk: &Option<Chunk>) -> bool
+/// Whether it may bring what there is.
+pub fn fits_chunk_or_none(chunk: &Option<Chunk>) -> bool
     ensures { result ≡ option_map_or fits_chunk chunk.now true }
 {
     match chunk {
@@ -88,7 +102,8 @@ fn fits_last(last: &Last) -> bool
         && are_files(last.files.as_slice())
 }
 
-fn fits_last_or_none(last: &Option<Last>) -> bool
+/// Whether a report may say this of the end of a run, where it says anything.
+pub fn fits_last_or_none(last: &Option<Last>) -> bool
     ensures { result ≡ option_map_or fits_last last.now true }
 {
     match last {
@@ -104,7 +119,8 @@ fn is_window(offset: u32, length: u32) -> bool
     u64::from(offset) <= LONGEST_OUTPUT && 1 <= length && length <= 65_536
 }
 
-fn is_blob_size(size: u32) -> bool
+/// Whether a blob may have so many bytes.
+pub fn is_blob_size(size: u32) -> bool
     ensures { result ≡ is_blob_size size }
 {
     size <= LARGEST_CONTENT
@@ -145,11 +161,7 @@ pub fn fits(settings: &PoolSettings, request: &Request) -> bool
             session,
             dims,
             quarantined,
-        } => {
-            fits_bot(settings, bot, dims)
-                && is_name(session.as_str())
-                && quarantined.as_str().len() <= 256
-        }
+        } => fits_session(settings, bot, session, dims, quarantined),
         Request::Poll {
             bot,
             dims,
