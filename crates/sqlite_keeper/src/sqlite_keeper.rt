@@ -9,11 +9,16 @@ use sqlite::Error;
 use std::time::Instant;
 use swarm_keeper::{Digest, Keeper, KeeperFault};
 
-// After each so many lines it is logged that they are read.
+// After each so many lines of a base, and of a log, it is logged that they are read.
 const LOGGED_LINES: u64 = 100_000;
 
-/// A keeper over a file, which tells nothing. It logs how its lines are read, one after the other, and
-/// why a call failed.
+/// Whether it is logged that the line at a place is read, from 0.
+fn is_logged(at: u64) -> bool {
+    at % LOGGED_LINES == LOGGED_LINES - 1
+}
+
+/// A keeper over a file, which tells nothing. It logs how the lines of its base and of its log are read,
+/// one after the other, that it has another base, and why a call failed.
 #[derive(Drop)]
 pub struct SqliteKeeper {
     log: ProgramLog,
@@ -57,8 +62,8 @@ impl SqliteKeeper {
         }
     }
 
-    /// Logs that so many lines are read.
-    fn log_lines(&self, lines: u64, how: &str) {
+    /// Logs that so many lines of the base, or of the log, are read.
+    fn log_lines(&self, how: &str, which: &str, lines: u64) {
         let seconds = match &self.begun {
             Some(begun) => match begun.elapsed(&self.log) {
                 Ok(since) => since.as_secs(),
@@ -66,7 +71,7 @@ impl SqliteKeeper {
             },
             None => 0,
         };
-        info!(self.log; "records at {} {how}, lines {lines}, seconds {seconds}", self.path.as_str());
+        info!(self.log; "records at {} {how}, {which} {lines}, seconds {seconds}", self.path.as_str());
     }
 
     pub(crate) fn faults(&self) -> u64
@@ -110,17 +115,47 @@ impl Keeper for SqliteKeeper {
         self.counted("keep a line in", done)
     }
 
-    fn line(&mut self, at: u64) -> Result<Option<Text>, KeeperFault> {
-        let found = tables::line(&mut self.file, at);
-        match self.counted("read a line of", found)? {
+    fn replace(&mut self, base: &[Text], count: u64) -> Result<(), KeeperFault> {
+        let done = tables::replace(&mut self.file, base, count);
+        self.counted("keep a base in", done)?;
+        info!(self.log; "records at {} begin anew, base lines {}, entries before {count}", self.path.as_str(), base.len());
+        Ok(())
+    }
+
+    fn count(&mut self) -> Result<u64, KeeperFault> {
+        let found = tables::count(&mut self.file);
+        self.counted("read the count of", found)
+    }
+
+    fn base_line(&mut self, at: u64) -> Result<Option<Text>, KeeperFault> {
+        let found = tables::base_line(&mut self.file, at);
+        match self.counted("read a base line of", found)? {
             Some(text) => {
-                if at % LOGGED_LINES == LOGGED_LINES - 1 {
-                    self.log_lines(at.saturating_add(1), "are being read");
+                if is_logged(at) {
+                    self.log_lines("are being read", "base lines", at.saturating_add(1));
                 }
                 Ok(Some(Text::from_string(text)))
             }
             None => {
-                self.log_lines(at, "are open");
+                if at > 0 {
+                    self.log_lines("have a base", "base lines", at);
+                }
+                Ok(None)
+            }
+        }
+    }
+
+    fn line(&mut self, at: u64) -> Result<Option<Text>, KeeperFault> {
+        let found = tables::line(&mut self.file, at);
+        match self.counted("read a line of", found)? {
+            Some(text) => {
+                if is_logged(at) {
+                    self.log_lines("are being read", "lines", at.saturating_add(1));
+                }
+                Ok(Some(Text::from_string(text)))
+            }
+            None => {
+                self.log_lines("are open", "lines", at);
                 Ok(None)
             }
         }

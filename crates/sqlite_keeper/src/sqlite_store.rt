@@ -1,8 +1,8 @@
 ghost use Rattle.std.specs.Prelude.{◌≡◌, None, IfOk};
 
 use crate::sqlite_keeper::SqliteKeeper;
-use crate::tables::{has_tables, is_memory};
-use log::error;
+use crate::tables::{OpenedTables, is_memory, open_tables};
+use log::{error, info};
 use program_log::ProgramLog;
 use sqlite::{Connection, Error, ErrorCode};
 use std::alloc::Global;
@@ -71,7 +71,8 @@ impl<'a> SqliteStore<'a> {
         }
     }
 
-    /// A keeper over the file at a path, which is made where there is none.
+    /// A keeper over the file at a path, which is made where there is none, and becomes one of the second
+    /// version where it is one of the first.
     fn open_keeper(&self, path: String) -> Result<SqliteKeeper, StartFault>
         ensures { IfOk result (λ keeper. keeper.faults ≡ 0) }
     {
@@ -80,14 +81,18 @@ impl<'a> SqliteStore<'a> {
             Ok(file) => file,
             Err(error) => return Err(self.start_fault(path.as_str(), &error)),
         };
-        match has_tables(&mut file) {
-            Ok(true) => Ok(SqliteKeeper::new(self.log, path, begun, file)),
-            Ok(false) => {
-                error!(self.log; "can't open records at {}: its tables are not those of a pool", path.as_str());
-                Err(StartFault::Failed)
+        match open_tables(&mut file) {
+            Ok(OpenedTables::New | OpenedTables::Second) => {}
+            Ok(OpenedTables::First) => {
+                info!(self.log; "records at {} were of version 1 and are of version 2", path.as_str());
             }
-            Err(error) => Err(self.start_fault(path.as_str(), &error)),
+            Ok(OpenedTables::Others) => {
+                error!(self.log; "can't open records at {}: its tables are not those of a pool", path.as_str());
+                return Err(StartFault::Failed);
+            }
+            Err(error) => return Err(self.start_fault(path.as_str(), &error)),
         }
+        Ok(SqliteKeeper::new(self.log, path, begun, file))
     }
 
     fn open_pool(&self, alloc: Global, folder: &str, pool: &str) -> Result<SqliteKeeper, StartFault>

@@ -1,13 +1,13 @@
 -- What stands in the places of a store after one gets other tables, or is new.
 use Rattle.std.proofs.Common.{◌≡◌, ◌∙◌, ℕ, zero, suc, ◌<◌, List, [], ◌∷◌, ◌++◌, Bool, true, false, Option, Some, None, refl, sym, ap, subst, length, take, set, get_or, arith}
-use Rattle.std.specs.Prelude.{Result, Ok, Err, IfOk, ◌&&◌, ◌||◌, if◌then◌else◌}
+use Rattle.std.specs.Prelude.{◌&&◌, ◌||◌, if◌then◌else◌}
 use Rattle.std.specs.List.{list_any}
 use Rattle.std.specs.Cmp.Lexicographic.{bytes_decides}
 use Rattle.std.proofs.lemmas.List.Folds.{list_any-append}
 use Rattle.dimensions.specs.Alike.{same}
 use Rattle.swarm_keeper.specs.Tables.{Tables, nothing}
 use Rattle.swarm_keeper.specs.Stores.{is_at, with_tables, with_line}
-use Rattle.swarm_keeper.specs.Places.{is_place, tables_in, has_place, IsFirst, IsReplaced, IsTaken, Replaces}
+use Rattle.swarm_keeper.specs.Places.{is_place, tables_in, has_place, IsFirst, IsKept, IsReplaced, IsTaken, Replaces}
 use Rattle.swarm_keeper.specs.declared.memory_store.Place.{Place}
 use mathlib.Core.Path.{fun_ext}
 
@@ -112,18 +112,21 @@ absent f p (a ∷ xs) none =
     let other : is_place f p a ≡ false = neither_left (is_place f p a) (has_place xs f p) none in
     rw other (absent f p xs (neither_right (is_place f p a) (has_place xs f p) none))
 
--- a new place with nothing in it changes no tables
-new_place : (f p : List ℕ) (xs : List Place) (y : Place) → y.tables ≡ nothing → tables_in (xs ++ y ∷ []) f p ≡ tables_in xs f p
-new_place f p [] y none = either (is_place f p y) none
-  where
-    either : (b : Bool) → y.tables ≡ nothing → (if b then y.tables else nothing) ≡ nothing
-    either true e = e
-    either false e = refl
-new_place f p (a ∷ xs) y none = ap (λ t. if is_place f p a then a.tables else t) (new_place f p xs y none)
+-- a new place is that of its folder and pool, where they had none
+new_place_at : (f p : List ℕ) (xs : List Place) (y : Place) → has_place xs f p ≡ false → is_place f p y ≡ true → tables_in (xs ++ y ∷ []) f p ≡ y.tables
+new_place_at f p [] y none is = rw is refl
+new_place_at f p (a ∷ xs) y none is =
+    let other : is_place f p a ≡ false = neither_left (is_place f p a) (has_place xs f p) none in
+    rw other (new_place_at f p xs y (neither_right (is_place f p a) (has_place xs f p) none) is)
 
-nothing_else : (f p : List ℕ) (xs : List Place) → tables_in xs f p ≡ nothing → (g q : List ℕ) (b : Bool) → is_at f p g q ≡ b → tables_in xs g q ≡ (if b then nothing else tables_in xs g q)
-nothing_else f p xs none g q true h = rw (first_is f p g q h, second_is f p g q h) none
-nothing_else f p xs none g q false h = refl
+-- and changes no tables of others
+new_place_elsewhere : (f p : List ℕ) (xs : List Place) (y : Place) → is_place f p y ≡ false → tables_in (xs ++ y ∷ []) f p ≡ tables_in xs f p
+new_place_elsewhere f p [] y other = rw other refl
+new_place_elsewhere f p (a ∷ xs) y other = ap (λ t. if is_place f p a then a.tables else t) (new_place_elsewhere f p xs y other)
+
+new_place : (f p : List ℕ) (xs : List Place) (y : Place) → has_place xs f p ≡ false → is_place f p y ≡ true → (g q : List ℕ) (b : Bool) → is_at f p g q ≡ b → tables_in (xs ++ y ∷ []) g q ≡ (if b then y.tables else tables_in xs g q)
+new_place f p xs y none is g q true h = rw (first_is f p g q h, second_is f p g q h) (new_place_at f p xs y none is)
+new_place f p xs y none is g q false h = new_place_elsewhere g q xs y (is_place_other f p g q y is h)
 
 or_true : (b : Bool) → (b || true) ≡ true
 or_true true = refl
@@ -134,13 +137,16 @@ kept_place true b h = refl
 kept_place false b h = absurd (cc)
 
 -- a folder and pool that had no place get one
-pub push_place : (f p : List ℕ) (xs : List Place) (y : Place) → has_place xs f p ≡ false → y.folder ≡ f → y.pool ≡ p → y.tables ≡ nothing → IsTaken xs (xs ++ y ∷ []) f p nothing
-push_place f p xs y none folder pool empty = record {
-  told = sym (absent f p xs none);
-  kept = fun_ext (λ g. fun_ext (λ q. new_place g q xs y empty ∙ nothing_else f p xs (absent f p xs none) g q (is_at f p g q) refl));
-  there = rw (list_any-append (is_place f p) xs (y ∷ []), folder, pool, is_itself f p) (or_true (has_place xs f p));
-  places = λ g q h. rw (list_any-append (is_place g q) xs (y ∷ [])) (kept_place (has_place xs g q) (has_place (y ∷ []) g q) h);
-}
+pub add_place : (f p : List ℕ) (xs new : List Place) (y : Place) (t : Tables) → new ≡ xs ++ y ∷ [] → y.folder ≡ f → y.pool ≡ p → y.tables ≡ t → has_place xs f p ≡ false → IsKept xs new f p t
+add_place f p xs new y t pushed folder pool same none =
+    subst (λ zs. IsKept xs zs f p t) (sym pushed) (subst (λ u. IsKept xs (xs ++ y ∷ []) f p u) same (record {
+      kept = fun_ext (λ g. fun_ext (λ q. new_place f p xs y none is g q (is_at f p g q) refl));
+      there = rw (list_any-append (is_place f p) xs (y ∷ []), is) (or_true (has_place xs f p));
+      places = λ g q h. rw (list_any-append (is_place g q) xs (y ∷ [])) (kept_place (has_place xs g q) (has_place (y ∷ []) g q) h);
+    }))
+  where
+    is : is_place f p y ≡ true
+    is = rw (folder, pool) (is_itself f p)
 
 -- the first place of a folder and pool gets other tables
 pub put_tables : (f p : List ℕ) (t : Tables) (xs : List Place) (i : ℕ) (x : Place) → list_any (is_place f p) (take i xs) ≡ false → i < length xs → x ≡ get_or xs i x → is_place f p x ≡ true → IsReplaced xs (set xs i (record x { tables = t })) f p t x.tables
@@ -162,15 +168,16 @@ take_tables f p old new t taken e h =
       places = λ g q is. ap (λ places. places g q) h.places ∙ is;
     }
 
--- a place is added to a list that has none of the folder and pool
-pub add_place : (f p : List ℕ) (xs new : List Place) (y : Place) (taken : Tables) → new ≡ xs ++ y ∷ [] → y.folder ≡ f → y.pool ≡ p → y.tables ≡ nothing → taken ≡ nothing → has_place xs f p ≡ false → IsTaken xs new f p taken
-add_place f p xs new y taken pushed folder pool empty e none =
-    subst (λ t. IsTaken xs new f p t) (sym e) (subst (λ zs. IsTaken xs zs f p nothing) (sym pushed) (push_place f p xs y none folder pool empty))
-
--- what was taken, where the places before are the same as others
-pub taken_same : {E : Type 0} (f p : List ℕ) (old xs new : List Place) (r : Result Tables E) → (has_place old f p ≡ false) × (xs ≡ old) → IfOk r (λ t. has_place xs f p ≡ false → IsTaken xs new f p t) → IfOk r (IsTaken old new f p)
-taken_same f p old xs new (Ok t) none h = subst (λ ys. IsTaken ys new f p t) none.1 (h (ap (λ ys. has_place ys f p) none.1 ∙ none.0))
-taken_same f p old xs new (Err e) none h = tt
+-- what was taken is nothing, where a place is added to places that are the same as before
+pub nothing_taken : (f p : List ℕ) (old xs new : List Place) (t taken : Tables) → (has_place old f p ≡ false) × (xs ≡ old) → t ≡ nothing → taken ≡ nothing → (has_place xs f p ≡ false → IsKept xs new f p t) → IsTaken old new f p taken
+nothing_taken f p old xs new t taken none empty e h =
+    let kept : IsKept old new f p nothing = subst (λ u. IsKept old new f p u) empty (subst (λ ys. IsKept ys new f p t) none.1 (h (ap (λ ys. has_place ys f p) none.1 ∙ none.0))) in
+    record {
+      told = e ∙ sym (absent f p old none.0);
+      kept = kept.kept;
+      there = kept.there;
+      places = kept.places;
+    }
 
 -- a replacement takes no place away
 pub replaced_places : (f p : List ℕ) (t : Tables) (old new : List Place) (r : Option Tables) → Replaces old new f p t r → has_place new ≡ has_place old
@@ -180,6 +187,16 @@ replaced_places f p t old new (Some before) h = h.places
 -- the place that was found gets other tables
 pub put_first : (f p : List ℕ) (t : Tables) (xs : List Place) (i : ℕ) (x : Place) → IsFirst xs f p i → x ≡ get_or xs i x → IsReplaced xs (set xs i (record x { tables = t })) f p t x.tables
 put_first f p t xs i x first at = put_tables f p t xs i x first.none_before first.inside at (ap (is_place f p) at ∙ first.there x)
+
+-- what stands in the place that was found is others
+pub put_kept : (f p : List ℕ) (t : Tables) (xs : List Place) (i : ℕ) (x : Place) → IsFirst xs f p i → x ≡ get_or xs i x → IsKept xs (set xs i (record x { tables = t })) f p t
+put_kept f p t xs i x first at =
+    let put : IsReplaced xs (set xs i (record x { tables = t })) f p t x.tables = put_first f p t xs i x first at in
+    record {
+      kept = put.kept;
+      there = ap (λ places. places f p) put.places ∙ put.there;
+      places = λ g q is. ap (λ places. places g q) put.places ∙ is;
+    }
 
 -- the same, where what is put there and what was there have other names
 pub put_first_as : (f p : List ℕ) (t : Tables) (xs : List Place) (i : ℕ) (x : Place) (put before : Tables) → IsFirst xs f p i → x ≡ get_or xs i x → put ≡ t → before ≡ x.tables → IsReplaced xs (set xs i (record x { tables = put })) f p t before

@@ -34,6 +34,12 @@ pub record IsReplaced (old new : List Place) (folder pool : List ℕ) (tables fo
   pub places : has_place new ≡ has_place old
   pub there : has_place old folder pool ≡ true
 
+-- a folder and pool has a place, with these tables, and what has a place keeps it
+pub record IsKept (old new : List Place) (folder pool : List ℕ) (tables : Tables) : Type 0 where
+  pub kept : tables_in new ≡ with_tables folder pool tables (tables_in old)
+  pub there : has_place new folder pool ≡ true
+  pub places : (other_folder other_pool : List ℕ) → has_place old other_folder other_pool ≡ true → has_place new other_folder other_pool ≡ true
+
 -- the tables of a folder and pool are taken, and it has a place
 pub record IsTaken (old new : List Place) (folder pool : List ℕ) (taken : Tables) : Type 0 where
   pub told : taken ≡ tables_in old folder pool

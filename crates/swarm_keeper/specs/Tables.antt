@@ -6,13 +6,17 @@ use Rattle.sw_base.specs.Faults.{Rose}
 use Rattle.swarm_keeper.specs.declared.keeper.KeeperFault.{KeeperFault}
 use Rattle.swarm_keeper.specs.declared.keeper.KeeperFault.TheVariants.{Failed}
 
--- the lines of a log, and the bytes of blobs by their digests
+-- The lines of a base, how many entries came before it, the lines of the log since then, and the bytes of blobs by their
+-- digests. Tables of the first version have neither a base nor a count: they are those with no lines of a base and the
+-- count 0.
 pub record Tables : Type 0 where
+  pub base : List (List ℕ)
+  pub count : ℕ
   pub lines : List (List ℕ)
   pub blobs : List (List ℕ × List ℕ)
 
 abbrev pub nothing : Tables
-nothing = record { lines = []; blobs = [] }
+nothing = record { base = []; count = 0; lines = []; blobs = [] }
 
 abbrev pub is_of : List ℕ → List ℕ × List ℕ → Bool
 is_of digest blob = same blob.0 digest
@@ -35,7 +39,11 @@ with_blob None bytes blobs = blobs
 with_blob (Some digest) bytes blobs = filter (is_other digest) blobs ++ (digest, bytes) ∷ []
 
 abbrev pub appended : List ℕ → Option (List ℕ) → List ℕ → Option (List ℕ) → Tables → Tables
-appended line add bytes remove t = record { lines = t.lines ++ line ∷ []; blobs = with_blob add bytes (without remove t.blobs) }
+appended line add bytes remove t = record t { lines = t.lines ++ line ∷ []; blobs = with_blob add bytes (without remove t.blobs) }
+
+-- another base before which so many entries came, and no lines; the blobs stay
+abbrev pub replaced : List (List ℕ) → ℕ → Tables → Tables
+replaced base count t = record t { base = base; count = count; lines = [] }
 
 -- a count never falls; a failure raises it, and a sure keeper has none
 pub record Counts {A : Type 0} (sure : Bool) (old new : ℕ) (result : Result A KeeperFault) : Type 0 where

@@ -1,5 +1,5 @@
 ghost use Rattle.std.specs.Prelude.{◌≡◌, ◌&&◌, ℕ, Bool, false, IsTrue, None, is_some, IfOk, OnOk, OnErr, IfSome, slice_get, option_map, Option};
-ghost use Rattle.swarm_keeper.specs.Tables.{Tables, Counts, appended, bytes_of};
+ghost use Rattle.swarm_keeper.specs.Tables.{Tables, Counts, appended, replaced, bytes_of};
 
 use dimensions::{Seq, Text};
 use std::alloc::{AllocError, AllocFailed};
@@ -37,7 +37,7 @@ impl<T: Drop> From<AllocFailed<T>> for KeeperFault {
     }
 }
 
-/// What keeps the lines of one pool's log and the bytes of its blobs.
+/// What keeps the lines of one pool's base and of its log since then, and the bytes of its blobs.
 pub trait Keeper {
     /// What is kept, where the keeper tells it.
     ghost tables: { Self → Option Tables };
@@ -57,8 +57,8 @@ pub trait Keeper {
 
     ghost sure_untold: { (SURE && TELLS) ≡ false };
 
-    /// Keeps one more line, with the bytes of a blob that it adds, and drops those of a blob that
-    /// it removes: all of it or nothing. `bytes` are not looked at where no blob is added.
+    /// Keeps one more line of the log, with the bytes of a blob that it adds, and drops those of a
+    /// blob that it removes: all of it or nothing. `bytes` are not looked at where no blob is added.
     fn append(
         &mut self,
         line: &str,
@@ -70,7 +70,28 @@ pub trait Keeper {
         ensures stays { OnErr result (tables self.new ≡ tables self.old) }
         ensures counts { Counts SURE (faults self.old) (faults self.new) result };
 
-    /// The line at a place, from 0.
+    /// Keeps the lines of another base, before which so many entries came, and drops the lines of
+    /// the log: all of it or nothing. The blobs stay.
+    fn replace(&mut self, base: &[Text], count: u64) -> Result<(), KeeperFault>
+        ensures kept { OnOk result (tables self.new ≡ option_map (replaced base.now count) (tables self.old)) }
+        ensures stays { OnErr result (tables self.new ≡ tables self.old) }
+        ensures counts { Counts SURE (faults self.old) (faults self.new) result };
+
+    /// How many entries came before the base.
+    fn count(&mut self) -> Result<u64, KeeperFault>
+        ensures count { IfOk result (λ count. IfSome (tables self.old) (λ t. count ≡ t.count)) }
+        ensures stays { tables self.new ≡ tables self.old }
+        ensures counts { Counts SURE (faults self.old) (faults self.new) result }
+        ensures sure { IsTrue SURE → IfOk result (λ count. count ≡ 0) };
+
+    /// The line of the base at a place, from 0.
+    fn base_line(&mut self, at: u64) -> Result<Option<Text>, KeeperFault>
+        ensures line { IfOk result (λ line. IfSome (tables self.old) (λ t. line ≡ slice_get t.base at)) }
+        ensures stays { tables self.new ≡ tables self.old }
+        ensures counts { Counts SURE (faults self.old) (faults self.new) result }
+        ensures sure { IsTrue SURE → IfOk result (λ line. line ≡ None) };
+
+    /// The line of the log at a place, from 0.
     fn line(&mut self, at: u64) -> Result<Option<Text>, KeeperFault>
         ensures line { IfOk result (λ line. IfSome (tables self.old) (λ t. line ≡ slice_get t.lines at)) }
         ensures stays { tables self.new ≡ tables self.old }

@@ -13,11 +13,20 @@ use sw_base::is_failing;
 #[derive(Drop)]
 pub struct MemoryKeeper {
     alloc: Global,
-    lines: Vec<Text>,
-    blobs: Vec<(Digest, Seq<u8>)>,
+    tables: MemoryTables,
     calls: u64,
     fails: Vec<u64>,
     faults: u64,
+}
+
+fn texts_copy(alloc: Global, texts: &[Text]) -> Result<Vec<Text>, AllocError>
+    ensures { IfOk result (λ copies. copies.items ≡ texts.now) }
+{
+    let mut copies = Vec::new(alloc);
+    for text in texts {
+        copies.push(text.try_copy(alloc)?)?;
+    }
+    Ok(copies)
 }
 
 fn bytes_copy(alloc: Global, bytes: &[u8]) -> Result<Seq<u8>, AllocError>
@@ -89,8 +98,7 @@ impl MemoryKeeper {
     {
         MemoryKeeper {
             alloc,
-            lines: Vec::new(alloc),
-            blobs: Vec::new(alloc),
+            tables: MemoryTables::new(alloc),
             calls: 0,
             fails,
             faults: 0,
@@ -102,11 +110,9 @@ impl MemoryKeeper {
         ensures tables { ⟦<MemoryKeeper as Keeper>⟧.tables result ≡ Some tables }
         ensures faults { ⟦<MemoryKeeper as Keeper>⟧.faults result ≡ 0 }
     {
-        let (lines, blobs) = tables.into_parts();
         MemoryKeeper {
             alloc,
-            lines,
-            blobs,
+            tables,
             calls: 0,
             fails,
             faults: 0,
@@ -116,7 +122,7 @@ impl MemoryKeeper {
     pub(crate) fn into_tables(self) -> MemoryTables
         ensures { ⟦<MemoryKeeper as Keeper>⟧.tables self ≡ Some result }
     {
-        MemoryTables::from_parts(self.lines, self.blobs)
+        self.tables
     }
 
     /// How often a call failed.
@@ -128,8 +134,7 @@ impl MemoryKeeper {
 
     /// Whether this call fails, which is then counted.
     fn fails(&mut self) -> bool
-        ensures lines { self.new.lines ≡ self.old.lines }
-        ensures blobs { self.new.blobs ≡ self.old.blobs }
+        ensures tables { self.new.tables ≡ self.old.tables }
         ensures counted { IsTrue result → Rose self.old.faults self.new.faults }
         ensures never_falls { self.old.faults ≤ self.new.faults }
     {
@@ -142,7 +147,7 @@ impl MemoryKeeper {
 }
 
 impl Keeper for MemoryKeeper {
-    ghost tables = { λ k. Some (record { lines = k.lines.items; blobs = k.blobs.items }) };
+    ghost tables = { λ k. Some k.tables };
 
     ghost faults = { λ k. k.faults };
 
@@ -167,17 +172,42 @@ impl Keeper for MemoryKeeper {
             return Err(KeeperFault::Failed);
         }
         let line = Text::from_str(self.alloc, line)?;
-        let blobs = changed(self.alloc, self.blobs.as_slice(), add, bytes, remove)?;
-        self.lines.push(line)?;
-        self.blobs = blobs;
+        let blobs = changed(self.alloc, self.tables.blobs(), add, bytes, remove)?;
+        self.tables.append(line, blobs)?;
         Ok(())
+    }
+
+    fn replace(&mut self, base: &[Text], count: u64) -> Result<(), KeeperFault> {
+        if self.fails() {
+            return Err(KeeperFault::Failed);
+        }
+        let base = texts_copy(self.alloc, base)?;
+        self.tables.replace(self.alloc, base, count);
+        Ok(())
+    }
+
+    fn count(&mut self) -> Result<u64, KeeperFault> {
+        if self.fails() {
+            return Err(KeeperFault::Failed);
+        }
+        Ok(self.tables.count())
+    }
+
+    fn base_line(&mut self, at: u64) -> Result<Option<Text>, KeeperFault> {
+        if self.fails() {
+            return Err(KeeperFault::Failed);
+        }
+        match self.tables.base().get(at as usize) {
+            Some(line) => Ok(Some(line.try_copy(self.alloc)?)),
+            None => Ok(None),
+        }
     }
 
     fn line(&mut self, at: u64) -> Result<Option<Text>, KeeperFault> {
         if self.fails() {
             return Err(KeeperFault::Failed);
         }
-        match self.lines.as_slice().get(at as usize) {
+        match self.tables.lines().get(at as usize) {
             Some(line) => Ok(Some(line.try_copy(self.alloc)?)),
             None => Ok(None),
         }
@@ -187,7 +217,7 @@ impl Keeper for MemoryKeeper {
         if self.fails() {
             return Err(KeeperFault::Failed);
         }
-        match self.blobs.as_slice().iter().find(|blob| blob.0 == *digest) {
+        match self.tables.blobs().iter().find(|blob| blob.0 == *digest) {
             Some(blob) => Ok(Some(bytes_copy(self.alloc, blob.1.as_slice())?)),
             None => Ok(None),
         }

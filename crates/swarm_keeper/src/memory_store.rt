@@ -1,6 +1,6 @@
-ghost use Rattle.std.specs.Prelude.{◌≡◌, ◌==◌, ◌≤◌, ◌+◌, ◌-◌, ◌^◌, false, Some, min, MatchBool, IfSome, IfOk, OnErr, option_map};
+ghost use Rattle.std.specs.Prelude.{◌≡◌, ◌==◌, ◌≤◌, ◌+◌, ◌-◌, ◌^◌, false, Some, min, MatchBool, IfSome, IfOk, OnOk, OnErr, option_map};
 ghost use Rattle.sw_base.specs.Faults.{Rose};
-ghost use Rattle.swarm_keeper.specs.Places.{FindsPlace, Replaces, IsTaken, tables_in, has_place};
+ghost use Rattle.swarm_keeper.specs.Places.{FindsPlace, Replaces, IsKept, IsTaken, tables_in, has_place};
 
 use crate::keeper::Keeper;
 use crate::memory_keeper::MemoryKeeper;
@@ -29,7 +29,8 @@ impl Place {
     }
 }
 
-/// A store in memory, which tells all. Calls of it and of its keepers can be made to fail.
+/// A store in memory, which tells all, and holds tables of either version. Calls of it and of its
+/// keepers can be made to fail.
 #[derive(Drop)]
 pub struct MemoryStore {
     alloc: Global,
@@ -67,29 +68,49 @@ fn replace_tables(
     }
 }
 
-/// Adds a place with nothing in it, and gives that nothing.
+/// Adds a place with these tables.
 fn add_place(
     places: &mut Vec<Place>,
     alloc: Global,
     folder: &str,
     pool: &str,
-) -> Result<MemoryTables, AllocError>
-    ensures ok { IfOk result (λ tables. has_place places.old.items folder.now pool.now ≡ false → IsTaken places.old.items places.new.items folder.now pool.now tables) }
+    tables: MemoryTables,
+) -> Result<(), AllocError>
+    ensures ok { OnOk result (has_place places.old.items folder.now pool.now ≡ false → IsKept places.old.items places.new.items folder.now pool.now tables) }
     ensures err { OnErr result (places.new.items ≡ places.old.items) }
 {
     let folder = Text::from_str(alloc, folder)?;
     let pool = Text::from_str(alloc, pool)?;
-    let tables = MemoryTables::new(alloc);
     places.push(Place {
         folder,
         pool,
         tables,
     })?;
-    Ok(MemoryTables::new(alloc))
+    Ok(())
+}
+
+/// Keeps tables at a folder and pool, in place of those that were there.
+fn keep_tables(
+    places: &mut Vec<Place>,
+    alloc: Global,
+    folder: &str,
+    pool: &str,
+    tables: MemoryTables,
+) -> Result<(), AllocError>
+    ensures ok { OnOk result (IsKept places.old.items places.new.items folder.now pool.now tables) }
+    ensures err { OnErr result (places.new.items ≡ places.old.items) }
+{
+    match place_of(places, folder, pool) {
+        Some(at) => {
+            places[at].tables = tables;
+            Ok(())
+        }
+        None => add_place(places, alloc, folder, pool, tables),
+    }
 }
 
 impl MemoryStore {
-    ghost use Rattle.swarm_keeper.specs.Stores.{new_store, with_line};
+    ghost use Rattle.swarm_keeper.specs.Stores.{HasPlace, PlacesStay, new_store, with_line, with_tables};
 
     /// A store that keeps nothing yet. The attaches that fail are those whose number stands in
     /// `attach_fails`; the keeper of the n-th attach that succeeds fails at the calls whose numbers
@@ -122,11 +143,51 @@ impl MemoryStore {
     {
         match replace_tables(&mut self.places, folder, pool, MemoryTables::new(alloc)) {
             Some(tables) => Ok(tables),
-            None => add_place(&mut self.places, alloc, folder, pool),
+            None => {
+                add_place(
+                    &mut self.places,
+                    alloc,
+                    folder,
+                    pool,
+                    MemoryTables::new(alloc),
+                )?;
+                Ok(MemoryTables::new(alloc))
+            }
         }
     }
 
-    /// The lines that are kept of a folder and pool.
+    /// Keeps tables of a folder and pool, in place of those that were there.
+    pub fn keep(&mut self, folder: &str, pool: &str, tables: MemoryTables) -> Result<(), AllocError>
+        ensures kept { OnOk result ((⟦<MemoryStore as Store>⟧.state self.new).kept ≡ option_map (with_tables folder.now pool.now tables) (⟦<MemoryStore as Store>⟧.state self.old).kept) }
+        ensures place { OnOk result (HasPlace (⟦<MemoryStore as Store>⟧.state self.new) folder.now pool.now) }
+        ensures places { OnOk result (PlacesStay (⟦<MemoryStore as Store>⟧.state self.old) (⟦<MemoryStore as Store>⟧.state self.new)) }
+        ensures faults { OnOk result ((⟦<MemoryStore as Store>⟧.state self.new).faults ≡ (⟦<MemoryStore as Store>⟧.state self.old).faults) }
+        ensures stays { OnErr result (⟦<MemoryStore as Store>⟧.state self.new ≡ ⟦<MemoryStore as Store>⟧.state self.old) }
+    {
+        keep_tables(&mut self.places, self.alloc, folder, pool, tables)
+    }
+
+    /// The lines of the base that is kept of a folder and pool.
+    pub fn base_lines(&self, folder: &str, pool: &str) -> &[Text]
+        ensures { IfSome (⟦<MemoryStore as Store>⟧.state self.now).kept (λ kept. result.now ≡ (kept folder.now pool.now).base) }
+    {
+        match place_of(&self.places, folder, pool) {
+            Some(at) => self.places[at].tables.base(),
+            None => &[],
+        }
+    }
+
+    /// How many entries came before the base that is kept of a folder and pool.
+    pub fn count(&self, folder: &str, pool: &str) -> u64
+        ensures { IfSome (⟦<MemoryStore as Store>⟧.state self.now).kept (λ kept. result ≡ (kept folder.now pool.now).count) }
+    {
+        match place_of(&self.places, folder, pool) {
+            Some(at) => self.places[at].tables.count(),
+            None => 0,
+        }
+    }
+
+    /// The lines of the log that are kept of a folder and pool.
     pub fn lines(&self, folder: &str, pool: &str) -> &[Text]
         ensures { IfSome (⟦<MemoryStore as Store>⟧.state self.now).kept (λ kept. result.now ≡ (kept folder.now pool.now).lines) }
     {

@@ -1,14 +1,16 @@
-ghost use Rattle.std.specs.Prelude.{◌≡◌, slice_set};
-ghost use Rattle.swarm_keeper.specs.Tables.{nothing};
+ghost use Rattle.std.specs.Prelude.{◌≡◌, ◌++◌, ◌∷◌, [], OnOk, OnErr, slice_set};
+ghost use Rattle.swarm_keeper.specs.Tables.{nothing, replaced};
 
 use crate::keeper::Digest;
 use dimensions::{Seq, Text};
-use std::alloc::Global;
+use std::alloc::{AllocError, Global};
 use std::marker::Model;
 
-/// The lines of a log and the bytes of blobs, in memory.
+/// The lines of a base and of the log since then, and the bytes of blobs, in memory.
 #[derive(Drop)]
-pub(crate) struct MemoryTables {
+pub struct MemoryTables {
+    base: Vec<Text>,
+    count: u64,
     lines: Vec<Text>,
     blobs: Vec<(Digest, Seq<u8>)>,
 }
@@ -18,37 +20,94 @@ impl Model for MemoryTables {
 
     ghost Value = { Tables };
 
-    ghost view = { λ t. record { lines = t.lines.items; blobs = t.blobs.items } };
+    ghost view = { λ t. record {
+      base = t.base.items;
+      count = t.count;
+      lines = t.lines.items;
+      blobs = t.blobs.items;
+    } };
 }
 
 impl MemoryTables {
-    pub(crate) fn new(alloc: Global) -> MemoryTables
+    pub fn new(alloc: Global) -> MemoryTables
         ensures { result ≡ nothing }
     {
+        MemoryTables::of_version_1(alloc, Vec::new(alloc), Vec::new(alloc))
+    }
+
+    /// Tables of the first version, which have no base.
+    pub fn of_version_1(
+        alloc: Global,
+        lines: Vec<Text>,
+        blobs: Vec<(Digest, Seq<u8>)>,
+    ) -> MemoryTables
+        ensures { result ≡ record nothing { lines = lines.items; blobs = blobs.items } }
+    {
+        MemoryTables::of_version_2(Vec::new(alloc), 0, lines, blobs)
+    }
+
+    /// Tables of the second version, with the lines of a base before which so many entries came.
+    pub fn of_version_2(
+        base: Vec<Text>,
+        count: u64,
+        lines: Vec<Text>,
+        blobs: Vec<(Digest, Seq<u8>)>,
+    ) -> MemoryTables
+        ensures { result ≡ record { base = base.items; count = count; lines = lines.items; blobs = blobs.items } }
+    {
         MemoryTables {
-            lines: Vec::new(alloc),
-            blobs: Vec::new(alloc),
+            base,
+            count,
+            lines,
+            blobs,
         }
     }
 
-    pub(crate) fn from_parts(lines: Vec<Text>, blobs: Vec<(Digest, Seq<u8>)>) -> MemoryTables
-        ensures lines { result.lines ≡ lines.items }
-        ensures blobs { result.blobs ≡ blobs.items }
+    pub(crate) fn base(&self) -> &[Text]
+        ensures { result.now ≡ self.now.base }
     {
-        MemoryTables { lines, blobs }
+        self.base.as_slice()
     }
 
-    pub(crate) fn into_parts(self) -> (Vec<Text>, Vec<(Digest, Seq<u8>)>)
-        ensures lines { result.0.items ≡ self.lines }
-        ensures blobs { result.1.items ≡ self.blobs }
+    pub(crate) fn count(&self) -> u64
+        ensures { result ≡ self.now.count }
     {
-        (self.lines, self.blobs)
+        self.count
     }
 
     pub(crate) fn lines(&self) -> &[Text]
         ensures { result.now ≡ self.now.lines }
     {
         self.lines.as_slice()
+    }
+
+    pub(crate) fn blobs(&self) -> &[(Digest, Seq<u8>)]
+        ensures { result.now ≡ self.now.blobs }
+    {
+        self.blobs.as_slice()
+    }
+
+    /// Adds a line, and takes other blobs.
+    pub(crate) fn append(
+        &mut self,
+        line: Text,
+        blobs: Vec<(Digest, Seq<u8>)>,
+    ) -> Result<(), AllocError>
+        ensures ok { OnOk result (self.new ≡ record self.old { lines = self.old.lines ++ line ∷ []; blobs = blobs.items }) }
+        ensures err { OnErr result (self.new ≡ self.old) }
+    {
+        self.lines.push(line)?;
+        self.blobs = blobs;
+        Ok(())
+    }
+
+    /// Takes the lines of another base and its count, and has no lines of a log then.
+    pub(crate) fn replace(&mut self, alloc: Global, base: Vec<Text>, count: u64)
+        ensures { self.new ≡ replaced base.items count self.old }
+    {
+        self.base = base;
+        self.count = count;
+        self.lines = Vec::new(alloc);
     }
 
     /// Puts a text in the place of a line, where there is one.

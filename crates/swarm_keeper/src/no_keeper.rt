@@ -32,6 +32,18 @@ impl Keeper for NoKeeper {
         Ok(())
     }
 
+    fn replace(&mut self, _base: &[Text], _count: u64) -> Result<(), KeeperFault> {
+        Ok(())
+    }
+
+    fn count(&mut self) -> Result<u64, KeeperFault> {
+        Ok(0)
+    }
+
+    fn base_line(&mut self, _at: u64) -> Result<Option<Text>, KeeperFault> {
+        Ok(None)
+    }
+
     fn line(&mut self, _at: u64) -> Result<Option<Text>, KeeperFault> {
         Ok(None)
     }
