@@ -6,3 +6,5 @@ pub mod Computed
 pub mod Noting
 pub mod Reading
 pub mod ReadBack
+pub mod MachineRows
+pub mod Rising

@@ -1,5 +1,5 @@
 -- The lines of a base in their order: how they are written, and how they are read.
-use Rattle.std.specs.Prelude.{◌≡◌, ℕ, ◌+◌, ◌<◌, ◌==◌, ◌&&◌, nat_lt, Bool, List, [], ◌∷◌, ◌++◌, map, length, Option, Some, None, is_some, is_none, unwrap_or, Result, Ok, Err, if◌then◌else◌, ⊤}
+use Rattle.std.specs.Prelude.{◌≡◌, ℕ, ◌+◌, ◌*◌, ◌^◌, ◌<◌, ◌≤◌, ◌==◌, ◌&&◌, nat_lt, Bool, List, [], ◌∷◌, ◌++◌, map, length, Option, Some, None, is_some, is_none, unwrap_or, Result, Ok, Err, if◌then◌else◌, ⊤}
 use Rattle.std.specs.List.{All}
 use Rattle.std.specs.Option.{option_map_or}
 use Rattle.dimensions.specs.declared.text.Text.{Text}
@@ -17,7 +17,7 @@ use Rattle.base_lines.specs.declared.base_row.BaseRow.{BaseRow}
 use Rattle.base_lines.specs.declared.base_row.BaseRow.TheVariants as row
 use Rattle.base_lines.specs.declared.base_rows.BaseRows.{BaseRows}
 use Rattle.base_lines.specs.Computed.{with_run}
-use Rattle.base_lines.specs.Lines.{row_line, row_of_line}
+use Rattle.base_lines.specs.Lines.{row_line, row_of_line, ReadsBack}
 
 -- ---- written
 
@@ -36,6 +36,11 @@ blob_line blob = row_line (row.Blob blob)
 -- the pool's line, then those of tasks, of bots and of blobs
 abbrev pub base_lines : PoolState → List Text
 base_lines s = row_line (row.Pool (pool_of s)) ∷ (map task_line s.tasks ++ (map bot_line s.bots ++ map blob_line s.blobs))
+
+-- the lines go on by those of the rows, of which the rows are read
+pub record AddsLines {R : Type 0} (told : R → BaseRow) (rows : List R) (old new : List Text) : Type 0 where
+  pub lines : new ≡ old ++ map (λ x. row_line (told x)) rows
+  pub read_back : All (λ x. ReadsBack (told x)) rows
 
 -- ---- read
 
@@ -74,10 +79,28 @@ read_from place rows (text ∷ texts) = option_map_or (λ more. read_from (place
 abbrev pub read_lines : List Text → Result BaseRows ℕ
 read_lines texts = read_from 0 nothing_read texts
 
--- what holds of rows that were read: bots have the numbers of their places, and no task as yet
+-- the pool's line, where it was read
+abbrev pub pool_lines : Option PoolLine → ℕ
+pool_lines None = 0
+pool_lines (Some pool) = 1
+
+-- how many lines told the rows
+abbrev pub lines_in : BaseRows → ℕ
+lines_in rows = pool_lines rows.pool + (length rows.tasks + (length rows.bots + length rows.blobs))
+
+-- What holds of rows that were read: bots have the numbers of their places, and no task as yet. A line has a number
+-- below 2^32, and there are no more blobs than the newest has as its number.
 pub record AreRead (rows : BaseRows) : Type 0 where
   pub numbered : AreNumbered no_of_bot 1 rows.bots
   pub idle : All (λ bot. bot.task ≡ None) rows.bots
+  pub few_tasks : length rows.tasks < 2 ^ 32
+  pub few_bots : length rows.bots < 2 ^ 32
+  pub few_blobs : length rows.blobs ≤ rows.newest
+  pub newest : rows.newest < 2 ^ 32
+
+-- so many lines tell rows at most
+abbrev pub most_lines : ℕ
+most_lines = 3 * 2 ^ 32
 
 abbrev pub no_pool : PoolLine
 no_pool = record { last = 0; placed = 0 }

@@ -9,7 +9,7 @@ ghost use Rattle.base_lines.specs.Attempts.{attempt_data, attempt_in, HoldsAttem
 use dimensions::{Seq, Text};
 use json_values::with;
 use line_parts::{LineFault, list_values, read_field, value_at, with_field};
-use reserved_vec::{ReservedVec, SpareBuffer};
+use reserved_vec::ReservedVec;
 use serde_json::{Map, Value};
 use std::alloc::{AllocError, Global};
 use swarm_model::{Attempt, Chunk, Last, MaybeRetried, Retried, RetriedRoom};
@@ -79,18 +79,6 @@ fn length_of(chunks: &[Chunk]) -> Result<u32, LineFault>
     Ok(length)
 }
 
-fn kept_chunks(alloc: Global, chunks: &[Chunk]) -> Result<ReservedVec<Chunk>, AllocError>
-    ensures { IfOk result (λ kept. kept ≡ chunks.now) }
-{
-    let mut kept = ReservedVec::new(alloc);
-    let mut spare = SpareBuffer::new(alloc);
-    for chunk in chunks {
-        kept.make_room(&mut spare)?;
-        kept.push_reserved(*chunk, &mut spare);
-    }
-    Ok(kept)
-}
-
 #[tactic(auto, unfolding(crate::specs::Attempts::attempt_in))]
 fn read_attempt(alloc: Global, value: &Value) -> Result<Attempt, LineFault>
     ensures { Finds result (attempt_in (view value.now)) }
@@ -104,7 +92,7 @@ fn read_attempt(alloc: Global, value: &Value) -> Result<Attempt, LineFault>
     let last_chunk = read_field::<Option<Chunk>>(alloc, value, "tail")?;
     let try_no = read_field::<u32>(alloc, value, "try")?;
     let length = length_of(chunks.as_slice())?;
-    let chunks = kept_chunks(alloc, chunks.as_slice())?;
+    let chunks = ReservedVec::from_slice(alloc, chunks.as_slice())?;
     Ok(Attempt {
         try_no,
         bot,

@@ -1,40 +1,43 @@
 //! All lines of a base.
-ghost use Rattle.std.specs.Prelude.{◌≡◌, IfOk, OnOk, map};
-ghost use Rattle.std.specs.List.{All};
-ghost use Rattle.base_lines.specs.Lines.{row_line, ReadsBack};
-ghost use Rattle.base_lines.specs.Reading.{base_lines, TellThePool};
+ghost use Rattle.std.specs.Prelude.{◌≡◌, IfOk, OnOk};
+ghost use Rattle.base_lines.specs.Reading.{base_lines, AddsLines, TellThePool};
 
-use crate::{BaseLine, PoolLine, line_of};
+use crate::machine_row::MachineRow;
+use crate::{PoolLine, line_of};
 use dimensions::Text;
 use std::alloc::{AllocError, Global};
-use swarm_model::PoolState;
+use swarm_model::{BlobRow, BotRow, Machine, TaskRow};
 
-fn lines_of<R: BaseLine>(alloc: Global, rows: &[R]) -> Result<Vec<Text>, AllocError>
-    ensures lines { IfOk result (λ lines. lines.items ≡ map (λ row. row_line (R.told row)) rows.now) }
-    ensures read_back { OnOk result (All (λ row. ReadsBack (R.told row)) rows.now) }
+/// Adds the lines of all rows of a kind.
+fn add_lines<R: MachineRow, M: Machine>(
+    alloc: Global,
+    machine: &M,
+    lines: &mut Vec<Text>,
+) -> Result<(), AllocError>
+    ensures { OnOk result (AddsLines R.told (R.rows (M.kept machine.now).pool) lines.old.items lines.new.items) }
 {
-    let mut lines = Vec::new(alloc);
-    for row in rows {
-        lines.push(line_of(alloc, row)?)?;
+    for place in 0..R::most(machine) {
+        match R::row_at(machine, place) {
+            Some(row) => lines.push(line_of(alloc, row)?)?,
+            None => return Ok(()),
+        }
     }
-    Ok(lines)
+    Ok(())
 }
 
-/// The lines of a base: that of the pool, and then those of its tasks, of its bots and of its blobs.
-pub fn write_base(alloc: Global, base: &PoolState) -> Result<Vec<Text>, AllocError>
-    ensures lines { IfOk result (λ lines. lines.items ≡ base_lines base.now) }
-    ensures read_back { IfOk result (λ lines. TellThePool base.now lines.items) }
+/// The lines of a machine's rows: that of the pool, and then those of its tasks, of its bots and of
+/// its blobs.
+pub fn write_base<M: Machine>(alloc: Global, machine: &M) -> Result<Vec<Text>, AllocError>
+    ensures lines { IfOk result (λ lines. lines.items ≡ base_lines (M.kept machine.now).pool) }
+    ensures read_back { IfOk result (λ lines. TellThePool (M.kept machine.now).pool lines.items) }
 {
     let pool = PoolLine {
-        last: base.last,
-        placed: base.placed,
+        last: machine.last(),
+        placed: machine.placed(),
     };
-    let mut blobs = lines_of(alloc, base.blobs.as_slice())?;
-    let mut bots = lines_of(alloc, base.bots.as_slice())?;
-    bots.append(&mut blobs)?;
-    let mut tasks = lines_of(alloc, base.tasks.as_slice())?;
-    tasks.append(&mut bots)?;
     let mut lines = vec![in alloc; line_of(alloc, &pool)?]?;
-    lines.append(&mut tasks)?;
+    add_lines::<TaskRow, M>(alloc, machine, &mut lines)?;
+    add_lines::<BotRow, M>(alloc, machine, &mut lines)?;
+    add_lines::<BlobRow, M>(alloc, machine, &mut lines)?;
     Ok(lines)
 }

@@ -1,8 +1,8 @@
 //! The rows of a base, read line by line.
-ghost use Rattle.std.specs.Prelude.{◌≡◌, Some, OnErr};
+ghost use Rattle.std.specs.Prelude.{◌≡◌, ◌+◌, ◌≤◌, Some, OnOk, OnErr};
 ghost use Rattle.swarm_model.specs.Effects.{idle_bot};
 ghost use Rattle.line_parts.specs.Finding.{FindsValue};
-ghost use Rattle.base_lines.specs.Reading.{nothing_read, comes_next, with_row, take_row, with_line, AreRead, base_of};
+ghost use Rattle.base_lines.specs.Reading.{nothing_read, comes_next, with_row, take_row, with_line, AreRead, lines_in, most_lines, base_of};
 
 use crate::line::read_line;
 use crate::runs::give_runs;
@@ -46,6 +46,21 @@ impl BaseRows {
             blobs: Seq::new(alloc),
             newest: 0,
         }
+    }
+
+    /// How many lines told the rows.
+    pub fn line_count(&self) -> u64
+        requires { AreRead self.now }
+        ensures { result ≡ lines_in self.now }
+    {
+        let pool_lines = match self.pool {
+            None => 0,
+            Some(_) => 1,
+        };
+        let tasks = self.tasks.as_slice().len() as u64;
+        let bots = self.bots.as_slice().len() as u64;
+        let blobs = self.blobs.as_slice().len() as u64;
+        pool_lines + (tasks + (bots + blobs))
     }
 
     fn is_next(&self, row: &BaseRow) -> bool
@@ -104,6 +119,8 @@ impl BaseRows {
         ensures told { FindsValue (λ _. self.new) result (with_line self.old text.now) }
         ensures stays { OnErr result (self.new ≡ self.old) }
         ensures read { AreRead self.old → AreRead self.new }
+        ensures counted { OnOk result (lines_in self.new ≡ lines_in self.old + 1) }
+        ensures few { AreRead self.old → lines_in self.new ≤ most_lines }
     {
         let row = read_line(alloc, text)?;
         self.add_row(row)

@@ -19,14 +19,14 @@
 //! bot the one that runs on it, and a blob has the units that its size takes. A line whose chunks have
 //! 2^32 bytes or more is that of no row.
 //!
-//! [`write_base`] writes all lines of a pool's rows, and [`line_of`] the line of one row. [`BaseRows`]
+//! [`write_base`] writes all lines of a machine's rows, and [`line_of`] the line of one row. [`BaseRows`]
 //! reads them, line by line: [`BaseRows::add_line`] takes the line of the row that comes next, and
 //! refuses any other text. So the first line that is none of its place is the first that is refused, and
 //! of lines that were written the rows are read. Whether a pool may have such rows is not asked.
 //!
 //! `specs/Rows.antt` and `specs/Attempts.antt` have the value of each row, `specs/Lines.antt` its line,
 //! and `specs/Reading.antt` the order of the lines. The crate stands on `line_parts`, `row_changes`,
-//! `swarm_model` and `blob_rows`.
+//! `pool_laws`, `swarm_model` and `blob_rows`.
 #![tactic(auto)]
 
 mod attempts;
@@ -35,6 +35,7 @@ mod base_line;
 mod base_row;
 mod base_rows;
 mod line;
+mod machine_row;
 mod rows;
 mod runs;
 

@@ -2,7 +2,7 @@
 ghost use Rattle.std.specs.Prelude.{◌≡◌, IfOk, OnOk};
 ghost use Rattle.serde_json.specs.View.{view};
 ghost use Rattle.line_parts.specs.Finding.{Finds};
-ghost use Rattle.base_lines.specs.Lines.{row_line, row_in, row_of_kind, row_of_line, if_line, ReadsBack, LinesAreDistinct};
+ghost use Rattle.base_lines.specs.Lines.{row_line, HoldsRow, row_in, row_of_kind, row_of_line, if_line, ReadsBack, LinesAreDistinct};
 
 use crate::rows::{read_blob, read_bot, read_pool, read_task};
 use crate::{BaseLine, BaseRow};
@@ -16,6 +16,7 @@ use std::alloc::{AllocError, Global};
 pub fn line_of<R: BaseLine>(alloc: Global, row: &R) -> Result<Text, AllocError>
     ensures line { IfOk result (λ text. text ≡ row_line (R.told row.now)) }
     ensures reads_back { OnOk result (ReadsBack (R.told row.now)) }
+    ensures holds { OnOk result (HoldsRow (R.told row.now)) }
 {
     let value = row.to_value(alloc)?;
     let text = value.to_string(alloc)?;
@@ -57,7 +58,8 @@ fn read_row(alloc: Global, value: &Value) -> Result<BaseRow, LineFault>
 
 /// The row, where the text is its line.
 fn if_line(alloc: Global, row: BaseRow, text: &str) -> Result<BaseRow, LineFault>
-    ensures { Finds result (if_line text.now row) }
+    ensures row { Finds result (if_line text.now row) }
+    ensures holds { IfOk result HoldsRow }
 {
     let line = line_of(alloc, &row)?;
     if line.as_str() == text {
@@ -75,7 +77,8 @@ fn if_line(alloc: Global, row: BaseRow, text: &str) -> Result<BaseRow, LineFault
 /// [`LineFault::Memory`].
 #[tactic(auto, unfolding(crate::specs::Lines::row_of_line))]
 pub fn read_line(alloc: Global, text: &str) -> Result<BaseRow, LineFault>
-    ensures { Finds result (row_of_line text.now) }
+    ensures row { Finds result (row_of_line text.now) }
+    ensures holds { IfOk result HoldsRow }
 {
     let value = value_of(alloc, text)?;
     let row = read_row(alloc, &value)?;

@@ -8,7 +8,7 @@ ghost use Rattle.base_lines.specs.Computed.{with_run};
 ghost use Rattle.base_lines.specs.Runs.{note_run};
 
 use row_changes::{Change, change_row};
-use swarm_model::{BotRow, TaskRow, TaskState};
+use swarm_model::{BotRow, TaskRow};
 
 /// A task for a bot that has none.
 #[derive(Clone, Copy)]
@@ -31,24 +31,11 @@ impl Change<BotRow> for GiveTask {
     }
 }
 
-/// The bot that runs a task.
-fn runner(task: &TaskRow) -> Option<u32>
-    ensures { result ≡ runner task.now }
-{
-    if !task.has_state(TaskState::Running) {
-        return None;
-    }
-    match &task.attempt {
-        None => None,
-        Some(attempt) => Some(attempt.bot),
-    }
-}
-
 fn give_run(bots: &mut Vec<BotRow>, task: &TaskRow)
     requires { AreNumbered no_of_bot 1 bots.old.items }
     ensures { bots.new.items ≡ note_run (runner task.now) task.now.no bots.old.items }
 {
-    match runner(task) {
+    match task.runner() {
         None => {}
         Some(bot) => change_row(bots, bot, GiveTask { task: task.no }),
     }

@@ -1,4 +1,6 @@
 pub mod Deciding
+pub mod Stops
 pub mod Refusing
+pub mod Bases
 pub mod Replays
 pub mod Loads

@@ -1,17 +1,17 @@
--- The lines that were taken up so far.
-use Rattle.std.proofs.Common.{◌≡◌, ℕ, List, [], ◌∷◌, ◌++◌, length, map, take, Option, Some, None, IfSome, refl, sym, ap₂, ◌∙◌, subst}
+-- The lines that were taken up so far, behind the base.
+use Rattle.std.proofs.Common.{◌≡◌, ℕ, inl, List, [], ◌∷◌, ◌++◌, length, map, take, Option, Some, None, IfSome, refl, sym, ap₂, ◌∙◌, subst}
 use Rattle.std.specs.Prelude.{slice_get}
 use Rattle.std.proofs.lemmas.Option.{none-some, same_Some}
 use Rattle.swarm_keeper.specs.Tables.{Tables}
 use Rattle.swarm_model.specs.declared.entry.Entry.{Entry}
 use Rattle.swarm_model.specs.declared.pool_settings.PoolSettings.{PoolSettings}
-use Rattle.swarm_model.specs.Effects.{opening}
-use Rattle.swarm_model.specs.History.{IsLegal}
-use Rattle.swarm_model.specs.MachineState.{MachineState, IsHistory}
-use Rattle.swarm_model.proofs.Histories.{legal_from_opening}
+use Rattle.swarm_model.specs.Bases.{Base}
+use Rattle.swarm_model.specs.MachineState.{MachineState}
 use Rattle.entry_lines.specs.Lines.{entry_of_line}
-use Rattle.pool_loading.specs.Records.{AreLinesOf, IsFirstRefused, IsRefused}
-use Rattle.pool_loading.specs.Lines.{AddsLine, AreAll, AreFirst, HoldsNothing, IsReplay, Refuses}
+use Rattle.pool_loading.specs.declared.store_part.StorePart.{StorePart}
+use Rattle.pool_loading.specs.declared.store_part.StorePart.TheVariants as part
+use Rattle.pool_loading.specs.Records.{AreLinesOf, AreRefusedAt, IsFirstRefused}
+use Rattle.pool_loading.specs.Lines.{AddsLine, AreAll, AreFirst, BeginsFrom, IsRefusedOf, IsReplay, Refuses}
 
 -- one more line is read
 more : (lines : List (List ℕ)) (log : List Entry) (line : List ℕ) (e : Entry)
@@ -46,21 +46,9 @@ module _ (settings : PoolSettings) (old new : MachineState) (line : List ℕ) (a
     history = adds.history;
     settings_are = adds.settings ∙ r.settings_are;
     nothing = adds.nothing;
+    begins = subst (λ (start : Base). IfSome tables (BeginsFrom settings start)) (sym adds.start) r.begins;
     lines = more_lines tables r.lines there;
   }
-
--- nothing is taken up yet
-pub replay_none : (settings : PoolSettings) (tables : Option Tables) (kept : MachineState) → IsHistory kept → kept.pool.settings ≡ settings → HoldsNothing kept → kept.log ≡ [] → IsReplay settings tables kept
-replay_none settings tables kept history same none new = record {
-  history = history;
-  settings_are = same;
-  nothing = none;
-  lines = none_first tables;
-}
-  where
-    none_first : (o : Option Tables) → IfSome o (AreFirst kept.log)
-    none_first None = tt
-    none_first (Some t) = rw new refl
 
 -- all is taken up
 pub replay_all : (settings : PoolSettings) (tables : Option Tables) (kept : MachineState) → IsReplay settings tables kept
@@ -68,16 +56,19 @@ pub replay_all : (settings : PoolSettings) (tables : Option Tables) (kept : Mach
 replay_all settings None kept r none = tt
 replay_all settings (Some t) kept r none = all_read t.lines kept.log r.lines (sym none)
 
+first_refused : (settings : PoolSettings) (t : Tables) (kept : MachineState) (line : List ℕ) → IsReplay settings (Some t) kept
+    → Some line ≡ slice_get t.lines (length kept.log) → Refuses line kept → AreRefusedAt settings t part.Lines (length kept.log)
+first_refused settings t kept line r there refuses =
+    let first : IsFirstRefused kept.start.rows t.lines (length kept.log) =
+    record { log = kept.log; read = r.lines; legal = r.history.legal; line = line; there = sym there; refused = refuses } in
+    (kept.start.rows, r.begins.base, inl first)
+
 -- the next line is refused
-pub replay_refused : (settings : PoolSettings) (tables : Option Tables) (kept : MachineState) (line : List ℕ) (at : ℕ) → IsReplay settings tables kept
-    → at ≡ length kept.log
-    → IfSome tables (λ t. Some line ≡ slice_get t.lines at) → Refuses line kept → IfSome tables (λ t. IsFirstRefused settings t.lines at)
-replay_refused settings None kept line at r is there refuses = tt
-replay_refused settings (Some t) kept line at r is there refuses = record {
-  log = kept.log;
-  read = rw is r.lines;
-  legal = subst (λ (x : PoolSettings). IsLegal (opening x) kept.log) r.settings_are (legal_from_opening kept r.history);
-  line = line;
-  there = sym there;
-  refused = subst (λ (x : PoolSettings). IsRefused x kept.log line) r.settings_are refuses;
-}
+pub replay_refused : (settings : PoolSettings) (tables : Option Tables) (kept : MachineState) (line : List ℕ) (which : StorePart) (place at : ℕ) → IsReplay settings tables kept
+    → place ≡ length kept.log → IfSome tables (λ t. Some line ≡ slice_get t.lines place)
+    → (which ≡ part.Lines) × (at ≡ place) × Refuses line kept → IsRefusedOf settings tables which at
+replay_refused settings None kept line which place at r is there h = tt
+replay_refused settings (Some t) kept line which place at r is there h =
+    let counted : at ≡ length kept.log = h.1 ∙ is in
+    let here : Some line ≡ slice_get t.lines (length kept.log) = subst (λ (n : ℕ). Some line ≡ slice_get t.lines n) is there in
+    rw (h.0, counted) (first_refused settings t kept line r here h.2)

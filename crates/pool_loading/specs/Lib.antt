@@ -1,4 +1,5 @@
 pub mod Records
 pub mod Asking
+pub mod Bases
 pub mod Lines
 pub mod Filling

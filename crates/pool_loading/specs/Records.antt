@@ -1,23 +1,54 @@
 -- Kept records, and the machine that they are loaded into.
-use Rattle.std.specs.Prelude.{◌≡◌, ◌⊎◌, ℕ, List, [], ◌∷◌, ◌++◌, length, map, take, slice_get, Option, Some, IfSome, IsSomeAnd, IsTrue, is_some}
+use Rattle.std.specs.Prelude.{◌≡◌, ◌⊎◌, ℕ, List, [], ◌∷◌, ◌++◌, length, map, take, slice_get, Option, Some, None, IfSome, IsSomeAnd, IsTrue, is_some, Result, Ok, Err}
+use Rattle.dimensions.specs.declared.text.Text.{Text}
 use Rattle.blob_rows.specs.declared.filled.Filled.TheVariants.{Done}
 use Rattle.blob_rows.specs.declared.blob_row.BlobRow.{BlobRow}
 use Rattle.swarm_keeper.specs.Tables.{Tables, bytes_of}
 use Rattle.swarm_model.specs.declared.pool_settings.PoolSettings.{PoolSettings}
 use Rattle.swarm_model.specs.declared.pool_state.PoolState.{PoolState}
 use Rattle.swarm_model.specs.declared.entry.Entry.{Entry}
+use Rattle.swarm_model.specs.BaseRules.{IsBase}
 use Rattle.swarm_model.specs.Bytes.{filled}
-use Rattle.swarm_model.specs.Effects.{opening}
 use Rattle.swarm_model.specs.History.{replay, IsLegal}
 use Rattle.swarm_model.specs.MachineState.{MachineState, IsHistory, AreHeld}
 use Rattle.entry_lines.specs.Lines.{entry_of_line}
+use Rattle.base_lines.specs.declared.base_rows.BaseRows.{BaseRows}
+use Rattle.base_lines.specs.Reading.{read_lines, base_of}
+use Rattle.pool_loading.specs.declared.store_part.StorePart.{StorePart}
+use Rattle.pool_loading.specs.declared.store_part.StorePart.TheVariants as part
+
+-- ---- where the log begins
+
+-- as rows of a pool, where each line was read
+abbrev pub rows_told : PoolSettings → Result BaseRows ℕ → Option PoolState
+rows_told settings (Ok rows) = Some (base_of settings rows)
+rows_told settings (Err at) = None
+
+-- the rows that the lines of a base tell, of a pool with these settings; no lines tell a pool without rows
+abbrev pub base_in : PoolSettings → List Text → Option PoolState
+base_in settings lines = rows_told settings (read_lines lines)
+
+-- the rows that are told are those from which a pool of these settings may open, after so many entries
+pub record HasBase (settings : PoolSettings) (t : Tables) (base : PoolState) : Type 0 where
+  pub told : base_in settings t.base ≡ Some base
+  pub is_base : IsBase settings t.count base
+
+-- they are not
+pub record HasNoBase (settings : PoolSettings) (t : Tables) : Type 0 where
+  pub rows : PoolState
+  pub told : base_in settings t.base ≡ Some rows
+  pub no_base : IsBase settings t.count rows → ⊥
+
+-- ---- the log since
 
 -- the lines are those of the log's entries, in order
 abbrev pub AreLinesOf : List (List ℕ) → List Entry → Type 0
 AreLinesOf lines log = map entry_of_line lines ≡ map Some log
 
--- the records are those of a machine: its lines, and the bytes of its blobs
+-- the records are those of a machine: those of where its log begins, its lines, and the bytes of its blobs
 pub record AreRecords (kept : MachineState) (t : Tables) : Type 0 where
+  pub base : base_in kept.pool.settings t.base ≡ Some kept.start.rows
+  pub count : t.count ≡ kept.start.count
   pub lines : AreLinesOf t.lines kept.log
   pub blobs : (digest : List ℕ) → IsTrue (is_some (kept.held digest)) → bytes_of t.blobs digest ≡ kept.held digest
 
@@ -29,32 +60,38 @@ pub record IsLoaded (settings : PoolSettings) (tables : Option Tables) (kept : M
   pub records : IfSome tables (AreRecords kept)
 
 -- the line is of no entry that is legal at the end of the log
-abbrev pub IsRefused : PoolSettings → List Entry → List ℕ → Type 0
-IsRefused settings log line = (entry : Entry) → entry_of_line line ≡ Some entry → IsLegal (opening settings) (log ++ entry ∷ []) → ⊥
+abbrev pub IsRefused : PoolState → List Entry → List ℕ → Type 0
+IsRefused base log line = (entry : Entry) → entry_of_line line ≡ Some entry → IsLegal base (log ++ entry ∷ []) → ⊥
 
 -- the lines before are those of a legal log, and the line at this place is of no entry that is legal there
-pub record IsFirstRefused (settings : PoolSettings) (lines : List (List ℕ)) (at : ℕ) : Type 0 where
+pub record IsFirstRefused (base : PoolState) (lines : List (List ℕ)) (at : ℕ) : Type 0 where
   pub log : List Entry
   pub read : AreLinesOf (take at lines) log
-  pub legal : IsLegal (opening settings) log
+  pub legal : IsLegal base log
   pub line : List ℕ
   pub there : slice_get lines at ≡ Some line
-  pub refused : IsRefused settings log line
+  pub refused : IsRefused base log line
 
 -- bytes are kept under the digest, and they are those of a blob of the pool
 abbrev pub HasBytes : Tables → PoolState → List ℕ → Type 0
 HasBytes t s digest = IsSomeAnd (bytes_of t.blobs digest) (λ bytes. filled s digest bytes ≡ Done)
 
 -- all lines are those of a legal log, and some blob that it leaves has not its bytes
-pub record LacksBytes (settings : PoolSettings) (t : Tables) : Type 0 where
+pub record LacksBytes (base : PoolState) (t : Tables) : Type 0 where
   pub log : List Entry
   pub read : AreLinesOf t.lines log
-  pub legal : IsLegal (opening settings) log
+  pub legal : IsLegal base log
   pub place : ℕ
   pub row : BlobRow
-  pub there : slice_get (replay (opening settings) log).blobs place ≡ Some row
-  pub without : HasBytes t (replay (opening settings) log) row.digest → ⊥
+  pub there : slice_get (replay base log).blobs place ≡ Some row
+  pub without : HasBytes t (replay base log) row.digest → ⊥
 
--- the first line that is refused is at this place; or none is, there are so many, and a blob lacks its bytes
-abbrev pub AreRefusedAt : PoolSettings → Tables → ℕ → Type 0
-AreRefusedAt settings t at = IsFirstRefused settings t.lines at ⊎ ((at ≡ length t.lines) × LacksBytes settings t)
+-- ---- which records are refused
+
+-- The first line of the base that is none of its place is at this place; or none is, there are so many, and what they
+-- tell is no base. Where they tell one, the first line of the log that is refused is at this place; or none is, there
+-- are so many, and a blob lacks its bytes.
+abbrev pub AreRefusedAt : PoolSettings → Tables → StorePart → ℕ → Type 0
+AreRefusedAt settings t part.Base at = (read_lines t.base ≡ Err at) ⊎ ((at ≡ length t.base) × HasNoBase settings t)
+AreRefusedAt settings t part.Lines at =
+    (base : PoolState) × HasBase settings t base × (IsFirstRefused base t.lines at ⊎ ((at ≡ length t.lines) × LacksBytes base t))

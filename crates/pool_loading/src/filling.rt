@@ -5,9 +5,11 @@ ghost use Rattle.sw_base.specs.Faults.{Rose};
 ghost use Rattle.swarm_keeper.specs.Tables.{bytes_of};
 ghost use Rattle.swarm_model.specs.Bytes.{filled, with_bytes};
 ghost use Rattle.swarm_model.specs.MachineState.{AreHeld};
+ghost use Rattle.pool_loading.specs.declared.store_part.StorePart.{StorePart};
 ghost use Rattle.pool_loading.specs.Records.{HasBytes};
 ghost use Rattle.pool_loading.specs.Filling.{KeepsLog, HoldsKept, HoldsMore, IsFilledTo, LacksBlob};
 
+use crate::StorePart;
 use crate::loading::LoadStop;
 use crate::replaying::line_count;
 use blob_rows::Filled;
@@ -24,7 +26,7 @@ fn bytes_at<K: Keeper>(keeper: &mut K, digest: &Digest) -> Result<Option<Seq<u8>
     ensures stays { K.tables keeper.new ≡ K.tables keeper.old }
     ensures grows { K.faults keeper.old ≤ K.faults keeper.new }
     ensures failed { IsErrOf result LoadStop.Failed → Rose (K.faults keeper.old) (K.faults keeper.new) }
-    ensures not_refused { IfErr result (λ stop. (at : ℕ) → stop ≢ LoadStop.Refused at) }
+    ensures not_refused { IfErr result (λ stop. (part : StorePart) (at : ℕ) → stop ≢ LoadStop.Refused part at) }
 {
     match keeper.blob(digest) {
         Ok(bytes) => Ok(bytes),
@@ -57,7 +59,7 @@ fn fill_one<M: Machine, K: Keeper>(
     ensures stays { K.tables keeper.new ≡ K.tables keeper.old }
     ensures grows { K.faults keeper.old ≤ K.faults keeper.new }
     ensures failed { IsErrOf result LoadStop.Failed → Rose (K.faults keeper.old) (K.faults keeper.new) }
-    ensures not_refused { IfErr result (λ stop. (at : ℕ) → stop ≢ LoadStop.Refused at) }
+    ensures not_refused { IfErr result (λ stop. (part : StorePart) (at : ℕ) → stop ≢ LoadStop.Refused part at) }
 {
     let bytes = bytes_at(keeper, digest)?;
     Ok(is_filled(machine, digest, &bytes))
@@ -85,7 +87,7 @@ fn fill_next<M: Machine, K: Keeper>(
     ensures over { IfOk result (λ more. more ≡ false → IsFilledTo (K.tables keeper.old) at (M.kept machine.new)) }
     ensures all { IfOk result (λ more. more ≡ false → length (M.kept machine.old).pool.blobs ≤ at) }
     ensures end { slice_get (M.kept machine.old).pool.blobs at ≡ None → result ≡ Ok false }
-    ensures refused { IfErr result (λ stop. (place : ℕ) → stop ≡ LoadStop.Refused place → (place ≡ length (M.kept machine.old).log) × IfSome (K.tables keeper.old) (λ t. LacksBlob t (M.kept machine.old).pool)) }
+    ensures refused { IfErr result (λ stop. (part : StorePart) (place : ℕ) → stop ≡ LoadStop.Refused part place → (part ≡ StorePart.Lines) × (place ≡ length (M.kept machine.old).log) × IfSome (K.tables keeper.old) (λ t. LacksBlob t (M.kept machine.old).pool)) }
     ensures failed { IsErrOf result LoadStop.Failed → Rose (K.faults keeper.old) (K.faults keeper.new) }
     ensures stays { K.tables keeper.new ≡ K.tables keeper.old }
     ensures grows { K.faults keeper.old ≤ K.faults keeper.new }
@@ -95,6 +97,7 @@ fn fill_next<M: Machine, K: Keeper>(
     };
     if !fill_one(machine, keeper, &digest)? {
         return Err(LoadStop::Refused {
+            part: StorePart::Lines,
             at: line_count(machine),
         });
     }
@@ -113,7 +116,7 @@ pub(crate) fn fill_blobs<M: Machine, K: Keeper>(
     ensures held { OnOk result (AreHeld (M.kept machine.new)) }
     ensures kept { OnOk result (IfSome (K.tables keeper.old) (HoldsKept (M.kept machine.new).held)) }
     ensures none { (M.kept machine.old).pool.blobs ≡ [] → result ≡ Ok tt }
-    ensures refused { IfErr result (λ stop. (at : ℕ) → stop ≡ LoadStop.Refused at → (at ≡ length (M.kept machine.old).log) × IfSome (K.tables keeper.old) (λ t. LacksBlob t (M.kept machine.old).pool)) }
+    ensures refused { IfErr result (λ stop. (part : StorePart) (at : ℕ) → stop ≡ LoadStop.Refused part at → (part ≡ StorePart.Lines) × (at ≡ length (M.kept machine.old).log) × IfSome (K.tables keeper.old) (λ t. LacksBlob t (M.kept machine.old).pool)) }
     ensures failed { IsErrOf result LoadStop.Failed → Rose (K.faults keeper.old) (K.faults keeper.new) }
     ensures stays { K.tables keeper.new ≡ K.tables keeper.old }
     ensures grows { K.faults keeper.old ≤ K.faults keeper.new }

@@ -7,6 +7,7 @@ abbrev pub invariant-loop-more : goal.invariant-loop-more
 invariant-loop-more g l =
     record {
       replay : IsReplay l.settings (g.K.Keeper.tables l.initial.keeper) (g.M.Machine.kept l.machine);
+      start : (g.M.Machine.kept l.machine).start ≡ (g.M.Machine.kept l.initial.machine).start;
       all : l.more ≡ false → AreAll (g.K.Keeper.tables l.initial.keeper) (g.M.Machine.kept l.machine).log;
       none : IsTrue g.K.Keeper.SURE → (g.M.Machine.kept l.machine).log ≡ [];
       stays : g.K.Keeper.tables l.keeper ≡ g.K.Keeper.tables l.initial.keeper;
@@ -14,4 +15,4 @@ invariant-loop-more g l =
     }
 
 abbrev pub decreases-loop-more : goal.decreases-loop-more
-decreases-loop-more g l = ((g.M.Machine.kept l.machine).pool.settings.most_entries - length (g.M.Machine.kept l.machine).log) + cond l.more 1 0
+decreases-loop-more g l = ((g.M.Machine.kept l.machine).start.rows.settings.most_entries - length (g.M.Machine.kept l.machine).log) + cond l.more 1 0
