@@ -11,7 +11,8 @@ use Rattle.swarm_model.specs.declared.reply.Part.{Part}
 use Rattle.swarm_model.specs.declared.reply.Reply.{Reply}
 use Rattle.swarm_model.specs.declared.reply.Reply.TheVariants as reply
 use Rattle.swarm_model.specs.declared.rule.Rule.{Rule}
-use Rattle.swarm_model.specs.Bases.{Base, empty_base, front}
+use Rattle.swarm_model.specs.BaseRules.{IsBase}
+use Rattle.swarm_model.specs.Bases.{Base, front}
 use Rattle.swarm_model.specs.Finding.{blob_of}
 use Rattle.swarm_model.specs.History.{replay}
 use Rattle.swarm_model.specs.Points.{Call, Growth, IsPoint, IsStopped}
@@ -117,11 +118,11 @@ pub record IsCall (old new : DoorState) (place : ℕ) (call : Call) (result : Re
   pub keeper : CountsKeeper result old.faults new.faults
   pub calls : new.calls ≤ old.calls + 1
 
--- a door of these settings that has seen these logs, to which nothing led, writes alone, and was not called
+-- a door of these settings that has seen these logs, each of which begins from a base of its pool, writes alone, and was not called
 pub record IsFreshDoor (settings : Settings) (logs : Logs) (door : DoorState) : Type 0 where
   pub settings_are : door.settings ≡ settings
   pub seen : (p : ℕ) → door.seen p ≡ logs p
-  pub starts : (p : ℕ) → IfSome (slice_get settings.pools p) (λ pool. door.writer.starts p ≡ empty_base pool)
+  pub starts : (p : ℕ) → IfSome (slice_get settings.pools p) (λ pool. IsBase pool (door.writer.starts p).count (door.writer.starts p).rows)
   pub numbers : (p : ℕ) → door.writer.numbers p ≡ 0
   pub alone : IsTrue door.writer.alone
   pub calls : door.calls ≡ 0

@@ -4,6 +4,7 @@ use Rattle.swarm_model.specs.declared.answer.Answer.{Answer}
 use Rattle.swarm_model.specs.declared.entry.Entry.{Entry}
 use Rattle.swarm_model.specs.declared.request.Request.{Request}
 use Rattle.swarm_model.specs.Answers.{answer}
+use Rattle.swarm_model.specs.Bases.{empty_base}
 use Rattle.swarm_model.specs.Deadlines.{due_entry}
 use Rattle.swarm_model.specs.MachineState.{MachineState}
 use Rattle.swarm_history.specs.Settling.{Adds, IsUnchanged}
@@ -18,7 +19,7 @@ use Rattle.shared_doors.specs.declared.shared_desk.SharedDesk.{SharedDesk}
 use Rattle.shared_doors.specs.declared.view.Lasting.{Lasting}
 use Rattle.shared_doors.specs.declared.view.PoolView.{PoolView}
 use Rattle.shared_doors.specs.Desks.{IsDesk, no_state}
-use Rattle.shared_doors.specs.Lasting.{lasting_of, IsStanding}
+use Rattle.shared_doors.specs.Lasting.{lasting_of, start_in, IsStanding}
 use Rattle.shared_doors.specs.Views.{look}
 use Rattle.shared_doors.proofs.Joining.{known_same}
 
@@ -72,6 +73,13 @@ module _ {V : Type 0} (state : V → MachineState) where
 
     pub settings_at : (lock : Turnstile V Entry Lasting) → lock_of t ≡ lock → (of_value state no_state t).pool.settings ≡ (fixed_of (λ x. lasting_of (state x)) lock).settings
     settings_at lock is = settings_now ∙ ap (λ (l : Turnstile V Entry Lasting). (fixed_of (λ x. lasting_of (state x)) l).settings) is
+
+    start_now : (of_value state no_state t).start ≡ empty_base (fixed_of (λ x. lasting_of (state x)) (lock_of t)).settings
+    start_now = ap (λ (k : MachineState). k.start) (kept_is t ready.raised.0 ready.raised.1) ∙ (ap start_in ready.raised.3 ∙ ready.standing.2)
+
+    -- nothing led to where the log begins
+    pub begins_at : (lock : Turnstile V Entry Lasting) → lock_of t ≡ lock → (of_value state no_state t).start ≡ empty_base (fixed_of (λ x. lasting_of (state x)) lock).settings
+    begins_at lock is = start_now ∙ ap (λ (l : Turnstile V Entry Lasting). empty_base (fixed_of (λ x. lasting_of (state x)) l).settings) is
 
     -- the value that was lent
     module _ (v : V) (is : Holds t v) where

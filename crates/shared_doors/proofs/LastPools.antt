@@ -1,5 +1,6 @@
 -- Pools closed one after another, from the last.
 use Rattle.std.proofs.Common.{◌≡◌, ℕ, ◌<◌, List, [], ◌∷◌, ◌++◌, map, length, get_or, reverse, refl, arith, ap, sym, subst, ◌∙◌, Option, Some, None}
+use Rattle.std.specs.List.{All}
 use Rattle.std.proofs.lemmas.List.{append_assoc, length_push, length-append, reverse-append}
 use Rattle.swarm_model.specs.declared.entry.Entry.{Entry}
 use Rattle.swarm_model.specs.MachineState.{MachineState}
@@ -8,6 +9,7 @@ use Rattle.turnstile.specs.declared.turnstile.Turnstile.{Turnstile}
 use Rattle.turnstile.specs.Passes.{IsPassOf, fixed_of, opening}
 use Rattle.shared_doors.specs.declared.view.Lasting.{Lasting}
 use Rattle.shared_doors.specs.Joined.{AreClosed, IsAloneView, IsClosed}
+use Rattle.shared_doors.specs.Lasting.{IsStanding}
 use Rattle.shared_doors.specs.Views.{AreOf, look, view_at, views}
 use Rattle.shared_doors.proofs.ByPlace.{here, seen_at}
 
@@ -39,6 +41,9 @@ module _ {V : Type 0} (fixed : V → Lasting) (ts xs us : List (Turnstile V Entr
 
   pub last_own : IsPassOf fixed t p
   last_own = own.each (length xs) t p low (sym (at_split xs us t t ts is_t)) (here fixed ts items (length xs) p own low stands)
+
+  pub last_standing : All (λ (u : Turnstile V Entry Lasting). IsStanding (fixed_of fixed u)) ts → IsStanding (fixed_of fixed t)
+  last_standing all = subst (λ (u : Turnstile V Entry Lasting). IsStanding (fixed_of fixed u)) (at_split xs us t t ts is_t) (all (length xs) t low)
 
   pub last_alone : ((n : ℕ) → n < length ts → IsAloneView (view_at (views items) n)) → IsAloneView (look p)
   last_alone alone = subst IsAloneView (seen_at fixed ts items (length xs) p own low stands) (alone (length xs) low)

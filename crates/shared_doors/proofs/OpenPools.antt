@@ -1,5 +1,5 @@
 -- Pools opened one after another, from the first.
-use Rattle.std.proofs.Common.{◌≡◌, ℕ, ◌+◌, ◌<◌, ◌≤◌, true, List, [], ◌∷◌, ◌++◌, map, take, length, get_or, refl, arith, ap, sym, subst, ◌∙◌, Option, Some, None, Result, Ok, Err, IfOk, IsTrue, is_some}
+use Rattle.std.proofs.Common.{◌≡◌, ℕ, ◌+◌, ◌<◌, ◌≤◌, List, [], ◌∷◌, ◌++◌, map, take, length, get_or, refl, arith, ap, sym, subst, ◌∙◌, Option, Some, None, Result, Ok, Err, IfOk, IsTrue, is_some}
 use Rattle.std.specs.List.{All, list_all}
 use Rattle.std.proofs.lemmas.Bool.{and_parts}
 use Rattle.std.proofs.lemmas.List.{get_or_push, length-map, length_push, map_push, take_all, take_more}
@@ -20,7 +20,7 @@ use Rattle.turnstile.specs.declared.pass.Pass.{Pass}
 use Rattle.turnstile.specs.declared.turnstile.Turnstile.{Turnstile}
 use Rattle.turnstile.specs.Passes.{IsPassOf, fixed_of, opening, seen, number, numbers, made, told, turns}
 use Rattle.shared_doors.specs.declared.view.Lasting.{Lasting}
-use Rattle.shared_doors.specs.Lasting.{lasting_of, IsStanding}
+use Rattle.shared_doors.specs.Lasting.{first_lasting, lasting_of, IsStanding}
 use Rattle.shared_doors.specs.Opened.{AreOpened}
 use Rattle.shared_doors.specs.Views.{AreOf, first_view, look, nothing, view_at, view_or, views}
 use Rattle.shared_doors.proofs.ByPlace.{at_push, push_views, some_is}
@@ -32,14 +32,11 @@ use Rattle.shared_doors.proofs.Joining.{known_same}
 abbrev pub new_state : PoolSettings → MachineState
 new_state pool = record { start = empty_base pool; pool = new_pool pool; log = []; ready = None; held = nothing_held }
 
-abbrev pub whole : PoolSettings → Lasting
-whole pool = record { settings = pool; is_whole = true }
-
 pub new_log : (kept : MachineState) (pool : PoolSettings) → kept ≡ new_state pool → kept.log ≡ []
 new_log kept pool is = ap (λ (k : MachineState). k.log) is
 
-new_lasting : (kept : MachineState) (copy pool : PoolSettings) → kept ≡ new_state copy → copy ≡ pool → lasting_of kept ≡ whole pool
-new_lasting kept copy pool is same = ap lasting_of is ∙ ap whole same
+new_lasting : (kept : MachineState) (copy pool : PoolSettings) → kept ≡ new_state copy → copy ≡ pool → lasting_of kept ≡ first_lasting pool
+new_lasting kept copy pool is same = ap lasting_of is ∙ ap first_lasting same
 
 -- the rules of one of the pools
 pub rules_at : (settings : Settings) (pools : List PoolSettings) (i : ℕ) (pool : PoolSettings) → IsTrue (are_settings settings) → pools ≡ settings.pools → i < length pools → pool ≡ get_or pools i pool → IsTrue (keeps_rules pool)
@@ -51,7 +48,7 @@ rules_at settings pools i pool rules same low is =
 
 module _ {V E : Type 0} where
   pub opened_lasting : (fixed : V → Lasting) (r : Result (Turnstile V Entry Lasting × Pass V Entry Lasting) E) (kept : MachineState) (copy pool : PoolSettings)
-      → kept ≡ new_state copy → copy ≡ pool → IfOk r (λ o. fixed_of fixed o.0 ≡ lasting_of kept) → IfOk r (λ o. fixed_of fixed o.0 ≡ whole pool)
+      → kept ≡ new_state copy → copy ≡ pool → IfOk r (λ o. fixed_of fixed o.0 ≡ lasting_of kept) → IfOk r (λ o. fixed_of fixed o.0 ≡ first_lasting pool)
   opened_lasting fixed (Ok o) kept copy pool is same h = h ∙ new_lasting kept copy pool is same
   opened_lasting fixed (Err e) kept copy pool is same h = h
 
@@ -105,8 +102,8 @@ module _ {V : Type 0} (fixed : V → Lasting) where
         (here ∙ (ap (λ l. get_or l i (Some q)) is_p ∙ at_push ps (Some p) (Some q) i (omega (arith, inside, own.count)))));
   }
 
-  standing_one : (t : Turnstile V Entry Lasting) (pool : PoolSettings) → fixed_of fixed t ≡ whole pool → IsTrue (keeps_rules pool) → IsStanding (fixed_of fixed t)
-  standing_one t pool is rules = subst IsStanding (sym is) (rules, refl)
+  standing_one : (t : Turnstile V Entry Lasting) (pool : PoolSettings) → fixed_of fixed t ≡ first_lasting pool → IsTrue (keeps_rules pool) → IsStanding (fixed_of fixed t)
+  standing_one t pool is rules = subst IsStanding (sym is) (rules, refl, refl)
 
   pub opened_none : (log : V → List Entry) (pools : List PoolSettings) (ts : List (Turnstile V Entry Lasting)) (ps : List (Option (Pass V Entry Lasting)))
       → pools ≡ [] → ts ≡ [] → ps ≡ [] → AreOpened fixed log pools ts ps
@@ -122,7 +119,7 @@ module _ {V : Type 0} (fixed : V → Lasting) where
       (ts more : List (Turnstile V Entry Lasting)) (ps all : List (Option (Pass V Entry Lasting))) (t : Turnstile V Entry Lasting) (p : Pass V Entry Lasting)
       → i < length pools → pool ≡ get_or pools i pool → IsTrue (keeps_rules pool)
       → more ≡ ts ++ t ∷ [] → all ≡ ps ++ Some p ∷ []
-      → IsPassOf fixed t p → fixed_of fixed t ≡ whole pool → opening log t ≡ [] → look p ≡ first_view
+      → IsPassOf fixed t p → fixed_of fixed t ≡ first_lasting pool → opening log t ≡ [] → look p ≡ first_view
       → AreOpened fixed log (take i pools) ts ps → AreOpened fixed log (take (i + 1) pools) more all
   opened_more log pools i pool ts more ps all t p low at rules is_t is_p own lasting empty fresh so_far = record {
     own = own_push ts more ps all t p is_t is_p so_far.own own;

@@ -1,23 +1,27 @@
 -- Passes of the turnstiles of one server are those of each server with these identities and these settings.
-use Rattle.std.proofs.Common.{◌≡◌, ℕ, ◌<◌, Bool, List, [], length, get_or, map, refl, arith, ap, sym, ◌∙◌, Option, IsTrue}
+use Rattle.std.proofs.Common.{◌≡◌, ℕ, ◌<◌, Bool, List, [], length, get_or, arith, ap, sym, subst, ◌∙◌, Option}
 use Rattle.std.specs.List.{All}
 use Rattle.std.proofs.lemmas.List.{get_or-map, get_or_default, length-map}
 use Rattle.swarm_model.specs.declared.entry.Entry.{Entry}
 use Rattle.swarm_model.specs.declared.pool_settings.PoolSettings.{PoolSettings}
 use Rattle.swarm_model.specs.declared.pool_settings.Settings.{Settings}
-use Rattle.pool_doors.specs.Doors.{DoorState}
+use Rattle.swarm_model.specs.Bases.{Base, empty_base}
 use Rattle.turnstile.specs.declared.pass.Pass.{Pass}
 use Rattle.turnstile.specs.declared.turnstile.Turnstile.{Turnstile}
 use Rattle.turnstile.specs.Passes.{fixed_of, identity_of}
 use Rattle.turnstile.proofs.Identity.{IsPassOf-identity}
 use Rattle.shared_doors.specs.declared.view.Lasting.{Lasting}
 use Rattle.shared_doors.specs.declared.view.PoolView.{PoolView}
-use Rattle.shared_doors.specs.Lasting.{IsStanding}
+use Rattle.shared_doors.specs.Lasting.{start_in, IsStanding}
 use Rattle.shared_doors.specs.SharedDoors.{identities_of, pools_of, shared_door}
 use Rattle.shared_doors.specs.Views.{AreOf}
 
-same_lasting : (a b : Lasting) → a.settings ≡ b.settings → IsTrue a.is_whole → IsTrue b.is_whole → a ≡ b
-same_lasting a b settings one two = ap (λ (s : PoolSettings). record a { settings = s }) settings ∙ ap (λ (w : Bool). record b { is_whole = w }) (one ∙ sym two)
+-- of standing machines the settings tell all that never changes
+same_lasting : (a b : Lasting) → a.settings ≡ b.settings → IsStanding a → IsStanding b → a ≡ b
+same_lasting a b settings one two =
+    let starts : start_in a ≡ start_in b = one.2 ∙ (ap empty_base settings ∙ sym two.2) in
+    ap (λ (s : PoolSettings). record a { settings = s }) settings ∙ (ap (λ (w : Bool). record a { settings = b.settings; is_whole = w }) (one.1 ∙ sym two.1)
+    ∙ ap (λ (start : Base). record b { rows = start.rows; count = start.count }) starts)
 
 module _ {V : Type 0} (fixed : V → Lasting) (ts us : List (Turnstile V Entry Lasting)) (logs : identities_of ts ≡ identities_of us) (pools : pools_of fixed ts ≡ pools_of fixed us) where
   counted : length us ≡ length ts
@@ -43,12 +47,12 @@ module _ {V : Type 0} (fixed : V → Lasting) (ts us : List (Turnstile V Entry L
         let t : Turnstile V Entry Lasting = get_or ts i u in
         let is : t ≡ get_or ts i t = get_or_default ts i u t inside in
         IsPassOf-identity fixed t u p (identity_at i t u inside is at)
-        (same_lasting (fixed_of fixed t) (fixed_of fixed u) (settings_at i t u inside is at) (one i u inside).1 (subst-whole u i low at))
+        (same_lasting (fixed_of fixed t) (fixed_of fixed u) (settings_at i t u inside is at) (one i u inside) (standing u i low at))
         (own.each i t p inside is here);
   }
     where
-      subst-whole : (u : Turnstile V Entry Lasting) (i : ℕ) → i < length us → u ≡ get_or us i u → IsTrue (fixed_of fixed u).is_whole
-      subst-whole u i low at = ap (λ (t : Turnstile V Entry Lasting). (fixed_of fixed t).is_whole) at ∙ (two i u low).1
+      standing : (u : Turnstile V Entry Lasting) (i : ℕ) → i < length us → u ≡ get_or us i u → IsStanding (fixed_of fixed u)
+      standing u i low at = subst (λ (t : Turnstile V Entry Lasting). IsStanding (fixed_of fixed t)) (sym at) (two i u low)
 
 -- a door whose settings and logs are a server's is a door of that server
 pub door_same : (store other : Option (List ℕ)) (pools more : List PoolSettings) (logs ids : ℕ → List ℕ) (vs : List PoolView)

@@ -10,6 +10,7 @@ use Rattle.swarm_keeper.specs.Tables.{Tables}
 use Rattle.swarm_model.specs.declared.entry.Entry.{Entry}
 use Rattle.swarm_model.specs.declared.pool_settings.PoolSettings.{PoolSettings}
 use Rattle.swarm_model.specs.declared.pool_state.PoolState.{PoolState}
+use Rattle.swarm_model.specs.Bases.{Base}
 use Rattle.swarm_model.specs.MachineState.{MachineState, AreHeld}
 use Rattle.swarm_model.specs.Settings.{is_grant, is_pool_name, keeps_rules}
 use Rattle.swarm_model.specs.Words.{is_between}
@@ -61,23 +62,28 @@ short_log old new entry rules added =
 pub held_when : (kept : MachineState) → IsTrue (are_held kept) → AreHeld kept
 held_when kept whole = AllPass-from_list_all (λ (blob : BlobRow). is_some (kept.held blob.digest)) kept.pool.blobs whole
 
-abbrev with_settings : PoolSettings → Bool → Lasting
-with_settings settings whole = record { settings = settings; is_whole = whole }
+abbrev with_settings : PoolSettings → Bool → Base → Lasting
+with_settings settings whole start = record { settings = settings; is_whole = whole; rows = start.rows; count = start.count }
 
-same_lasting : (s t : PoolSettings) (v w : Bool) → s ≡ t → v ≡ w → with_settings s v ≡ with_settings t w
-same_lasting s t v w settings whole = rw (settings, whole) refl
+same_lasting : (s t : PoolSettings) (v w : Bool) (b c : Base) → s ≡ t → v ≡ w → b ≡ c → with_settings s v b ≡ with_settings t w c
+same_lasting s t v w b c settings whole starts = rw (settings, whole, starts) refl
 
 same_settings : {T E : Type 0} (result : Result T E) (old new : MachineState) (entry : Entry) → OnOk result (Adds old new entry) → OnErr result (IsUnchanged old new)
     → new.pool.settings ≡ old.pool.settings
 same_settings (Ok done) old new entry adds stays = adds.settings
 same_settings (Err fault) old new entry adds stays = ap (λ (s : PoolState). s.settings) stays.pool
 
+same_start : {T E : Type 0} (result : Result T E) (old new : MachineState) (entry : Entry) → OnOk result (Adds old new entry) → OnErr result (IsUnchanged old new)
+    → new.start ≡ old.start
+same_start (Ok done) old new entry adds stays = adds.start
+same_start (Err fault) old new entry adds stays = stays.start
+
 -- neither an entry that is added nor one that is not changes it
 pub lasting_stays : {T E : Type 0} (result : Result T E) (old new : MachineState) (entry : Entry) → OnOk result (Adds old new entry) → OnErr result (IsUnchanged old new)
     → AreHeld new → IsTrue (are_held old) → lasting_of new ≡ lasting_of old
 lasting_stays result old new entry adds stays held whole =
-    same_lasting new.pool.settings old.pool.settings (are_held new) (are_held old) (same_settings result old new entry adds stays)
-    (list_all-from_AllPass (λ (blob : BlobRow). is_some (new.held blob.digest)) new.pool.blobs held ∙ sym whole)
+    same_lasting new.pool.settings old.pool.settings (are_held new) (are_held old) new.start old.start (same_settings result old new entry adds stays)
+    (list_all-from_AllPass (λ (blob : BlobRow). is_some (new.held blob.digest)) new.pool.blobs held ∙ sym whole) (same_start result old new entry adds stays)
 
 -- ---- a keeper that never fails
 

@@ -16,8 +16,8 @@ abbrev pub no_state : MachineState
 no_state = record { start = empty_base no_pool; pool = opening no_pool; log = []; ready = None; held = nothing_held }
 
 module _ {V : Type 0} where
-  -- A turn at a machine whose keeper never fails. Its settings keep their rules, each blob has its bytes, and nothing of its log
-  -- is left to raise. `state` gives what a machine keeps.
+  -- A turn at a machine whose keeper never fails. Its settings keep their rules, each blob has its bytes, nothing led to where its
+  -- log begins, and nothing of that is left to raise. `state` gives what a machine keeps.
   pub record IsDesk (state : V → MachineState) (sure : Bool) (t : Turn V Entry Lasting) : Type 0 where
     pub is_sure : IsTrue sure
     pub turn : IsTurn (λ x. lasting_of (state x)) t

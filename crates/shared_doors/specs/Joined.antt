@@ -2,6 +2,7 @@
 use Rattle.std.specs.Prelude.{◌≡◌, ◌⊎◌, ℕ, ◌+◌, ◌<◌, ◌==◌, min, max, if◌then◌else◌, List, [], ◌∷◌, ◌++◌, length}
 use Rattle.swarm_model.specs.declared.entry.Entry.{Entry}
 use Rattle.swarm_model.specs.declared.pool_settings.PoolSettings.{PoolSettings}
+use Rattle.swarm_model.specs.Bases.{empty_base}
 use Rattle.swarm_model.specs.MachineState.{MachineState, IsHistory}
 use Rattle.turnstile.specs.declared.turnstile.Turnstile.{Turnstile}
 use Rattle.turnstile.specs.Numbers.{times, once_below, own, Adds}
@@ -43,10 +44,11 @@ pub record Joins (v w joined : PoolView) : Type 0 where
 abbrev pub IsAloneView : PoolView → Type 0
 IsAloneView v = (v.number ≡ 0) × (length v.numbers ≡ v.made)
 
--- The one history of a pool, once it is closed: it is legal, it is all that the joined pass had seen, each pass that was made
--- is joined once, and past the opening it has entries of those passes and no others.
+-- The one history of a pool, once it is closed: nothing led to where it begins, it is legal, it is all that the joined pass had
+-- seen, each pass that was made is joined once, and past the opening it has entries of those passes and no others.
 pub record IsClosed (pool : PoolSettings) (start : List Entry) (v : PoolView) (kept : MachineState) : Type 0 where
   pub settings_are : kept.pool.settings ≡ pool
+  pub begins : kept.start ≡ empty_base pool
   pub history : IsHistory kept
   pub seen : kept.log ≡ v.seen
   pub all_joined : (k : ℕ) → times k v.numbers ≡ once_below k v.made

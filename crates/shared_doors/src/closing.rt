@@ -3,6 +3,7 @@ ghost use Rattle.std.specs.Prelude.{◌≡◌, ◌≤◌, ◌<◌, ◌++◌, ◌
 ghost use Rattle.std.specs.List.{All};
 ghost use Rattle.turnstile.specs.Passes.{IsPassOf, fixed_of, opening};
 ghost use Rattle.shared_doors.specs.Joined.{AreClosed, IsAloneView, IsClosed};
+ghost use Rattle.shared_doors.specs.Lasting.{IsStanding};
 ghost use Rattle.shared_doors.specs.Machines.{lasting_in, log_in};
 ghost use Rattle.shared_doors.specs.Views.{AreOf, look, view_at, views};
 
@@ -17,6 +18,7 @@ fn close_one<M: Machine + Drop, K: Keeper + Drop>(
     pass: Pass<Kept<M, K>>,
 ) -> M
     requires own { IsPassOf (lasting_in M.kept) turnstile pass }
+    requires standing { IsStanding (fixed_of (lasting_in M.kept) turnstile) }
     requires alone { IsAloneView (look pass) }
     ensures { IsClosed (fixed_of (lasting_in M.kept) turnstile).settings (opening (log_in M.kept) turnstile) (look pass) (M.kept result) }
 {
@@ -52,6 +54,7 @@ pub(crate) fn close_all<M: Machine + Drop, K: Keeper + Drop>(
     room: Vec<M>,
 ) -> Vec<M>
     requires own { AreOf (lasting_in M.kept) turnstiles.items passes.items }
+    requires standing { All (λ t. IsStanding (fixed_of (lasting_in M.kept) t)) turnstiles.items }
     requires alone { (p : ℕ) → p < length turnstiles.items → IsAloneView (view_at (views passes.items) p) }
     requires empty { vec_len room ≡ 0 }
     requires room { length turnstiles.items ≤ vec_capacity room }

@@ -33,7 +33,7 @@ impl<M: Machine + Drop, K: Keeper + Drop> Counted for Kept<M, K> {
     ghost fixed = { λ k. lasting_of (M.kept k.machine) };
 
     fn count(&self) -> u64 {
-        self.machine.length()
+        self.machine.length() - self.machine.count()
     }
 }
 
@@ -57,7 +57,7 @@ impl<M: Machine + Drop, K: Keeper + Drop> Kept<M, K> {
         ensures added { OnOk result (Adds (M.kept self.old.machine) (M.kept self.new.machine) entry) }
         ensures short { OnOk result (length (M.kept self.old.machine).log < 2 ^ 32) }
         ensures stays { OnErr result (IsUnchanged (M.kept self.old.machine) (M.kept self.new.machine)) }
-        ensures full { IsErrOf result CallFault.LogFull ↔ (has_room (M.kept self.old.machine).pool.settings (M.kept self.old.machine).log entry ≡ false) }
+        ensures full { IsErrOf result CallFault.LogFull ↔ (has_room (M.kept self.old.machine).start.rows (M.kept self.old.machine).log entry ≡ false) }
         ensures no_fault { ¬ IsErrOf result CallFault.Keeper }
     {
         add_entry(alloc, &mut self.machine, &mut self.keeper, entry, bytes)

@@ -1,7 +1,8 @@
 //! The pools of a server, as it is made.
-ghost use Rattle.std.specs.Prelude.{◌≡◌, [], true, length, IsTrue, IfOk};
+ghost use Rattle.std.specs.Prelude.{◌≡◌, [], length, IsTrue, IfOk};
 ghost use Rattle.swarm_model.specs.Settings.{are_settings, keeps_rules};
 ghost use Rattle.turnstile.specs.Passes.{IsPassOf, fixed_of, opening};
+ghost use Rattle.shared_doors.specs.Lasting.{first_lasting};
 ghost use Rattle.shared_doors.specs.Machines.{lasting_in, log_in};
 ghost use Rattle.shared_doors.specs.Opened.{AreOpened};
 ghost use Rattle.shared_doors.specs.Views.{first_view, look};
@@ -14,7 +15,7 @@ use swarm_keeper::Keeper;
 use swarm_model::{Machine, PoolSettings, Settings};
 use turnstile::{Pass, Turnstile};
 
-/// A turnstile round a machine of the pool, with an empty log, and its first pass.
+/// A turnstile round a machine of the pool, to which nothing led, and its first pass.
 fn open_pool<M: Machine + Drop, K: Keeper + Drop>(
     alloc: Global,
     settings: &PoolSettings,
@@ -22,7 +23,7 @@ fn open_pool<M: Machine + Drop, K: Keeper + Drop>(
 ) -> Result<(Turnstile<Kept<M, K>>, Pass<Kept<M, K>>), AllocError>
     requires { IsTrue (keeps_rules settings.now) }
     ensures own { IfOk result (λ r. IsPassOf (lasting_in M.kept) r.0 r.1) }
-    ensures lasting { IfOk result (λ r. fixed_of (lasting_in M.kept) r.0 ≡ record { settings = settings.now; is_whole = true }) }
+    ensures lasting { IfOk result (λ r. fixed_of (lasting_in M.kept) r.0 ≡ first_lasting settings.now) }
     ensures empty { IfOk result (λ r. opening (log_in M.kept) r.0 ≡ []) }
     ensures fresh { IfOk result (λ r. look r.1 ≡ first_view) }
 {

@@ -1,11 +1,15 @@
 use std::collections::LinkedList;
-use swarm_model::{Entry, PoolSettings};
+use swarm_model::{Entry, PoolSettings, PoolState};
 
 /// What never changes of a pool's machine. No value of it is made.
 pub struct Lasting {
     pub settings: PoolSettings,
     /// Whether each blob has its bytes.
     pub is_whole: bool,
+    /// The rows from which its log begins.
+    pub rows: PoolState,
+    /// How many entries led to these.
+    pub count: u64,
 }
 
 /// What a pass knows of its pool. No value of it is made.

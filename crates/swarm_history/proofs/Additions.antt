@@ -67,7 +67,7 @@ adds_held old ready new entry bytes r e sound held whole =
 -- records say nothing of what is ready
 pub told_ready : (told : Option Tables) (old ready : MachineState) (next : Option Entry) → ready ≡ record old { ready = next } → AreMachineRecords told old → AreMachineRecords told ready
 told_ready None old ready next r are = tt
-told_ready (Some t) old ready next r are = rw r (record { lines = are.lines; blobs = are.blobs })
+told_ready (Some t) old ready next r are = rw r (record { base = are.base; count = are.count; lines = are.lines; blobs = are.blobs })
 
 -- The records once the line of an entry that was made ready is kept, and the entry is added.
 module _ (old ready new : MachineState) (entry : Entry) (bytes : Option (List ℕ)) (told now : Option Tables)
@@ -78,7 +78,7 @@ module _ (old ready new : MachineState) (entry : Entry) (bytes : Option (List �
       (told_after ready told now entry bytes keeps (λ places. whole (subst (λ (k : MachineState). IsTrue (is_some (new_digest k.pool entry.kind))) r places)) (told_ready told old ready (Some entry) r are))
 
   history_ready : IsHistory old → IsHistory ready
-  history_ready h = rw r (record { opened = h.opened; replayed = h.replayed; legal = h.legal })
+  history_ready h = rw r (record { base = h.base; replayed = h.replayed; legal = h.legal })
 
   pub adds_no_others : IsHistory old → IsSound old.pool → MayFollow old.pool entry → HoldsNoOthers told old → HoldsNoOthers now new
   adds_no_others h sound follows none =

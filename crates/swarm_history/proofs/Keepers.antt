@@ -1,19 +1,20 @@
 -- The keepers beside machines, one for each.
 use Rattle.std.proofs.Common.{◌≡◌, ℕ, zero, suc, ◌+◌, ◌<◌, ◌≤◌, List, [], ◌∷◌, map, length, get_or, set, refl, arith, ap, sym, subst, ◌∙◌, Option, Some, None, Result, Ok, Err, IfSome}
-use Rattle.std.specs.Prelude.{slice_get}
+use Rattle.std.specs.Prelude.{slice_get, ⊤}
 use Rattle.std.specs.List.{sum_by}
 use Rattle.std.proofs.lemmas.List.{map-set, get_or-map, length-map}
 use Rattle.std.proofs.lemmas.List.Sums.{sum_by-cons, sum_by-set}
 use Rattle.sw_base.specs.Faults.{Rose}
 use Rattle.swarm_keeper.specs.Tables.{Tables}
+use Rattle.swarm_model.specs.declared.pool_settings.PoolSettings.{PoolSettings}
 use Rattle.swarm_model.specs.MachineState.{MachineState}
 use Rattle.pool_loading.specs.Records.{AreLinesOf, AreRecords}
 use Rattle.pool_doors.specs.declared.door.Answered.{Answered}
 use Rattle.pool_doors.specs.declared.door.CallFault.{CallFault}
 use Rattle.pool_doors.specs.declared.door.CallFault.TheVariants as fault
 use Rattle.pool_doors.specs.Doors.{CountsKeeper}
-use Rattle.swarm_history.specs.Machines.{logs_of}
-use Rattle.swarm_history.specs.Records.{AreKept, AreRecordsOf, AreMachineRecords}
+use Rattle.swarm_history.specs.Machines.{logs_of, pools_of, start_at, starts_of}
+use Rattle.swarm_history.specs.Records.{TellsStart, AreBasesOf, AreKept, AreRecordsOf, AreMachineRecords}
 
 -- ---- records
 
@@ -73,6 +74,24 @@ lines_kept (told ∷ tables) (m ∷ machines) few are = by_place (lines_kept tab
     by_told (Some t) first = first.lines
 
     by_place : AreKept tables (logs_of machines) → AreKept (told ∷ tables) (logs_of (m ∷ machines))
+    by_place rest zero = by_told told (are 0)
+    by_place rest (suc p) = rest p
+
+-- and they tell where these begin
+pub bases_kept : (tables : List (Option Tables)) (machines : List MachineState) → AreRecordsOf tables machines → AreBasesOf (pools_of machines) tables (start_at (starts_of machines))
+bases_kept tables [] are = λ p. tt
+bases_kept [] (m ∷ machines) are = λ p. of_none (slice_get (pools_of (m ∷ machines)) p)
+  where
+    of_none : (o : Option PoolSettings) → IfSome o (λ pool. ⊤)
+    of_none None = tt
+    of_none (Some pool) = tt
+bases_kept (told ∷ tables) (m ∷ machines) are = by_place (bases_kept tables machines (later told tables m machines are))
+  where
+    by_told : (o : Option Tables) → AreMachineRecords o m → IfSome o (λ t. TellsStart m.pool.settings t m.start)
+    by_told None first = tt
+    by_told (Some t) first = record { rows = first.base; count = first.count }
+
+    by_place : AreBasesOf (pools_of machines) tables (start_at (starts_of machines)) → AreBasesOf (pools_of (m ∷ machines)) (told ∷ tables) (start_at (starts_of (m ∷ machines)))
     by_place rest zero = by_told told (are 0)
     by_place rest (suc p) = rest p
 

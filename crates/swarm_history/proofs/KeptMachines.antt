@@ -6,10 +6,12 @@ use Rattle.std.proofs.lemmas.Bool.{false≢true}
 use Rattle.std.proofs.lemmas.List.{map-append}
 use Rattle.dimensions.specs.Alike.{same}
 use Rattle.entry_lines.specs.Lines.{entry_of_line}
-use Rattle.pool_loading.specs.Records.{AreLinesOf, AreRecords}
+use Rattle.pool_loading.specs.Records.{base_in, AreLinesOf, AreRecords}
 use Rattle.swarm_keeper.specs.Tables.{Tables, is_other, bytes_of, without, with_blob, appended}
 use Rattle.pool_laws.proofs.Alike.{same_is, is_same, same_self}
+use Rattle.pool_laws.proofs.Bots.{settings_same}
 use Rattle.swarm_model.specs.declared.entry.Entry.{Entry}
+use Rattle.swarm_model.specs.declared.pool_settings.PoolSettings.{PoolSettings}
 use Rattle.swarm_model.specs.Bytes.{HeldBytes, new_digest, removed_digest, with_bytes, without_bytes, with_new, without_removed}
 use Rattle.swarm_model.specs.MachineState.{MachineState}
 use Rattle.swarm_history.specs.Records.{AreMachineRecords, KeepsEntry}
@@ -106,6 +108,8 @@ records_after : (kept : MachineState) (t : Tables) (entry : Entry) (line content
     → (IsTrue (is_some (new_digest kept.pool entry.kind)) → IsTrue (is_some bytes)) → AreRecords kept t
     → AreRecords (with_entry kept entry bytes) (appended line (new_digest kept.pool entry.kind) content (removed_digest kept.pool entry.kind) t)
 records_after kept t entry line content bytes is has whole are = record {
+  base = ap (λ (p : PoolSettings). base_in p t.base) (settings_same kept.pool entry.moment entry.kind) ∙ are.base;
+  count = are.count;
   lines = lines_more t.lines kept.log line entry is are.lines;
   blobs = cover_added (without (removed_digest kept.pool entry.kind) t.blobs) (without_removed (removed_digest kept.pool entry.kind) kept.held)
       (new_digest kept.pool entry.kind) bytes content has whole

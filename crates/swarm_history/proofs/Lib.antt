@@ -1,5 +1,6 @@
 mod Additions
 mod Bringing
+mod Checkpoints
 mod Held
 mod Keepers
 mod KeptMachines

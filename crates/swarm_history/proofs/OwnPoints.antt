@@ -5,6 +5,7 @@ use Rattle.std.specs.Bool.{OnTrue}
 use Rattle.std.specs.Option.{option_or, option_to_list}
 use Rattle.std.proofs.lemmas.List.{append_assoc}
 use Rattle.std.proofs.lemmas.List.Sums.{fold-append}
+use Rattle.swarm_model.specs.declared.pool_settings.PoolSettings.{PoolSettings}
 use Rattle.swarm_model.specs.declared.pool_state.PoolState.{PoolState}
 use Rattle.swarm_model.specs.declared.entry.Entry.{Entry}
 use Rattle.swarm_model.specs.declared.reply.Reply.{Reply}
@@ -16,22 +17,15 @@ use Rattle.swarm_model.specs.Effects.{after}
 use Rattle.swarm_model.specs.History.{replay, IsLegal, moment_of}
 use Rattle.swarm_model.specs.Points.{is_ahead, Call, Growth, answer_to, LacksRoom, next_entry}
 use Rattle.swarm_model.specs.MachineState.{MachineState, IsHistory}
-use Rattle.swarm_model.specs.Soundness.{IsSound}
-use Rattle.swarm_model.proofs.Histories.{legal_from_opening, replayed_from_opening}
-use Rattle.pool_laws.proofs.Sound.{sound_always}
 use Rattle.pool_doors.specs.declared.door.Answered.{Answered}
 use Rattle.pool_doors.specs.declared.door.CallFault.{CallFault}
 use Rattle.pool_doors.specs.Doors.{ArePieces, is_log_full, IsPoolCall}
 use Rattle.swarm_history.proofs.Refusals.{refused_adds_nothing}
 use Rattle.swarm_history.specs.Settling.{Settles, Responds, HasFrontAndPieces, IsPointAlone, IsOwnStop}
 
--- what a machine keeps is sound
-pub sound_history : (kept : MachineState) → IsHistory kept → IsSound kept.pool
-sound_history kept h = subst IsSound (sym (replayed_from_opening kept h)) (sound_always kept.pool.settings kept.log (legal_from_opening kept h).caused)
-
--- its log has no more entries than the settings allow
+-- the log of a machine has no more entries than the settings allow
 pub few_history : (kept : MachineState) → IsHistory kept → length kept.log ≤ kept.pool.settings.most_entries
-few_history kept h = (legal_from_opening kept h).few
+few_history kept h = subst (λ (p : PoolSettings). length kept.log ≤ p.most_entries) h.base.own h.legal.few
 
 -- a call of one who has seen more than there is
 pub early_point : (start : Base) (call : Call) (log : List Entry) →
@@ -73,10 +67,6 @@ module _ (call : Call) (at : ℕ) (old mid : MachineState) (history : IsHistory 
   rows_settled : mid.pool ≡ replay (replay old.start.rows old.log) s.settled
   rows_settled = rows ∙ ap (replay old.start.rows) s.log ∙ fold-append after old.start.rows old.log s.settled
 
-  -- the log begins under the pool's settings
-  settings_are : old.start.rows.settings ≡ mid.pool.settings
-  settings_are = ap (λ (b : Base). b.rows.settings) history.opened ∙ sym s.settings
-
   pub settled_point : (new : MachineState) → due_entry mid.pool at call.pass ≡ None → (answered : Reply) → Responds call.pass call.caller at call.request mid new answered →
       IsPointAlone old.start call old.log new.log answered
   settled_point new none answered a =
@@ -99,7 +89,7 @@ module _ (call : Call) (at : ℕ) (old mid : MachineState) (history : IsHistory 
       }
 
   -- it stopped where an entry was to be added
-  pub settled_stop : (log : List Entry) (full : Bool) → log ≡ mid.log → OnTrue full (LacksRoom mid.pool mid.log (next_entry mid.pool taken)) →
+  pub settled_stop : (log : List Entry) (full : Bool) → log ≡ mid.log → OnTrue full (LacksRoom mid.start.rows mid.log (next_entry mid.pool taken)) →
       IsOwnStop old.start call old.log log full
   settled_stop log full same lacks =
       record {
@@ -113,7 +103,8 @@ module _ (call : Call) (at : ℕ) (old mid : MachineState) (history : IsHistory 
           no_own = refl;
           not_ahead = rw (append-nil old.log) behind;
           due_first = rw (append-nil old.log, ← moment_is) s.due_first;
-          full = rw (append-nil old.log, ← moment_is, same, ← rows, settings_are) lacks;
+          full = rw (append-nil old.log, ← moment_is, same, ← rows)
+              (subst (λ (b : Base). OnTrue full (LacksRoom b.rows mid.log (next_entry mid.pool taken))) s.start lacks);
         };
         no_others = refl;
       }

@@ -2,4 +2,5 @@ pub mod Calls
 pub mod Machines
 pub mod Settling
 pub mod Records
+pub mod Checkpoints
 pub mod OneProof

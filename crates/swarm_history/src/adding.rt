@@ -136,7 +136,7 @@ pub fn add_entry<M: Machine, K: Keeper>(
 
     ensures added { OnOk result (Adds (M.kept machine.old) (M.kept machine.new) entry) }
     ensures stays { OnErr result (IsUnchanged (M.kept machine.old) (M.kept machine.new)) }
-    ensures full { IsErrOf result CallFault.LogFull ↔ (has_room (M.kept machine.old).pool.settings (M.kept machine.old).log entry ≡ false) }
+    ensures full { IsErrOf result CallFault.LogFull ↔ (has_room (M.kept machine.old).start.rows (M.kept machine.old).log entry ≡ false) }
 
     ensures grows { K.faults keeper.old ≤ K.faults keeper.new }
     ensures failed { IsErrOf result CallFault.Keeper → Rose (K.faults keeper.old) (K.faults keeper.new) }

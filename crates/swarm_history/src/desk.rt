@@ -48,7 +48,7 @@ pub trait Desk {
         ensures length { result ≡ front (kept self.old).start (kept self.old).log }
         ensures history { IsHistory (kept self.old) };
 
-    /// The moment of the last entry, 0 where there is none.
+    /// The moment of the last entry; where there is none, that of the base.
     fn last(&mut self) -> u64
         requires ready { ready self.old }
         ensures same { self.new ≡ self.old }
@@ -91,7 +91,7 @@ pub trait Desk {
 
         ensures added { OnOk result (Adds (kept self.old) (kept self.new) entry) }
         ensures stays { OnErr result (IsUnchanged (kept self.old) (kept self.new)) }
-        ensures full { IsErrOf result CallFault.LogFull ↔ (has_room (kept self.old).pool.settings (kept self.old).log entry ≡ false) }
+        ensures full { IsErrOf result CallFault.LogFull ↔ (has_room (kept self.old).start.rows (kept self.old).log entry ≡ false) }
 
         ensures grows { faults self.old ≤ faults self.new }
         ensures failed { IsErrOf result CallFault.Keeper → Rose (faults self.old) (faults self.new) }

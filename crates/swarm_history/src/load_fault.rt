@@ -1,3 +1,4 @@
+use pool_loading::StorePart;
 use std::alloc::AllocFailed;
 
 /// Why a door is not made of kept records.
@@ -6,9 +7,15 @@ pub enum LoadFault {
     Memory,
     /// A keeper failed, and counts it.
     Failed,
-    /// The records of the pool at this place are refused: the line at `at`, from 0, is of no entry
-    /// that is legal there, or `at` is the number of lines and a blob lacks its bytes.
-    BadStore { place: u32, at: u64 },
+    /// The records of the pool at this place are refused. In the base, its line at `at`, from 0, is
+    /// none of its place, or `at` is the number of its lines and its rows are no base. In the lines,
+    /// the one at `at` is of no entry that is legal there, or `at` is the number of lines and a blob
+    /// lacks its bytes.
+    BadStore {
+        place: u32,
+        part: StorePart,
+        at: u64,
+    },
 }
 
 impl<T: Drop> From<AllocFailed<T>> for LoadFault {

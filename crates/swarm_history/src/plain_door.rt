@@ -1,6 +1,7 @@
-ghost use Rattle.std.specs.Prelude.{◌≡◌, ◌≤◌, ℕ, true, [], length, map, IsTrue, IfOk, IfErr};
+ghost use Rattle.std.specs.Prelude.{◌≡◌, ◌≤◌, ◌<◌, ◌↔◌, ℕ, true, [], length, map, slice_get, IsTrue, IfOk, IfErr, IfSome};
 ghost use Rattle.std.specs.List.{All, sum_by};
 ghost use Rattle.sw_base.specs.Faults.{Rose};
+ghost use Rattle.swarm_model.specs.Bases.{empty_base};
 ghost use Rattle.swarm_model.specs.Bytes.{Carries};
 ghost use Rattle.swarm_model.specs.Fits.{fits};
 ghost use Rattle.swarm_model.specs.MachineState.{AreHeld};
@@ -8,11 +9,14 @@ ghost use Rattle.swarm_model.specs.Points.{Growth};
 ghost use Rattle.swarm_model.specs.Settings.{are_settings};
 ghost use Rattle.pool_doors.specs.Doors.{IsPoolCall, IsFreshDoor, CountsKeeper};
 ghost use Rattle.swarm_history.specs.Calls.{call_of};
-ghost use Rattle.swarm_history.specs.Machines.{logs_of, own_door, pools_of};
-ghost use Rattle.swarm_history.specs.Records.{AreKept, AreRecordsOf, AreMachineRecords, HoldsNoOthers, IsFirstBadRecord};
+ghost use Rattle.swarm_history.specs.Checkpoints.{IsCheckpointed, IsCountFull};
+ghost use Rattle.swarm_history.specs.Machines.{logs_of, own_door, pools_of, start_at, starts_of};
+ghost use Rattle.swarm_history.specs.Records.{AreBasesOf, AreKept, AreRecordsOf, AreMachineRecords, HoldsNoOthers, IsFirstBadRecord};
 ghost use Rattle.swarm_history.specs.OneProof.{are_records_one};
 
-use crate::LoadFault;
+use crate::checkpoint_fault::{CheckpointFault, CheckpointWhy};
+use crate::checkpointing::begin_all_anew;
+use crate::load_fault::LoadFault;
 use crate::loading::load_machines;
 use crate::plain_desk::PlainDesk;
 use crate::pool_call::PoolCall;
@@ -34,6 +38,7 @@ pub struct PlainDoor<M: Machine + Drop, K: Keeper + Drop> {
     /// In the order of the pools.
     keepers: Vec<K>,
     calls: u64,
+    ghost few: { length machines.items ≤ 4 },
     ghost paired: { length keepers.items ≡ length machines.items },
     ghost held: { All AreHeld (map M.kept machines.items) },
     ghost records: { AreRecordsOf (map K.tables keepers.items) (map M.kept machines.items) } by { are_records_one _ _ },
@@ -90,10 +95,12 @@ impl<M: Machine + Drop, K: Keeper + Drop> PlainDoor<M, K> {
 
         ensures fresh { IfOk result (λ door. IsFreshDoor settings.now (⟦<PlainDoor<M, K> as Door>⟧.state door).seen (⟦<PlainDoor<M, K> as Door>⟧.state door)) }
         ensures lines { IfOk result (λ door. AreKept (map K.tables keepers.items) (⟦<PlainDoor<M, K> as Door>⟧.state door).seen) }
+        ensures bases { IfOk result (λ door. AreBasesOf settings.now.pools (map K.tables keepers.items) (⟦<PlainDoor<M, K> as Door>⟧.state door).writer.starts) }
         ensures records { IfOk result (λ door. (⟦<PlainDoor<M, K> as Door>⟧.state door).records ≡ map K.tables keepers.items) }
 
         // Sure keepers tell nothing, so there is nothing to load.
         ensures nothing { IsTrue K.SURE → IfOk result (λ door. (p : ℕ) → (⟦<PlainDoor<M, K> as Door>⟧.state door).seen p ≡ []) }
+        ensures opening { IsTrue K.SURE → IfOk result (λ door. (p : ℕ) → IfSome (slice_get settings.now.pools p) (λ pool. (⟦<PlainDoor<M, K> as Door>⟧.state door).writer.starts p ≡ empty_base pool)) }
 
         ensures bad { IfErr result (λ back. IsFirstBadRecord settings.now (map K.tables keepers.items) back.0) }
         ensures sure { IsTrue K.SURE → IfErr result (λ back. back.0 ≡ LoadFault.Memory) }
@@ -119,11 +126,22 @@ impl<M: Machine + Drop, K: Keeper + Drop> PlainDoor<M, K> {
         }
     }
 
+    /// The machines, in the order of the pools.
+    pub fn machines(&self) -> &[M]
+        ensures logs { (p : ℕ) → logs_of (map M.kept result.now) p ≡ (⟦<PlainDoor<M, K> as Door>⟧.state self.now).seen p }
+        ensures starts { (p : ℕ) → start_at (starts_of (map M.kept result.now)) p ≡ (⟦<PlainDoor<M, K> as Door>⟧.state self.now).writer.starts p }
+        ensures pools { pools_of (map M.kept result.now) ≡ (⟦<PlainDoor<M, K> as Door>⟧.state self.now).settings.pools }
+    {
+        self.machines.as_slice()
+    }
+
     /// The machines and the keepers, in the order of the pools. It takes no memory.
     pub fn end(self) -> (Vec<M>, Vec<K>)
         ensures logs { (p : ℕ) → logs_of (map M.kept result.0.items) p ≡ (⟦<PlainDoor<M, K> as Door>⟧.state self).seen p }
+        ensures starts { (p : ℕ) → start_at (starts_of (map M.kept result.0.items)) p ≡ (⟦<PlainDoor<M, K> as Door>⟧.state self).writer.starts p }
         ensures records { AreRecordsOf (map K.tables result.1.items) (map M.kept result.0.items) }
         ensures lines { AreKept (map K.tables result.1.items) (⟦<PlainDoor<M, K> as Door>⟧.state self).seen }
+        ensures bases { AreBasesOf (⟦<PlainDoor<M, K> as Door>⟧.state self).settings.pools (map K.tables result.1.items) (⟦<PlainDoor<M, K> as Door>⟧.state self).writer.starts }
 
         ensures told { map K.tables result.1.items ≡ (⟦<PlainDoor<M, K> as Door>⟧.state self).records }
         ensures faults { sum_by K.faults result.1.items ≡ (⟦<PlainDoor<M, K> as Door>⟧.state self).faults }
@@ -132,6 +150,41 @@ impl<M: Machine + Drop, K: Keeper + Drop> PlainDoor<M, K> {
         ensures keepers { length result.1.items ≡ length (⟦<PlainDoor<M, K> as Door>⟧.state self).settings.pools }
     {
         (self.machines, self.keepers)
+    }
+
+    /// Makes the records of each pool begin anew from its rows, pool by pool, in the order of the
+    /// pools. A pool that opens from them is as it was; its log has no entries.
+    ///
+    /// # Errors
+    ///
+    /// The first pool where it stops: its records stay, and so do those of the pools behind it. The
+    /// keepers come back in their order.
+    pub fn checkpoint(self) -> Result<Vec<K>, (CheckpointFault, Vec<K>)>
+        ensures ok { IfOk result (λ keepers. IsCheckpointed (⟦<PlainDoor<M, K> as Door>⟧.state self) (length (⟦<PlainDoor<M, K> as Door>⟧.state self).settings.pools) (map K.tables keepers.items)) }
+        ensures err { IfErr result (λ back. IsCheckpointed (⟦<PlainDoor<M, K> as Door>⟧.state self) back.0.place (map K.tables back.1.items)) }
+        ensures place { IfErr result (λ back. back.0.place < length (⟦<PlainDoor<M, K> as Door>⟧.state self).settings.pools) }
+
+        // It stops for the count exactly where more than 2^31 entries led to the rows of the pool.
+        ensures full { IfErr result (λ back. (back.0.why ≡ CheckpointWhy.CountFull) ↔ IsCountFull (⟦<PlainDoor<M, K> as Door>⟧.state self).writer.starts (⟦<PlainDoor<M, K> as Door>⟧.state self).seen back.0.place) }
+
+        ensures failed { IfErr result (λ back. back.0.why ≡ CheckpointWhy.Keeper → Rose (⟦<PlainDoor<M, K> as Door>⟧.state self).faults (sum_by K.faults back.1.items)) }
+        ensures grows { IfOk result (λ keepers. (⟦<PlainDoor<M, K> as Door>⟧.state self).faults ≤ sum_by K.faults keepers.items) }
+        ensures grows_back { IfErr result (λ back. (⟦<PlainDoor<M, K> as Door>⟧.state self).faults ≤ sum_by K.faults back.1.items) }
+
+        ensures keepers { IfOk result (λ keepers. length keepers.items ≡ length (⟦<PlainDoor<M, K> as Door>⟧.state self).settings.pools) }
+        ensures keepers_back { IfErr result (λ back. length back.1.items ≡ length (⟦<PlainDoor<M, K> as Door>⟧.state self).settings.pools) }
+    {
+        let PlainDoor {
+            alloc,
+            store: _,
+            machines,
+            mut keepers,
+            calls: _,
+        } = self;
+        match begin_all_anew(alloc, machines.as_slice(), &mut keepers) {
+            Ok(()) => Ok(keepers),
+            Err(fault) => Err((fault, keepers)),
+        }
     }
 }
 

@@ -65,7 +65,7 @@ fn respond<D: Desk>(
     ensures answers { IfOk result (λ a. Responds (D.number desk.old) call.now.who.now moment call.now.request.now (D.kept desk.old) (D.kept desk.new) a.reply) }
     ensures shows { IfOk result (HasFrontAndPieces (D.kept desk.new)) }
     ensures stays { OnErr result (IsUnchanged (D.kept desk.old) (D.kept desk.new)) }
-    ensures full { IfErr result (λ f. OnTrue (is_log_full f) (LacksRoom (D.kept desk.old).pool (D.kept desk.old).log (answer (D.kept desk.old).pool call.now.who.now moment (D.number desk.old) call.now.request.now).entry)) }
+    ensures full { IfErr result (λ f. OnTrue (is_log_full f) (LacksRoom (D.kept desk.old).start.rows (D.kept desk.old).log (answer (D.kept desk.old).pool call.now.who.now moment (D.number desk.old) call.now.request.now).entry)) }
 
     ensures grows { D.faults desk.old ≤ D.faults desk.new }
     ensures failed { CountsKeeper result (D.faults desk.old) (D.faults desk.new) }

@@ -25,7 +25,7 @@ pub(crate) fn settle<D: Desk>(alloc: Global, desk: &mut D, moment: u64) -> Resul
 
     ensures settles { Settles (D.number desk.old) moment (D.kept desk.old) (D.kept desk.new) }
     ensures nothing_due { OnOk result (due_entry (D.kept desk.new).pool moment (D.number desk.old) ≡ None) }
-    ensures full { IfErr result (λ f. OnTrue (is_log_full f) (LacksRoom (D.kept desk.new).pool (D.kept desk.new).log (due_entry (D.kept desk.new).pool moment (D.number desk.old)))) }
+    ensures full { IfErr result (λ f. OnTrue (is_log_full f) (LacksRoom (D.kept desk.new).start.rows (D.kept desk.new).log (due_entry (D.kept desk.new).pool moment (D.number desk.old)))) }
 
     ensures grows { D.faults desk.old ≤ D.faults desk.new }
     ensures failed { IsErrOf result CallFault.Keeper → Rose (D.faults desk.old) (D.faults desk.new) }

@@ -1,8 +1,9 @@
 //! The pools of one server, served by several workers.
-ghost use Rattle.std.specs.Prelude.{◌≡◌, ◌≤◌, length, map, MatchResult, IfOk, IsTrue};
+ghost use Rattle.std.specs.Prelude.{◌≡◌, ◌≤◌, ℕ, length, map, slice_get, MatchResult, IfOk, IfSome, IsTrue};
 ghost use Rattle.sw_base.specs.Listeners.{FailsToListen};
+ghost use Rattle.swarm_model.specs.Bases.{empty_base};
 ghost use Rattle.swarm_model.specs.Settings.{are_settings};
-ghost use Rattle.swarm_history.specs.Machines.{logs_of, pools_of};
+ghost use Rattle.swarm_history.specs.Machines.{logs_of, pools_of, start_at, starts_of};
 ghost use Rattle.swarm_workers.specs.Shared.{ServesShared};
 
 use crate::WorkStop;
@@ -52,6 +53,7 @@ pub fn serve_shared<
         (λ served. ServesShared address.now workers connections settings.now (C.ahead clock.now) (N.state listener.old) (N.state listener.new) (logs_of (map M.kept served.1.items)) served.0)
         (λ fault. FailsToListen fault (N.state listener.old) (N.state listener.new)) }
     ensures pools { IfOk result (λ served. pools_of (map M.kept served.1.items) ≡ settings.now.pools) }
+    ensures starts { IfOk result (λ served. (p : ℕ) → IfSome (slice_get settings.now.pools p) (λ pool. start_at (starts_of (map M.kept served.1.items)) p ≡ empty_base pool)) }
 {
     let (server, passes) = Server::<M, K>::new(alloc, settings, keepers)?;
     let (first, others) = split_all(alloc, &server, passes, workers)?;

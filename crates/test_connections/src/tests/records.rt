@@ -2,6 +2,7 @@
 
 use crate::tests::NEW_TASK;
 use dimensions::Text;
+use pool_loading::StorePart;
 use std::alloc::Global;
 use std::test::Fail;
 use sw_base::{MemoryLink, StartFault, StepClock};
@@ -71,12 +72,22 @@ fn a_line_that_was_replaced(rt: HostRuntime) -> Result<(), Fail> {
 
     store.replace_line(FOLDER, LAB, 0, Text::from_str(alloc, "x")?);
     let (ended, output) = run_over(alloc, &mut store, NEW_TASK)?;
-    assert_eq!(rt; ended, Err(LoadFault::BadStore { place: 1, at: 0 }));
+    let refused = LoadFault::BadStore {
+        place: 1,
+        part: StorePart::Lines,
+        at: 0,
+    };
+    assert_eq!(rt; ended, Err(refused));
     assert_eq!(rt; output.len(), 0);
 
     store.replace_line(FOLDER, DEFAULT, 1, Text::from_str(alloc, "x")?);
     let (ended, output) = run_over(alloc, &mut store, NEW_TASK)?;
-    assert_eq!(rt; ended, Err(LoadFault::BadStore { place: 0, at: 1 }));
+    let refused = LoadFault::BadStore {
+        place: 0,
+        part: StorePart::Lines,
+        at: 1,
+    };
+    assert_eq!(rt; ended, Err(refused));
     assert_eq!(rt; output.len(), 0);
     assert_eq!(rt; store.lines(FOLDER, DEFAULT).len(), 2);
     assert_eq!(rt; store.lines(FOLDER, LAB).len(), 1);

@@ -3,7 +3,7 @@ use Rattle.std.proofs.Common.{◌≡◌, ◌∷◌, [], length, refl, arith, sym
 use Rattle.std.proofs.lemmas.List.{length_push}
 use Rattle.shared_doors.specs.Machines.{lasting_in, log_in}
 use Rattle.shared_doors.proofs.ByPlace.{all_front}
-use Rattle.shared_doors.proofs.LastPools.{behind, closed_more, last_alone, last_own, no_items, one_less, turned}
+use Rattle.shared_doors.proofs.LastPools.{behind, closed_more, last_alone, last_own, last_standing, no_items, one_less, turned}
 use Rattle.shared_doors.proofs.closing.close_all.Goals as goal
 
 pub take_last-pass-requires : goal.take_last-pass-requires
@@ -25,6 +25,7 @@ close_one-machine-requires g c =
     let even : length ys ≡ length xs = omega (arith, less_t, less_p, i.count) in
     record {
       own = last_own (lasting_in g.M.Machine.kept) c.args.turnstiles.items xs i.closed.0 c.args.passes.items ys i.closed.1 t (Some p) p c.requires.own is_t is_p refl even;
+      standing = last_standing (lasting_in g.M.Machine.kept) c.args.turnstiles.items xs i.closed.0 c.args.passes.items ys i.closed.1 t (Some p) p c.requires.own is_t is_p refl even c.requires.standing;
       alone = last_alone (lasting_in g.M.Machine.kept) c.args.turnstiles.items xs i.closed.0 c.args.passes.items ys i.closed.1 t (Some p) p c.requires.own is_t is_p refl even c.requires.alone;
     }
 

@@ -8,7 +8,7 @@ use Rattle.swarm_history.specs.Calls.{call_of}
 use Rattle.turnstile.specs.Passes.{IsPassOf, fixed_of, number, of_value, pass_of, raised, seen, told}
 use Rattle.shared_doors.specs.Desks.{no_state}
 use Rattle.shared_doors.specs.Machines.{lasting_in}
-use Rattle.shared_doors.proofs.Desks.{lock_after, log_now, ready_first, settings_at, view_after}
+use Rattle.shared_doors.proofs.Desks.{begins_at, lock_after, log_now, ready_first, settings_at, view_after}
 use Rattle.shared_doors.proofs.SharedPoints.{never_fails, turn_call}
 use Rattle.shared_doors.proofs.shared_desk.take_turn.Goals as goal
 
@@ -44,7 +44,7 @@ returns-clause-done g c =
     turn_call (empty_base (fixed_of (lasting_in g.M.Machine.kept) lock).settings) there.start
     (the_call (number c.args.pass)) (the_call (number (pass_of t))) (seen c.args.pass) (raised t) there.log (seen c.leave.result)
     (of_value (λ k. g.M.Machine.kept k.machine) no_state next) (told c.args.pass) c.serve-result.result
-    e.found e.fresh (c.serve-result.ensures.history.opened ∙ ap empty_base (settings_at (λ k. g.M.Machine.kept k.machine) g.K.Keeper.SURE t ready lock e.lock))
+    e.found e.fresh (begins_at (λ k. g.M.Machine.kept k.machine) g.K.Keeper.SURE t ready lock e.lock)
     c.serve-result.ensures.start (ap the_call e.same.0.0)
     (log_now (λ k. g.M.Machine.kept k.machine) g.K.Keeper.SURE t ready)
     (log_now (λ k. g.M.Machine.kept k.machine) g.K.Keeper.SURE next c.serve-result.ensures.ready ∙ sym c.leave.ensures.seen)

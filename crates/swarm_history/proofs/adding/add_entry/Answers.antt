@@ -1,6 +1,6 @@
 -- The rows, the log and the bytes after a commit are those of the entry, and so are the records.
+use Rattle.pool_laws.proofs.MachineLaws.{is_sound}
 use Rattle.swarm_history.proofs.Additions.{adds_from, adds_held, adds_records, adds_no_others}
-use Rattle.swarm_history.proofs.OwnPoints.{sound_history}
 use Rattle.swarm_history.proofs.Bringing.{still_some}
 use Rattle.swarm_history.proofs.adding.add_entry.Goals as goal
 
@@ -10,7 +10,7 @@ returns-clause-added g c = adds_from _ _ _ _ _ c.in-Ok.ensures.ok c.commit.ensur
 pub returns-clause-held : goal.returns-clause-held
 returns-clause-held g c =
     let k = g.M.Machine.kept c.args.machine.now in
-    adds_held k _ _ c.args.entry _ c.in-Ok.ensures.ok c.commit.ensures.added (sound_history k c.requires.history) c.requires.held
+    adds_held k _ _ c.args.entry _ c.in-Ok.ensures.ok c.commit.ensures.added (is_sound k c.requires.history) c.requires.held
     (λ new. still_some (λ b. b.now) c.args.bytes (c.requires.whole new))
 
 pub returns-clause-records : goal.returns-clause-records
@@ -22,4 +22,4 @@ pub returns-clause-no_other_blobs : goal.returns-clause-no_other_blobs
 returns-clause-no_other_blobs g c =
     let k = g.M.Machine.kept c.args.machine.now in
     adds_no_others k _ _ c.args.entry _ (g.K.Keeper.tables c.args.keeper.now) _ c.in-Ok.ensures.ok c.commit.ensures.added c.in_ok-keep.ensures.keeps
-    c.requires.history (sound_history k c.requires.history) c.requires.follows
+    c.requires.history (is_sound k c.requires.history) c.requires.follows

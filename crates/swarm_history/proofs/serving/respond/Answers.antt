@@ -5,8 +5,8 @@ use Rattle.pool_laws.proofs.Carrying.{new_is_brought}
 use Rattle.pool_laws.proofs.Legality.{answer_follows}
 use Rattle.pool_laws.proofs.NamedBlobs.{named_blobs_are_there}
 use Rattle.pool_laws.specs.NamedBlobs.{HasNamed}
+use Rattle.pool_laws.proofs.MachineLaws.{is_sound}
 use Rattle.swarm_history.proofs.Bringing.{answer_bears, entry_carried}
-use Rattle.swarm_history.proofs.OwnPoints.{sound_history}
 use Rattle.swarm_history.proofs.serving.respond.Goals as goal
 
 pub pieces-requires-clause-present : goal.pieces-requires-clause-present
@@ -31,7 +31,7 @@ add-requires g c =
       ready = c.requires.ready;
       number = answer_bears k.pool c.args.call.now.who.now c.args.moment pass c.args.call.now.request.now c.in-Some.entry is;
       follows = answer_follows k.pool c.args.call.now.who.now c.args.moment pass c.args.call.now.request.now c.in-Some.entry
-          (sound_history k c.requires.history) c.requires.not_before c.requires.not_late c.requires.nothing_due c.requires.fits is;
+          (is_sound k c.requires.history) c.requires.not_before c.requires.not_late c.requires.nothing_due c.requires.fits is;
       history = c.requires.history;
       brings = c.brought_by-brought.ensures.brings;
       whole = λ new. c.brought_by-brought.ensures.whole ∙ new_is_brought k.pool c.in-Some.entry.kind new;

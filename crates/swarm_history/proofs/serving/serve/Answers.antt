@@ -14,7 +14,8 @@ use Rattle.pool_doors.specs.declared.door.Answered.{Answered}
 use Rattle.swarm_history.specs.Calls.{call_of}
 use Rattle.swarm_history.specs.Settling.{IsPointAlone, Responds, Settles}
 use Rattle.pool_doors.specs.Doors.{is_log_full}
-use Rattle.swarm_history.proofs.OwnPoints.{sound_history, early_point, due_next, own_next, settled_point, settled_stop}
+use Rattle.pool_laws.proofs.MachineLaws.{is_sound}
+use Rattle.swarm_history.proofs.OwnPoints.{early_point, due_next, own_next, settled_point, settled_stop}
 use Rattle.swarm_history.proofs.serving.serve.Goals as goal
 
 -- what the test of a front says of the log
@@ -43,7 +44,7 @@ returns-then-is_ahead-clause-point g c =
 pub settle-requires : goal.settle-requires
 settle-requires g c =
     let same = c.last.ensures.same ∙ c.length-length.ensures.same in
-    let bound = (sound_history (g.D.Desk.kept c.args.desk.now) c.length-length.ensures.history).last in
+    let bound = (is_sound (g.D.Desk.kept c.args.desk.now) c.length-length.ensures.history).last in
     let last = c.last.ensures.last ∙ ap (λ d. (g.D.Desk.kept d).pool.last) c.length-length.ensures.same in
     rw same (record {
       ready = c.requires.ready;
@@ -55,7 +56,7 @@ settle-requires g c =
 pub respond-requires : goal.respond-requires
 respond-requires g c =
     let same = c.last.ensures.same ∙ c.length-length.ensures.same in
-    let bound = (sound_history (g.D.Desk.kept c.args.desk.now) c.length-length.ensures.history).last in
+    let bound = (is_sound (g.D.Desk.kept c.args.desk.now) c.length-length.ensures.history).last in
     let last = c.last.ensures.last ∙ ap (λ d. (g.D.Desk.kept d).pool.last) c.length-length.ensures.same in
     let settles = c.in_ok-settle.ensures.settles in
     record {
@@ -83,7 +84,7 @@ returns-in_err-settle-clause-stopped g c =
     (settled_stop the_call c.max-moment.result k m c.length-length.ensures.history behind at
     (subst (λ d. Settles (g.D.Desk.number d) c.max-moment.result (g.D.Desk.kept d) m) same c.in_err-settle.ensures.settles) m.log (is_log_full f) refl
     (due_next (is_log_full f) _ (due_entry m.pool c.max-moment.result the_call.pass) _
-    (subst (λ d. OnTrue (is_log_full f) (LacksRoom m.pool m.log (due_entry m.pool c.max-moment.result (g.D.Desk.number d)))) same c.in_err-settle.ensures.full)))
+    (subst (λ d. OnTrue (is_log_full f) (LacksRoom m.start.rows m.log (due_entry m.pool c.max-moment.result (g.D.Desk.number d)))) same c.in_err-settle.ensures.full)))
 
 pub returns-clause-point : goal.returns-clause-point
 returns-clause-point g c =
@@ -119,4 +120,4 @@ returns-clause-stopped g c =
     (own_next (is_log_full f) _ (due_entry m.pool c.max-moment.result the_call.pass) _
     (subst (λ d. due_entry m.pool c.max-moment.result (g.D.Desk.number d) ≡ None) same c.in_ok-settle.ensures.nothing_due) lacks))
     c.respond.ensures.stays
-    (subst (λ (p : ℕ). IfErr c.respond.result (λ f. OnTrue (is_log_full f) (LacksRoom m.pool m.log (answer m.pool c.args.call.now.who.now c.max-moment.result p c.args.call.now.request.now).entry))) number c.respond.ensures.full)
+    (subst (λ (p : ℕ). IfErr c.respond.result (λ f. OnTrue (is_log_full f) (LacksRoom m.start.rows m.log (answer m.pool c.args.call.now.who.now c.max-moment.result p c.args.call.now.request.now).entry))) number c.respond.ensures.full)

@@ -4,11 +4,11 @@ use Rattle.swarm_model.specs.Deadlines.{due_entry}
 use Rattle.swarm_model.specs.Points.{IsSettled}
 use Rattle.pool_laws.proofs.Carrying.{due_brings}
 use Rattle.pool_laws.proofs.Legality.{due_follows, due_settled}
+use Rattle.pool_laws.proofs.MachineLaws.{is_sound}
 use Rattle.swarm_history.specs.Records.{HoldsNoOthers}
 use Rattle.swarm_history.specs.Settling.{Adds}
 use Rattle.swarm_history.proofs.Additions.{fewer_left, settles_more}
 use Rattle.swarm_history.proofs.Bringing.{none_new}
-use Rattle.swarm_history.proofs.OwnPoints.{sound_history}
 use Rattle.swarm_history.proofs.settling.settle.Goals as goal
 
 pub add-requires : goal.add-requires
@@ -20,7 +20,7 @@ add-requires g c =
     rw c.due.ensures.same (record {
       ready = c.loop-entry.invariant.ready;
       number = (due_settled k.pool _ pass c.in-Some.entry due).1;
-      follows = due_follows k.pool _ pass c.in-Some.entry (sound_history k history) (omega arith) due;
+      follows = due_follows k.pool _ pass c.in-Some.entry (is_sound k history) (omega arith) due;
       history = history;
       brings = tt;
       whole = none_new k.pool c.in-Some.entry.kind (due_brings k.pool _ pass c.in-Some.entry due);

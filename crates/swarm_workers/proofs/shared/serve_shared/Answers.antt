@@ -2,7 +2,7 @@ use Rattle.std.proofs.Common.{arith, ◌∙◌}
 use Rattle.shared_doors.specs.Machines.{lasting_in}
 use Rattle.swarm_workers.specs.Crews.{HasWorked}
 use Rattle.swarm_workers.proofs.Crewing.{same_settings, new_settings, new_calls, as_many, some_of, out_enough, above_map, below_map, written, count_written, doors_after, alone_after, served_all}
-use Rattle.swarm_workers.proofs.Closing.{kept_at, none_past, settings_closed}
+use Rattle.swarm_workers.proofs.Closing.{kept_at, none_past, closed_begin, settings_closed}
 use Rattle.swarm_workers.proofs.shared.serve_shared.Goals as goal
 
 pub run_workers-requires-clause-settings : goal.run_workers-requires-clause-settings
@@ -60,3 +60,7 @@ returns-clause-serves g c =
 
 pub returns-clause-pools : goal.returns-clause-pools
 returns-clause-pools g c = settings_closed (lasting_in g.M.Machine.kept) _ _ _ _ c.in-Ok.ensures.closed ∙ c.in_ok-server.ensures.settings
+
+pub returns-clause-starts : goal.returns-clause-starts
+returns-clause-starts g c =
+    closed_begin (lasting_in g.M.Machine.kept) _ _ _ _ _ c.in-Ok.ensures.closed c.in_ok-server.ensures.settings

@@ -4,7 +4,7 @@ use Rattle.std.specs.List.{sum_by}
 use Rattle.std.proofs.lemmas.List.{length-map}
 use Rattle.swarm_history.specs.Records.{AreRecordsOf}
 use Rattle.swarm_history.proofs.Keepers.{lines_kept}
-use Rattle.swarm_history.proofs.LoadedMachines.{loaded_held, loaded_records, fresh_door, nothing_seen}
+use Rattle.swarm_history.proofs.LoadedMachines.{few_pools, loaded_held, loaded_records, loaded_bases, fresh_door, nothing_seen, nothing_before}
 use Rattle.swarm_history.proofs.plain_door.PlainDoor.new.Goals as goal
 
 pub invariant_of-result : goal.invariant_of-result
@@ -12,7 +12,9 @@ invariant_of-result g c =
     let machines = map g.M.Machine.kept c.in-Ok-load_machines.machines.items in
     let tables = map g.K.Keeper.tables c.args.keepers.items in
     let are = c.in-Ok-load_machines.ensures.loaded in
+    let all = c.in-Ok-load_machines.ensures.count in
     record {
+      few = omega (arith, all, few_pools c.args.settings.now c.requires.rules);
       paired = c.load_machines.ensures.all_stay ∙ c.requires.keepers ∙ sym c.in-Ok-load_machines.ensures.count;
       held = loaded_held c.args.settings.now.pools tables machines are;
       records = subst (λ told. AreRecordsOf told machines) (sym c.load_machines.ensures.stays) (loaded_records c.args.settings.now.pools tables machines are);
@@ -36,3 +38,15 @@ returns-in-Ok-load_machines-clause-lines g c =
 
 pub returns-in-Ok-load_machines-clause-nothing : goal.returns-in-Ok-load_machines-clause-nothing
 returns-in-Ok-load_machines-clause-nothing g c = λ sure. nothing_seen (map g.M.Machine.kept c.in-Ok-load_machines.machines.items) (c.in-Ok-load_machines.ensures.nothing sure)
+
+pub returns-in-Ok-load_machines-clause-bases : goal.returns-in-Ok-load_machines-clause-bases
+returns-in-Ok-load_machines-clause-bases g c =
+    let machines = map g.M.Machine.kept c.in-Ok-load_machines.machines.items in
+    loaded_bases c.args.settings.now.pools (map g.K.Keeper.tables c.args.keepers.items) machines
+    (length-map c.in-Ok-load_machines.machines.items g.M.Machine.kept ∙ c.in-Ok-load_machines.ensures.count) c.in-Ok-load_machines.ensures.loaded
+
+pub returns-in-Ok-load_machines-clause-opening : goal.returns-in-Ok-load_machines-clause-opening
+returns-in-Ok-load_machines-clause-opening g c = λ sure.
+    let machines = map g.M.Machine.kept c.in-Ok-load_machines.machines.items in
+    nothing_before c.args.settings.now.pools (map g.K.Keeper.tables c.args.keepers.items) machines
+    (length-map c.in-Ok-load_machines.machines.items g.M.Machine.kept ∙ c.in-Ok-load_machines.ensures.count) c.in-Ok-load_machines.ensures.loaded (c.in-Ok-load_machines.ensures.nothing sure)

@@ -38,6 +38,7 @@ call_machine-requires-clause-records g c =
 
 pub invariant_of-self : goal.invariant_of-self
 invariant_of-self g c = record {
+  few = let few = c.args.self.now.few in omega (arith, few, length-set c.args.self.now.machines.items c.args.place c.call_machine.new.machine);
   paired = length-set c.args.self.now.keepers.items c.args.place c.call_machine.new.keeper ∙ c.args.self.now.paired ∙ sym (length-set c.args.self.now.machines.items c.args.place c.call_machine.new.machine);
   held = all_held g.M.Machine.kept c.args.self.now.machines.items c.args.place c.call_machine.new.machine c.args.self.now.held c.call_machine.ensures.held;
   records = records_set g.M.Machine.kept g.K.Keeper.tables c.args.self.now.machines.items c.args.self.now.keepers.items c.args.place
