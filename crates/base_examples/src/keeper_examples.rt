@@ -1,24 +1,30 @@
-//! Keepers at work: their lines, their blobs and their failures.
+//! Keepers at work: their lines, their bases, their blobs and their failures.
 ghost use Rattle.std.specs.Prelude.{◌≡◌, ◌∷◌, [], Some, None, Err, ⊤, false, codes};
-ghost use Rattle.swarm_keeper.specs.Tables.{Counts, appended};
+ghost use Rattle.swarm_keeper.specs.Tables.{Counts, appended, replaced, nothing};
 ghost use Rattle.swarm_keeper.specs.Stores.{Detaches, new_store};
 ghost use Rattle.swarm_keeper.specs.declared.keeper.KeeperFault.TheVariants.{Failed};
 
 /// A line is kept behind those before it.
 pub fn a_line_is_kept_behind_those_before_it()
-    ensures { appended (codes "two") None [] None (record { lines = codes "one" ∷ []; blobs = [] })
-        ≡ record { lines = codes "one" ∷ codes "two" ∷ []; blobs = [] } }
+    ensures { appended (codes "two") None [] None (record nothing { lines = codes "one" ∷ [] })
+        ≡ record nothing { lines = codes "one" ∷ codes "two" ∷ [] } }
+{}
+
+/// A base takes the place of another one and of all lines behind it, and the blobs stay.
+pub fn a_base_takes_the_place_of_all_lines()
+    ensures { replaced (codes "new" ∷ []) 3 (record { base = codes "old" ∷ []; count = 1; lines = codes "one" ∷ codes "two" ∷ []; blobs = (codes "c", codes "1") ∷ [] })
+        ≡ record { base = codes "new" ∷ []; count = 3; lines = []; blobs = (codes "c", codes "1") ∷ [] } }
 {}
 
 /// A blob that is removed is kept no more, and all others are.
 pub fn a_blob_that_is_removed_is_kept_no_more()
-    ensures { (appended (codes "line") None [] (Some (codes "d")) (record { lines = []; blobs = (codes "c", codes "1") ∷ (codes "d", codes "2") ∷ [] })).blobs
+    ensures { (appended (codes "line") None [] (Some (codes "d")) (record nothing { blobs = (codes "c", codes "1") ∷ (codes "d", codes "2") ∷ [] })).blobs
         ≡ (codes "c", codes "1") ∷ [] }
 {}
 
 /// A blob that is added stands in place of one of its digest.
 pub fn a_blob_stands_once()
-    ensures { (appended (codes "line") (Some (codes "c")) (codes "3") None (record { lines = []; blobs = (codes "c", codes "1") ∷ (codes "d", codes "2") ∷ [] })).blobs
+    ensures { (appended (codes "line") (Some (codes "c")) (codes "3") None (record nothing { blobs = (codes "c", codes "1") ∷ (codes "d", codes "2") ∷ [] })).blobs
         ≡ (codes "d", codes "2") ∷ (codes "c", codes "3") ∷ [] }
 {}
 

@@ -3,7 +3,7 @@
 
 ghost use Rattle.std.specs.Prelude.{◌≡◌, ◌++◌, ◌∷◌, [], Some, None, true, false, codes};
 ghost use Rattle.command_words.specs.ClientWork.{bots, cancel};
-ghost use Rattle.command_words.specs.Commands.{bot, client, command_of};
+ghost use Rattle.command_words.specs.Commands.{bot, checkpoint, client, command_of};
 ghost use Rattle.base_examples.specs.WordExamples.{asked_of, small_bot};
 
 /// A run is to stop only where the flag `--kill` asks for it.
@@ -21,6 +21,12 @@ pub fn at_most_200_bots_are_listed()
 /// A bot has its caches and their bytes by options of their own, and other options by default.
 pub fn caches_and_their_bytes_are_two_options()
     ensures { command_of (asked_of (codes "bot") ++ codes "--id" ∷ codes "b1" ∷ codes "--pool" ∷ codes "lab" ∷ codes "--caches" ∷ codes "2" ∷ codes "--cache-bytes" ∷ codes "1000000" ∷ []) ≡ Some (bot small_bot) }
+{}
+
+/// A checkpoint needs the settings that name the folder of the records.
+pub fn a_checkpoint_needs_its_settings()
+    ensures named { command_of (codes "checkpoint" ∷ codes "--settings" ∷ codes "lab.toml" ∷ []) ≡ Some (checkpoint (codes "lab.toml")) }
+    ensures left_out { command_of (codes "checkpoint" ∷ []) ≡ None }
 {}
 
 /// Words that the grammar doesn't take ask for no command.

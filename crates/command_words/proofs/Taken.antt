@@ -14,9 +14,9 @@ use Rattle.clap.specs.Faults.{defaults_fault, entered_fault, fault_of, level_fau
 use Rattle.clap.specs.declared.builder.value_parser.ValueParser.TheVariants as vp
 use Rattle.command_words.specs.Values.{both_of, client_in, number_at, number_in}
 use Rattle.command_words.specs.ClientWork.{WorkValue, bots_app, bots_in, cancel_app, cancel_in, collect_app, collect_in, tasks_app, tasks_in, trigger_app, trigger_in}
-use Rattle.command_words.specs.Grammar.{bot_app, drill_app, serve_app, swarm_app}
+use Rattle.command_words.specs.Grammar.{bot_app, checkpoint_app, drill_app, serve_app, swarm_app}
 use Rattle.command_words.specs.declared.command.Command.{Command}
-use Rattle.command_words.specs.Commands.{value_of, bot_in, client_with, command_in, drill_in, serve_in}
+use Rattle.command_words.specs.Commands.{value_of, bot_in, checkpoint_in, client_with, command_in, drill_in, serve_in}
 use Rattle.command_words.proofs.Rows.{Each, Gives, Goods, Own, value_at}
 use Rattle.command_words.proofs.Walks.{Leaves, NotHelp, level_leaves, check_parts, no_kinds, walk-stops}
 
@@ -60,6 +60,14 @@ serve_some rows l =
 
 serve_own : Each (Own (leaf serve_app).rules) (leaf serve_app).rules
 serve_own = (own _ _ refl refl refl, (own _ _ refl refl refl, (own _ _ refl refl refl, (own _ _ refl refl refl, (own _ _ refl refl refl, tt)))))
+
+checkpoint_some : (rows : List Row) → Leaves (leaf checkpoint_app).rules rows → is_some (checkpoint_in rows) ≡ true
+checkpoint_some rows l =
+    let c = (leaf checkpoint_app).rules in
+    map_some _ _ (text_some c rows l.goods (codes "settings") _ refl (l.required.0 refl))
+
+checkpoint_own : Each (Own (leaf checkpoint_app).rules) (leaf checkpoint_app).rules
+checkpoint_own = (own _ _ refl refl refl, (own _ _ refl refl refl, tt))
 
 client_some : (c : List Rule) (rows : List Row) → Goods c rows → (a b : Rule) → arg_by_id c (codes "server") ≡ Some a → arg_by_id c (codes "caller") ≡ Some b
     → has_row (codes "server") rows ≡ true → has_row (codes "caller") rows ≡ true → is_some (client_in rows) ≡ true
@@ -188,22 +196,25 @@ subs_ask = (
   (
     (λ name a n words f. serve_some _ (level_leaves (leaf serve_app) serve_own refl words f)),
     (
-      (λ name a n words f. bot_some _ (level_leaves (leaf bot_app) bot_own refl words f)),
+      (λ name a n words f. checkpoint_some _ (level_leaves (leaf checkpoint_app) checkpoint_own refl words f)),
       (
-        (λ name a n words f. trigger_some _ (level_leaves (leaf trigger_app) trigger_own refl words f)),
+        (λ name a n words f. bot_some _ (level_leaves (leaf bot_app) bot_own refl words f)),
         (
-          (λ name a n words f. collect_some _ (level_leaves (leaf collect_app) collect_own refl words f)),
+          (λ name a n words f. trigger_some _ (level_leaves (leaf trigger_app) trigger_own refl words f)),
           (
-            (λ name a n words f. cancel_some _ (level_leaves (leaf cancel_app) cancel_own refl words f)),
+            (λ name a n words f. collect_some _ (level_leaves (leaf collect_app) collect_own refl words f)),
             (
-              (λ name a n words f. tasks_some _ (level_leaves (leaf tasks_app) tasks_own refl words f)),
+              (λ name a n words f. cancel_some _ (level_leaves (leaf cancel_app) cancel_own refl words f)),
               (
-                (λ name a n words f. bots_some _ (level_leaves (leaf bots_app) bots_own refl words f)),
+                (λ name a n words f. tasks_some _ (level_leaves (leaf tasks_app) tasks_own refl words f)),
                 (
-                  (λ name a n words f. drill_some _ (level_leaves (leaf drill_app) drill_own refl words f)),
+                  (λ name a n words f. bots_some _ (level_leaves (leaf bots_app) bots_own refl words f)),
                   (
-                    (λ name a n words f. absurd (is_help name true a n)),
-                    tt,
+                    (λ name a n words f. drill_some _ (level_leaves (leaf drill_app) drill_own refl words f)),
+                    (
+                      (λ name a n words f. absurd (is_help name true a n)),
+                      tt,
+                    ),
                   ),
                 ),
               ),

@@ -28,6 +28,8 @@ pub data CommandValue : Type 0 where
   session : Option Text → CommandValue
   -- settings, address, workers, connections
   serve : Option Text → Text → ℕ → ℕ → CommandValue
+  -- settings
+  checkpoint : Text → CommandValue
   bot : BotOptions → CommandValue
   -- server, caller, what is done there
   client : Text → Text → WorkValue → CommandValue
@@ -51,6 +53,7 @@ options_of b = record {
 abbrev pub value_of : Command → CommandValue
 value_of (command.Session s) = session (option_map string_bytes s.settings)
 value_of (command.Serve s) = serve (option_map string_bytes s.settings) (string_bytes s.address) s.workers s.connections
+value_of (command.Checkpoint c) = checkpoint (string_bytes c.settings)
 value_of (command.Bot b) = bot (options_of b)
 value_of (command.Client c) = client (string_bytes c.server) (string_bytes c.caller) (work_of c.work)
 value_of (command.Drill d) = drill d.cycles d.start
@@ -67,6 +70,7 @@ pub record BotRanges (b : BotOptions) : Type 0 where
 abbrev pub HasRanges : CommandValue → Type 0
 HasRanges (session settings) = ⊤
 HasRanges (serve settings address workers connections) = (1 ≤ workers) × (workers ≤ 32) × (1 ≤ connections) × (connections ≤ 1000000)
+HasRanges (checkpoint settings) = ⊤
 HasRanges (bot b) = BotRanges b
 HasRanges (client server caller work) = HasWorkRanges work
 HasRanges (drill cycles start) = (1 ≤ cycles) × (cycles ≤ 10000) × (start ≤ 2147483647)
@@ -78,6 +82,9 @@ abbrev pub serve_in : List Row → Option CommandValue
 serve_in rows = option_map (λ p. serve (first_of (codes "settings") rows) p.0 p.1.0 p.1.1)
     (both_of (first_of (codes "address") rows)
     (both_of (number_at (codes "workers") 1 32 rows) (number_at (codes "connections") 1 1000000 rows)))
+
+abbrev pub checkpoint_in : List Row → Option CommandValue
+checkpoint_in rows = option_map (λ settings. checkpoint settings) (first_of (codes "settings") rows)
 
 -- the id of a bot and its pool
 abbrev pub place_in : List Row → Option (Text × Text)
@@ -123,9 +130,10 @@ abbrev pub command_in : Text → List Row → Option CommandValue
 command_in name rows =
     if bytes_eq name (codes "session") then session_in rows
     else (if bytes_eq name (codes "serve") then serve_in rows
+    else (if bytes_eq name (codes "checkpoint") then checkpoint_in rows
     else (if bytes_eq name (codes "bot") then bot_in rows
     else (if bytes_eq name (codes "drill") then drill_in rows
-    else client_with rows (work_in name rows))))
+    else client_with rows (work_in name rows)))))
 
 -- the grammar takes the words
 abbrev pub are_taken : List Text → Bool

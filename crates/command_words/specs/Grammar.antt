@@ -16,6 +16,9 @@ serve_app = with_rule (with_rule (with_rule (with_rule (new_app (codes "serve"))
     (number_rule (codes "workers") 1 32 (codes "1")))
     (number_rule (codes "connections") 1 1000000 (codes "1000000"))
 
+abbrev pub checkpoint_app : App
+checkpoint_app = with_rule (new_app (codes "checkpoint")) (required_rule (codes "settings"))
+
 -- a bot before its limits
 abbrev pub bot_place_app : App
 bot_place_app = with_rule (with_rule (with_rule (with_server (new_app (codes "bot")))
@@ -45,8 +48,8 @@ abbrev pub program_app : App
 program_app = on_top (λ s. record s { no_binary_name = true; subcommand_required = true }) (new_app (codes "swarm"))
 
 abbrev pub server_app : App
-server_app = with_subcommand (with_subcommand (with_subcommand program_app session_app.top) serve_app.top) bot_app.top
+server_app = with_subcommand (with_subcommand (with_subcommand program_app session_app.top) serve_app.top) checkpoint_app.top
 
 -- the whole command line
 abbrev pub swarm_app : App
-swarm_app = with_subcommand (with_clients server_app) drill_app.top
+swarm_app = with_subcommand (with_clients (with_subcommand server_app bot_app.top)) drill_app.top

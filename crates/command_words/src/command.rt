@@ -22,6 +22,13 @@ pub struct Serve {
     pub connections: u32,
 }
 
+/// `swarm checkpoint`: makes the kept records of a server that does not run begin anew.
+#[derive(Drop)]
+pub struct Checkpoint {
+    /// The path of the settings' file, which names the folder of the records.
+    pub settings: String,
+}
+
 /// `swarm bot`: runs the tasks of a server on this machine.
 #[derive(Drop)]
 pub struct Bot {
@@ -68,6 +75,7 @@ pub struct Drill {
 pub enum Command {
     Session(Session),
     Serve(Serve),
+    Checkpoint(Checkpoint),
     Bot(Bot),
     Client(Client),
     Drill(Drill),

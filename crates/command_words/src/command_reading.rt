@@ -3,11 +3,11 @@
 ghost use Rattle.std.specs.Prelude.{◌≡◌, IfOk, IfSome, option_and_then, option_map};
 ghost use Rattle.clap.specs.Words.{found_of, rows_of, subcommand_rows_of};
 ghost use Rattle.command_words.specs.ClientWork.{work_in};
-ghost use Rattle.command_words.specs.Commands.{HasRanges, client_with, command_in, drill_in, serve_in, session_in, value_of};
+ghost use Rattle.command_words.specs.Commands.{HasRanges, checkpoint_in, client_with, command_in, drill_in, serve_in, session_in, value_of};
 
 use crate::bot_reading::bot;
 use crate::client_work::read_work;
-use crate::command::{Client, Command, Drill, Serve, Session};
+use crate::command::{Checkpoint, Client, Command, Drill, Serve, Session};
 use crate::values::{client, number, subcommand, text};
 use clap::ArgMatches;
 use std::alloc::{AllocError, Global};
@@ -38,6 +38,16 @@ fn serve(alloc: Global, found: &ArgMatches<'_>) -> Result<Option<Command>, Alloc
             workers,
             connections,
         }))),
+        None => Ok(None),
+    }
+}
+
+fn checkpoint(alloc: Global, found: &ArgMatches<'_>) -> Result<Option<Command>, AllocError>
+    ensures value { IfOk result (λ c. option_map value_of c ≡ checkpoint_in (rows_of (found_of found.now))) }
+    ensures ranges { IfOk result (λ c. IfSome c (λ c. HasRanges (value_of c))) }
+{
+    match text(alloc, found, "settings")? {
+        Some(settings) => Ok(Some(Command::Checkpoint(Checkpoint { settings }))),
         None => Ok(None),
     }
 }
@@ -83,6 +93,7 @@ fn named(alloc: Global, name: &str, found: &ArgMatches<'_>) -> Result<Option<Com
     match name {
         "session" => session(alloc, found),
         "serve" => serve(alloc, found),
+        "checkpoint" => checkpoint(alloc, found),
         "bot" => bot(alloc, found),
         "drill" => Ok(drill(found)),
         _ => client_command(alloc, name, found),

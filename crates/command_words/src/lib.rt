@@ -22,5 +22,5 @@ mod values;
 mod words;
 
 pub use client_work::ClientWork;
-pub use command::{Bot, Client, Command, Drill, Serve, Session};
+pub use command::{Bot, Checkpoint, Client, Command, Drill, Serve, Session};
 pub use words::{Words, read_words};

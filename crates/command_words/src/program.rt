@@ -10,7 +10,7 @@ ghost use Rattle.command_words.specs.Grammar.{program_app, server_app, swarm_app
 use crate::arguments::{command, enter};
 use crate::bot_command::bot;
 use crate::client_work::with_clients;
-use crate::server_commands::{drill, serve, session};
+use crate::server_commands::{checkpoint, drill, serve, session};
 use clap::{ArgMatches, Command, Error};
 use std::alloc::{AllocError, Global};
 
@@ -37,14 +37,15 @@ fn with_servers<'a>(alloc: Global) -> Result<Command<'a>, AllocError>
     let command = program(alloc)?;
     let command = enter(command, session(alloc)?)?;
     let command = enter(command, serve(alloc)?)?;
-    enter(command, bot(alloc)?)
+    enter(command, checkpoint(alloc)?)
 }
 
 fn swarm<'a>(alloc: Global) -> Result<Command<'a>, AllocError>
     ensures app { IfOk result (λ c. app_of c ≡ swarm_app) }
     ensures plain { IfOk result (λ c. (fields_of c).has_globals ≡ false) }
 {
-    let command = with_clients(with_servers(alloc)?, alloc)?;
+    let command = enter(with_servers(alloc)?, bot(alloc)?)?;
+    let command = with_clients(command, alloc)?;
     enter(command, drill(alloc)?)
 }
 

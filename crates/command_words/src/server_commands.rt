@@ -1,12 +1,12 @@
-//! The commands that serve by themselves: session, serve and drill.
+//! The commands over pools of one's own: session, serve, checkpoint and drill.
 
 ghost use Rattle.std.specs.Prelude.{◌≡◌, IfOk, codes, false};
 ghost use Rattle.clap.specs.Words.{app_of, rule_of};
 ghost use Rattle.clap.specs.declared.builder.command.Command.TheViews.{out-Command as fields_of};
-ghost use Rattle.command_words.specs.Grammar.{drill_app, serve_app, session_app};
+ghost use Rattle.command_words.specs.Grammar.{checkpoint_app, drill_app, serve_app, session_app};
 ghost use Rattle.command_words.specs.Rules.{text_rule};
 
-use crate::arguments::{add, command, defaulted, number, text};
+use crate::arguments::{add, command, defaulted, number, required, text};
 use clap::{Arg, Command};
 use std::alloc::{AllocError, Global};
 
@@ -74,6 +74,26 @@ pub(crate) fn serve<'a>(alloc: Global) -> Result<Command<'a>, AllocError>
             1000000,
             "1000000",
             "How many connections each worker serves before it ends: 1 to 1000000",
+        ),
+    )
+}
+
+pub(crate) fn checkpoint<'a>(alloc: Global) -> Result<Command<'a>, AllocError>
+    ensures app { IfOk result (λ c. app_of c ≡ checkpoint_app) }
+    ensures plain { IfOk result (λ c. (fields_of c).has_globals ≡ false) }
+{
+    let checkpoint = command(
+        alloc,
+        "checkpoint",
+        "Makes the kept records of a stopped server begin anew from its tasks, bots and blobs as they stand, then prints a line for each pool",
+    );
+    add(
+        checkpoint,
+        required(
+            alloc,
+            "settings",
+            "FILE",
+            "The settings of the server, a TOML file with a `store`, the folder of the records",
         ),
     )
 }

@@ -1,10 +1,13 @@
--- Logs of pools.
+-- Logs of pools, and where they begin.
 use Rattle.std.specs.Prelude.{ℕ, List, [], ◌∷◌, None, codes}
 use Rattle.swarm_model.specs.declared.pool_settings.PoolSettings.{PoolSettings}
 use Rattle.swarm_model.specs.declared.task_state.TaskState.TheVariants.{Pending}
 use Rattle.swarm_model.specs.declared.entry.Entry.{Entry}
 use Rattle.swarm_model.specs.declared.entry.EntryKind.{EntryKind}
 use Rattle.swarm_model.specs.declared.entry.EntryKind.TheVariants as kind
+use Rattle.swarm_model.specs.Bases.{Base, empty_base}
+use Rattle.swarm_model.specs.Effects.{opening}
+use Rattle.swarm_model.specs.History.{replay}
 use Rattle.swarm_model.specs.Examples.{settings, small_task}
 
 abbrev pub at_1000 : EntryKind → Entry
@@ -17,9 +20,12 @@ accepts task = at_1000 (kind.New task (codes "ana") (small_task 600) Pending 0 N
 abbrev pub one_of_two_canceled : List Entry
 one_of_two_canceled = accepts 1 ∷ accepts 2 ∷ at_1000 (kind.Cancel 2) ∷ []
 
--- two pools, and their logs
+-- two pools, where their logs begin, and the logs: nothing led to the first, and seven entries to the rows of the second
 abbrev pub two_pools : List PoolSettings
 two_pools = settings ∷ record settings { name = codes "lab" } ∷ []
+
+abbrev pub two_starts : List Base
+two_starts = empty_base settings ∷ record { rows = replay (opening settings) one_of_two_canceled; count = 7 } ∷ []
 
 abbrev pub two_logs : List (List Entry)
 two_logs = one_of_two_canceled ∷ [] ∷ []

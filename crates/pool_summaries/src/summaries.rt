@@ -1,6 +1,7 @@
-//! The lines of a summary.
-ghost use Rattle.std.specs.Prelude.{◌≡◌, ◌<◌, ◌^◌, ◌++◌, map, length, sum_by, IfOk, OnOk, string_bytes, slice_index_or, []};
-ghost use Rattle.pool_summaries.specs.Summaries.{pool_line, count_at, count_line, count_lines, named_summary, summary_of};
+//! The lines that are printed of pools.
+ghost use Rattle.std.specs.Prelude.{◌≡◌, ◌<◌, ◌^◌, ◌++◌, map, sum_by, IfOk, OnOk, string_bytes, slice_index_or, []};
+ghost use Rattle.swarm_model.specs.Bases.{Base};
+ghost use Rattle.pool_summaries.specs.Summaries.{pool_line, count_at, count_line, count_lines, front_line, told_of, all_told, summary_of, fronts_of};
 
 use std::alloc::{AllocError, Global};
 use swarm_model::{Machine, PoolSettings, STATES, TaskState};
@@ -15,6 +16,18 @@ fn write_pool_line(
     ensures { OnOk result (string_bytes text.new ≡ string_bytes text.old ++ pool_line name.now entries accepted) }
 {
     write!(text, "pool {name} entries {entries} accepted {accepted}\n")
+}
+
+#[tactic(auto, unfolding(crate::specs::Summaries::front_line))]
+fn write_front_line(
+    text: &mut String,
+    name: &str,
+    entries: u64,
+    tasks: u64,
+) -> Result<(), AllocError>
+    ensures { OnOk result (string_bytes text.new ≡ string_bytes text.old ++ front_line name.now entries tasks) }
+{
+    write!(text, "pool {name} front {entries} tasks {tasks}\n")
 }
 
 #[tactic(auto, unfolding(crate::specs::Summaries::count_line))]
@@ -41,6 +54,19 @@ fn write_count_lines(text: &mut String, counts: &[u64; 9]) -> Result<(), AllocEr
     Ok(())
 }
 
+fn write_summary(
+    text: &mut String,
+    name: &str,
+    entries: u64,
+    accepted: u64,
+    counts: &[u64; 9],
+) -> Result<(), AllocError>
+    ensures { OnOk result (string_bytes text.new ≡ string_bytes text.old ++ (pool_line name.now entries accepted ++ count_lines counts.now)) }
+{
+    write_pool_line(text, name, entries, accepted)?;
+    write_count_lines(text, counts)
+}
+
 /// The sum of the counts.
 fn total(counts: &[u64; 9]) -> u64
     requires { sum_by (λ count. count) counts.now < 2 ^ 64 }
@@ -53,20 +79,53 @@ fn total(counts: &[u64; 9]) -> u64
     total
 }
 
-/// How many entries the log of a machine has: nothing led to it, and they are all that are counted.
-#[tactic(auto, using(swarm_model::proofs::Histories::front_is_length))]
-fn entry_count<M: Machine>(machine: &M) -> u64
-    ensures { result ≡ length (M.kept machine.now).log }
-{
-    machine.length()
+/// What is told of a pool.
+#[derive(Clone, Copy, Debug, PartialEq, Eq)]
+enum Report {
+    Summary,
+    Front,
 }
 
-fn write_pool<M: Machine>(text: &mut String, name: &str, machine: &M) -> Result<(), AllocError>
-    ensures { OnOk result (string_bytes text.new ≡ string_bytes text.old ++ named_summary name.now (M.kept machine.now).pool.settings (M.kept machine.now).log) }
+/// Adds what is told of one pool.
+fn write_told<M: Machine>(
+    text: &mut String,
+    what: Report,
+    pool: &PoolSettings,
+    machine: &M,
+) -> Result<(), AllocError>
+    requires settings { (M.kept machine.now).pool.settings ≡ pool.now }
+    ensures { OnOk result (string_bytes text.new ≡ string_bytes text.old ++ told_of what pool.now (M.kept machine.now).start (M.kept machine.now).log) }
 {
+    // For the proof: the base has at most so many tasks, and the log so many entries.
+    let _most_tasks = pool.most_tasks;
+    let _most_entries = pool.most_entries;
+    let entries = machine.length();
     let counts = machine.tally();
-    write_pool_line(text, name, entry_count(machine), total(&counts))?;
-    write_count_lines(text, &counts)
+    let tasks = total(&counts);
+    let name = pool.name.as_str();
+    match what {
+        Report::Summary => write_summary(text, name, entries, tasks, &counts),
+        Report::Front => write_front_line(text, name, entries, tasks),
+    }
+}
+
+/// What is told of the pools, of each of which a machine has the rows and the log, in their order.
+fn tell_pools<M: Machine>(
+    alloc: Global,
+    what: Report,
+    pools: &[PoolSettings],
+    machines: &[M],
+) -> Result<String, AllocError>
+    requires { map (λ m. m.pool.settings) (map M.kept machines.now) ≡ pools.now }
+    ensures { IfOk result (λ text. (none : Base) → string_bytes text ≡ all_told what pools.now
+        (λ place. slice_index_or (map (λ m. m.start) (map M.kept machines.now)) place none)
+        (λ place. slice_index_or (map (λ m. m.log) (map M.kept machines.now)) place [])) }
+{
+    let mut text = String::new(alloc);
+    for place in 0..pools.len() {
+        write_told(&mut text, what, &pools[place], &machines[place])?;
+    }
+    Ok(text)
 }
 
 /// The summary of the pools, of each of which a machine has the rows and the log, in their order.
@@ -76,11 +135,23 @@ pub fn summary<M: Machine>(
     machines: &[M],
 ) -> Result<String, AllocError>
     requires { map (λ m. m.pool.settings) (map M.kept machines.now) ≡ pools.now }
-    ensures { IfOk result (λ text. string_bytes text ≡ summary_of pools.now (λ place. slice_index_or (map (λ m. m.log) (map M.kept machines.now)) place [])) }
+    ensures { IfOk result (λ text. (none : Base) → string_bytes text ≡ summary_of pools.now
+        (λ place. slice_index_or (map (λ m. m.start) (map M.kept machines.now)) place none)
+        (λ place. slice_index_or (map (λ m. m.log) (map M.kept machines.now)) place [])) }
 {
-    let mut text = String::new(alloc);
-    for place in 0..pools.len() {
-        write_pool(&mut text, pools[place].name.as_str(), &machines[place])?;
-    }
-    Ok(text)
+    tell_pools(alloc, Report::Summary, pools, machines)
+}
+
+/// The front of each pool and how many tasks it has, a line for each pool, in their order.
+pub fn fronts<M: Machine>(
+    alloc: Global,
+    pools: &[PoolSettings],
+    machines: &[M],
+) -> Result<String, AllocError>
+    requires { map (λ m. m.pool.settings) (map M.kept machines.now) ≡ pools.now }
+    ensures { IfOk result (λ text. (none : Base) → string_bytes text ≡ fronts_of pools.now
+        (λ place. slice_index_or (map (λ m. m.start) (map M.kept machines.now)) place none)
+        (λ place. slice_index_or (map (λ m. m.log) (map M.kept machines.now)) place [])) }
+{
+    tell_pools(alloc, Report::Front, pools, machines)
 }

@@ -1,5 +1,5 @@
 -- How a store's count of faults follows those of its keepers.
-use Rattle.std.proofs.Common.{◌≡◌, ℕ, zero, suc, ◌+◌, ◌<◌, refl, sym, subst, ◌∙◌, Bool, true, false, arith}
+use Rattle.std.proofs.Common.{◌≡◌, ℕ, zero, suc, ◌+◌, ◌<◌, ◌≤◌, refl, sym, subst, ◌∙◌, Bool, true, false, arith}
 use Rattle.std.specs.Prelude.{◌==◌, MatchBool}
 use Rattle.std.proofs.lemmas.Bool.{eqb-true, eq-eqb}
 use Rattle.sw_base.specs.Faults.{Rose}
@@ -60,3 +60,7 @@ counts-more m n a b c first second = by_first (m == 0) refl (n == 0) refl
 -- keepers of which none had failed
 pub rose_above : (m n : ℕ) → m ≡ 0 → Rose m n → 0 < n
 rose_above m n none rose = omega arith
+
+-- a count that rose from where one was that had not fallen
+pub rose_from : (m d n : ℕ) → m ≤ d → Rose d n → Rose m n
+rose_from m d n within rose = omega arith

@@ -5,7 +5,8 @@ use Rattle.sw_base.specs.Link.{LinkState}
 use Rattle.sw_base.specs.Told.{Adds, IsOut}
 use Rattle.swarm_model.specs.declared.pool_settings.Settings.{Settings}
 use Rattle.swarm_model.specs.declared.pool_settings.PoolSettings.{PoolSettings}
-use Rattle.pool_doors.specs.Doors.{Logs, DoorState}
+use Rattle.swarm_model.specs.Bases.{Base}
+use Rattle.pool_doors.specs.Doors.{Logs, DoorState, Writer}
 use Rattle.swarm_http.specs.Answered.{KeepsDoor}
 use Rattle.swarm_history.specs.declared.load_fault.LoadFault.{LoadFault}
 use Rattle.swarm_history.specs.declared.load_fault.LoadFault.TheVariants as load
@@ -37,7 +38,7 @@ keeps_within k within = record { settings = k.settings; writer = k.writer; no_ot
 
 -- after the door was used, the rest is printed
 pub does_all : (what : DoorCommand) (before after : DoorState) (o m : Streams) (t : LinkState) (result : DoorResult) (status : ℕ) (text : List ℕ)
-    → IsUsed what before after o m result → IsFinished result text m.console t status → text ≡ summary_of before.settings.pools after.seen
+    → IsUsed what before after o m result → IsFinished result text m.console t status → text ≡ summary_of before.settings.pools before.writer.starts after.seen
     → CarriesOutWork (work_of what) before after o (with_console m t) status
 does_all command.Session before after o m t (used.Ended good) status text x y is =
     subst (λ (u : Streams). ServesConsole before after o u status) (sym (same_console m t y.1)) (subst (λ (n : ℕ). ServesConsole before after o m n) (sym y.0) x)
@@ -47,16 +48,27 @@ does_all (command.Serve address connections) before after o m t (used.Ended good
 does_all (command.Serve address connections) before after o m t (used.Worked stop) status text x y is = served (record {
   stopped = stop;
   serves = x.0;
-  summary = subst (λ (s : LinkState). PrintsMade (summary_of before.settings.pools after.seen) (work_status stop) s t status) x.1
+  summary = subst (λ (s : LinkState). PrintsMade (summary_of before.settings.pools before.writer.starts after.seen) (work_status stop) s t status) x.1
       (subst (λ (l : List ℕ). PrintsMade l (work_status stop) m.console t status) is y);
 })
 
--- the summary is that of the logs that the door has seen
-pub summary_is : (settings : Settings) (before after : DoorState) (pools : List PoolSettings) (logs : Logs) → pools ≡ settings.pools → before.settings ≡ settings → ((p : ℕ) → logs p ≡ after.seen p)
-    → summary_of pools logs ≡ summary_of before.settings.pools after.seen
-summary_is settings before after pools logs pools_are settings_are same =
-    ap (λ (l : List PoolSettings). summary_of l logs) (pools_are ∙ ap (λ (s : Settings). s.pools) (sym settings_are))
-    ∙ ap (λ (l : Logs). summary_of before.settings.pools l) (fun_ext same)
+-- the same is told of logs that are the same, from where these begin
+pub told_alike : (told : List PoolSettings → (ℕ → Base) → Logs → List ℕ) (pools : List PoolSettings) (starts others : ℕ → Base) (logs mores : Logs)
+    → ((p : ℕ) → starts p ≡ others p) → ((p : ℕ) → logs p ≡ mores p) → told pools starts logs ≡ told pools others mores
+told_alike told pools starts others logs mores first same =
+    ap (λ (b : ℕ → Base). told pools b logs) (fun_ext first) ∙ ap (λ (l : Logs). told pools others l) (fun_ext same)
+
+-- what is told of machines is told of the logs that a door has seen
+pub told_of_door : (told : List PoolSettings → (ℕ → Base) → Logs → List ℕ) (settings : Settings) (before after : DoorState) (pools : List PoolSettings) (starts : ℕ → Base) (logs : Logs) → pools ≡ settings.pools → before.settings ≡ settings
+    → ((p : ℕ) → starts p ≡ before.writer.starts p) → ((p : ℕ) → logs p ≡ after.seen p)
+    → told pools starts logs ≡ told before.settings.pools before.writer.starts after.seen
+told_of_door told settings before after pools starts logs pools_are settings_are first same =
+    ap (λ (l : List PoolSettings). told l starts logs) (pools_are ∙ ap (λ (s : Settings). s.pools) (sym settings_are))
+    ∙ told_alike told before.settings.pools starts before.writer.starts logs after.seen first same
+
+-- a door of which the writer stays begins where it began
+pub begins_there : {m : ℕ} {d e : DoorState} (starts : ℕ → Base) → KeepsDoor m d e → ((p : ℕ) → starts p ≡ e.writer.starts p) → (p : ℕ) → starts p ≡ d.writer.starts p
+begins_there starts keeps first p = first p ∙ ap (λ (w : Writer). w.starts p) keeps.writer
 
 -- no door was made over keepers that keep nothing
 pub none_made : (what : DoorCommand) (settings : Settings) (o : Streams) (t : LinkState) (status : ℕ) (fault : LoadFault) → TellsFault fault o.console t status → fault ≡ load.Memory

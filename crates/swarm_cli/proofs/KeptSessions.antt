@@ -15,8 +15,8 @@ use Rattle.swarm_model.specs.declared.pool_settings.PoolSettings.{PoolSettings}
 use Rattle.swarm_model.specs.MachineState.{MachineState}
 use Rattle.pool_doors.specs.Doors.{DoorState, Writer, IsFreshDoor, HasNoOthersAt, AddsNoOthers}
 use Rattle.swarm_http.specs.Answered.{KeepsDoor}
-use Rattle.swarm_history.specs.Machines.{logs_of}
-use Rattle.swarm_history.specs.Records.{AreKept, IsFirstBadRecord}
+use Rattle.swarm_history.specs.Machines.{logs_of, start_at, starts_of}
+use Rattle.swarm_history.specs.Records.{AreBasesOf, AreKept, IsFirstBadRecord}
 use Rattle.pool_summaries.specs.Summaries.{summary_of}
 use Rattle.swarm_cli.specs.declared.door_command.DoorCommand.{DoorCommand}
 use Rattle.swarm_cli.specs.declared.serving.DoorResult.{DoorResult}
@@ -26,10 +26,10 @@ use Rattle.swarm_cli.proofs.Sessions.{fresh_of_nothing}
 use Rattle.swarm_history.specs.declared.load_fault.LoadFault.{LoadFault}
 use Rattle.swarm_history.specs.declared.load_fault.LoadFault.TheVariants as load
 use Rattle.remote_commands.specs.Streams.{Streams}
-use Rattle.swarm_cli.specs.ServerWork.{ServerWork, start_status}
+use Rattle.swarm_cli.specs.ServerWork.{ServerWork, BeginNew, start_status}
 use Rattle.swarm_cli.specs.Attaching.{Kept, KeepsOthers, CountsKeepers, AttachesAll, AttachesNone, DetachesAll}
 use Rattle.swarm_cli.specs.KeptRecords.{DoesOver, NoDoor, no_memory, failed, bad_store, TellsFault, RunsOver, with_door, without_door, RunsUnserved, RunsKept, served, unserved}
-use Rattle.swarm_cli.proofs.Doing.{with_console, same_console, does_all, summary_is}
+use Rattle.swarm_cli.proofs.Doing.{with_console, same_console, begins_there, does_all, told_of_door}
 use Rattle.swarm_cli.proofs.Places.{all_told, back_again, others_tell, others-trans}
 use Rattle.swarm_cli.proofs.Counts.{counts_some, rose_above}
 
@@ -48,18 +48,23 @@ others_kept {settings = settings} d e is same writes told then adds p has =
 -- a command was carried out over the records
 pub kept_ran : {M : Type 0} (kept : M → MachineState) (machines items : List M) (what : DoorCommand) (settings : Settings) (records_before records_after : List (Option Tables)) (faults : ℕ) (o m : Streams) (t : LinkState)
     (result : DoorResult) (status : ℕ) (pools : List PoolSettings) {n : ℕ} {before after : DoorState}
-    → KeepsDoor n before after → IsFreshDoor settings before.seen before → AreKept records_before before.seen → before.records ≡ records_before
-    → IsUsed what before after o m result → machines ≡ items → ((p : ℕ) → logs_of (map kept items) p ≡ after.seen p)
-    → AreKept records_after after.seen → records_after ≡ after.records → faults ≡ after.faults
-    → pools ≡ settings.pools → IsFinished result (summary_of pools (logs_of (map kept machines))) m.console t status
+    → KeepsDoor n before after → IsFreshDoor settings before.seen before → AreBasesOf settings.pools records_before before.writer.starts → AreKept records_before before.seen → before.records ≡ records_before
+    → IsUsed what before after o m result → machines ≡ items → ((p : ℕ) → start_at (starts_of (map kept items)) p ≡ after.writer.starts p) → ((p : ℕ) → logs_of (map kept items) p ≡ after.seen p)
+    → AreBasesOf after.settings.pools records_after after.writer.starts → AreKept records_after after.seen → records_after ≡ after.records → faults ≡ after.faults
+    → pools ≡ settings.pools → IsFinished result (summary_of pools (start_at (starts_of (map kept machines))) (logs_of (map kept machines))) m.console t status
     → DoesOver (work_of what) settings records_before records_after faults o (with_console m t) status
-kept_ran {M = M} kept machines items what settings records_before records_after faults o m t result status pools {before = before} {after = after} keeps fresh lines records used_so are logs lines_then told counted pools_are concluded = record {
+kept_ran {M = M} kept machines items what settings records_before records_after faults o m t result status pools {before = before} {after = after} keeps fresh bases lines records used_so are starts logs bases_then lines_then told counted pools_are concluded = record {
   before = before;
   after = after;
   fresh_door = fresh;
+  bases_before = bases;
   lines_before = lines;
-  does = does_all what before after o m t result status (summary_of pools (logs_of (map kept machines))) used_so concluded
-      (summary_is settings before after pools (logs_of (map kept machines)) pools_are fresh.settings_are (λ p. ap (λ (l : List M). logs_of (map kept l) p) are ∙ logs p));
+  does = does_all what before after o m t result status (summary_of pools (start_at (starts_of (map kept machines))) (logs_of (map kept machines))) used_so concluded
+      (told_of_door summary_of settings before after pools (start_at (starts_of (map kept machines))) (logs_of (map kept machines)) pools_are fresh.settings_are
+      (begins_there (start_at (starts_of (map kept machines))) keeps (λ p. ap (λ (l : List M). start_at (starts_of (map kept l)) p) are ∙ starts p))
+      (λ p. ap (λ (l : List M). logs_of (map kept l) p) are ∙ logs p));
+  bases_after = subst (λ (w : Writer). AreBasesOf settings.pools records_after w.starts) keeps.writer
+      (subst (λ (s : Settings). AreBasesOf s.pools records_after after.writer.starts) (keeps.settings ∙ fresh.settings_are) bases_then);
   lines_after = lines_then;
   no_other_blobs = others_kept before after fresh.settings_are keeps.settings keeps.writer records told keeps.no_other_blobs;
   faults_are = sym counted;
@@ -68,16 +73,19 @@ kept_ran {M = M} kept machines items what settings records_before records_after 
 -- a command was carried out over new logs
 pub new_ran : {M : Type 0} (kept : M → MachineState) (machines items : List M) (what : DoorCommand) (settings : Settings) (o m : Streams) (t : LinkState)
     (result : DoorResult) (status : ℕ) (pools : List PoolSettings) {n : ℕ} {before after : DoorState}
-    → KeepsDoor n before after → IsFreshDoor settings before.seen before → ((p : ℕ) → before.seen p ≡ [])
-    → IsUsed what before after o m result → machines ≡ items → ((p : ℕ) → logs_of (map kept items) p ≡ after.seen p)
-    → pools ≡ settings.pools → IsFinished result (summary_of pools (logs_of (map kept machines))) m.console t status
+    → KeepsDoor n before after → IsFreshDoor settings before.seen before → BeginNew settings.pools before.writer.starts → ((p : ℕ) → before.seen p ≡ [])
+    → IsUsed what before after o m result → machines ≡ items → ((p : ℕ) → start_at (starts_of (map kept items)) p ≡ after.writer.starts p) → ((p : ℕ) → logs_of (map kept items) p ≡ after.seen p)
+    → pools ≡ settings.pools → IsFinished result (summary_of pools (start_at (starts_of (map kept machines))) (logs_of (map kept machines))) m.console t status
     → RunsNew (work_of what) settings o (with_console m t) status
-new_ran {M = M} kept machines items what settings o m t result status pools {before = before} {after = after} keeps fresh nothing used_so are logs pools_are concluded = done (record {
+new_ran {M = M} kept machines items what settings o m t result status pools {before = before} {after = after} keeps fresh new nothing used_so are starts logs pools_are concluded = done (record {
   before = before;
   after = after;
   fresh_door = fresh_of_nothing fresh nothing;
-  does = does_all what before after o m t result status (summary_of pools (logs_of (map kept machines))) used_so concluded
-      (summary_is settings before after pools (logs_of (map kept machines)) pools_are fresh.settings_are (λ p. ap (λ (l : List M). logs_of (map kept l) p) are ∙ logs p));
+  begins = new;
+  does = does_all what before after o m t result status (summary_of pools (start_at (starts_of (map kept machines))) (logs_of (map kept machines))) used_so concluded
+      (told_of_door summary_of settings before after pools (start_at (starts_of (map kept machines))) (logs_of (map kept machines)) pools_are fresh.settings_are
+      (begins_there (start_at (starts_of (map kept machines))) keeps (λ p. ap (λ (l : List M). start_at (starts_of (map kept l)) p) are ∙ starts p))
+      (λ p. ap (λ (l : List M). logs_of (map kept l) p) are ∙ logs p));
 })
 
 -- a fault of the load
@@ -85,7 +93,7 @@ pub not_loaded : (settings : Settings) (records : List (Option Tables)) (m n : �
     → TellsFault fault o.console t status → IsFirstBadRecord settings records fault → (fault ≡ load.Failed → Rose m n) → NoDoor settings records m n o (with_console o t) status
 not_loaded settings records m n o t status load.Memory told bad rose = no_memory told.0 (same_console o t told.1)
 not_loaded settings records m n o t status load.Failed told bad rose = failed (rose refl) told.0 (same_console o t told.1)
-not_loaded settings records m n o t status (load.BadStore place at) told bad rose = bad_store place at bad told (record { clock = refl; listener = refl })
+not_loaded settings records m n o t status (load.BadStore place which at) told bad rose = bad_store place which at bad told (record { clock = refl; listener = refl })
 
 -- keepers of one type, as many as these, tell where these do
 pub goes_on_telling : {K : Type 0} (tables : K → Option Tables) (tells : Bool) → ((k : K) → is_some (tables k) ≡ tells) → (xs ys : List K) → length xs ≡ length ys
@@ -109,7 +117,7 @@ not_attached work settings folder p q o status start.Memory x is = unserved (rec
 not_attached work settings folder p q o status start.Failed x is = unserved (record { cause = failed (x.failed refl) is refl; kept = x.kept })
 
 -- no door was made, and what was attached was taken back
-given_back : (settings : Settings) (folder : List ℕ) (p mid q : StoreState) (o u : Streams) (status m n : ℕ) (before after : List (Option Tables))
+pub given_back : (settings : Settings) (folder : List ℕ) (p mid q : StoreState) (o u : Streams) (status m n : ℕ) (before after : List (Option Tables))
     → AttachesAll p mid folder settings.pools before m → NoDoor settings before m n o u status → after ≡ before → DetachesAll mid q folder settings.pools after n
     → RunsUnserved settings folder p q o u status
 given_back settings folder p mid q o u status m n before after x cause same y = record {
@@ -124,7 +132,7 @@ given_back settings folder p mid q o u status m n before after x cause same y = 
     at_store (no_memory is same) = no_memory is same
     at_store (failed rose is same) =
         failed (subst (λ (k : ℕ). Rose k q.faults) x.same_faults (counts_some n mid.faults q.faults y.counted (rose_above m n x.unfailed rose))) is same
-    at_store (bad_store place at bad prints same) = bad_store place at bad prints same
+    at_store (bad_store place which at bad prints same) = bad_store place which at bad prints same
 
 -- a command over the keepers that were attached, which were then taken back
 pub kept_over : (work : ServerWork) (settings : Settings) (folder : List ℕ) (p mid q : StoreState) (o u : Streams) (status m n : ℕ) (before after : List (Option Tables))

@@ -7,3 +7,4 @@ pub mod Sessions
 pub mod Doing
 pub mod KeptSessions
 pub mod Drilling
+pub mod Checkpoints

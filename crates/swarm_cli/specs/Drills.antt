@@ -13,6 +13,7 @@ use Rattle.swarm_http.specs.Exchange.{is_accepted}
 use Rattle.swarm_http.specs.Answered.{IsAnswered}
 use Rattle.pool_summaries.specs.Summaries.{summary_of}
 use Rattle.remote_commands.specs.Streams.{PrintsMade}
+use Rattle.swarm_cli.specs.ServerWork.{BeginNew}
 
 -- the open settings, under which no bot is silent for too long in a drill
 abbrev pub drill_settings : Settings
@@ -34,8 +35,8 @@ drill_status Memory = 5
 drill_status CutShort = 7
 drill_status BadHead = 7
 
--- One connection with the bytes of a drill was served, over a fresh door with an empty log and a clock that begins at
--- 1000 and steps by 1; what is printed are the numbers of its exchanges, and the summary of the log in the end.
+-- One connection with the bytes of a drill was served, over a fresh door with a new pool and a clock that begins at
+-- 1000 and steps by 1; what is printed are the numbers of its exchanges, and the summary of the pool in the end.
 pub record Drilled (start cycles : ℕ) (s t : LinkState) (status : ℕ) : Type 0 where
   pub ended : Ended
   pub last : LinkState
@@ -43,9 +44,10 @@ pub record Drilled (start cycles : ℕ) (s t : LinkState) (status : ℕ) : Type 
   pub before : DoorState
   pub after : DoorState
   pub fresh_door : IsFreshDoor drill_settings (λ p. []) before
+  pub begins : BeginNew drill_settings.pools before.writer.starts
   pub answered : IsAnswered (record { link = opened (Some (drill_bytes start cycles)) (Some []); clock = λ k. Some (steps_from 1000 1 k); door = before })
       (record { link = last; clock = ahead; door = after }) ended
-  pub prints : PrintsMade (drill_text (length answered.xs) (count_by is_accepted answered.xs) (summary_of drill_settings.pools after.seen)) (drill_status ended) s t status
+  pub prints : PrintsMade (drill_text (length answered.xs) (count_by is_accepted answered.xs) (summary_of drill_settings.pools before.writer.starts after.seen)) (drill_status ended) s t status
 
 -- a drill was carried out, or there was no memory for its input or its door
 pub data Drills (start cycles : ℕ) (s t : LinkState) (status : ℕ) : Type 0 where

@@ -25,11 +25,13 @@ HasRange (command.Serve address connections) = connections ≤ 1000000
 abbrev pub service_of : Service → deeds.Service
 service_of (service.ByOne command) = by_one (work_of command)
 service_of (service.BySeveral address workers connections) = by_several (string_bytes address) workers connections
+service_of service.Checkpoint = deeds.checkpoint
 
 -- more than one worker, and at most 32, serve so many connections each at most
 abbrev pub HasRanges : Service → Type 0
 HasRanges (service.ByOne command) = HasRange command
 HasRanges (service.BySeveral address workers connections) = (1 < workers) × (workers ≤ 32) × (connections ≤ 1000000)
+HasRanges service.Checkpoint = ⊤
 
 -- what is done before the door is ended
 abbrev pub IsUsed : DoorCommand → DoorState → DoorState → Streams → Streams → DoorResult → Type 0

@@ -7,43 +7,53 @@ use Rattle.swarm_keeper.specs.Tables.{Tables}
 use Rattle.swarm_keeper.specs.Stores.{StoreState}
 use Rattle.swarm_model.specs.declared.pool_settings.Settings.{Settings}
 use Rattle.pool_doors.specs.Doors.{DoorState, IsFreshDoor, HasNoOthersAt}
-use Rattle.swarm_history.specs.Records.{AreKept, IsBadStore}
+use Rattle.pool_loading.specs.declared.store_part.StorePart.{StorePart}
+use Rattle.pool_loading.specs.declared.store_part.StorePart.TheVariants as part
+use Rattle.swarm_history.specs.Records.{AreKept, AreBasesOf, IsBadStore}
 use Rattle.swarm_history.specs.declared.load_fault.LoadFault.{LoadFault}
 use Rattle.swarm_history.specs.declared.load_fault.LoadFault.TheVariants as load
 use Rattle.remote_commands.specs.Streams.{Streams, SameButConsole}
 use Rattle.swarm_cli.specs.ServerWork.{ServerWork, CarriesOutWork}
 use Rattle.swarm_cli.specs.Attaching.{told_records, KeepsOthers, CountsKeepers}
 
--- What is done over a fresh door that was made of the pools' records. The records are the lines of the logs that the
--- door had seen, and in the end of those that it has seen by then. Where the records of a pool had no other blobs than
--- those that its log left, they have none in the end. `faults` is how often the door's keepers have failed.
+-- What is done over a fresh door that was made of the pools' records. The records tell where the door's logs begin, and
+-- are the lines of the logs that it had seen, and in the end of those that it has seen by then. Where the records of a pool
+-- had no other blobs than those that its log left, they have none in the end. `faults` is how often the door's keepers have
+-- failed.
 pub record DoesOver (work : ServerWork) (settings : Settings) (records_before records_after : List (Option Tables)) (faults : ℕ) (o u : Streams) (status : ℕ) : Type 0 where
   pub before : DoorState
   pub after : DoorState
   pub fresh_door : IsFreshDoor settings before.seen before
+  pub bases_before : AreBasesOf settings.pools records_before before.writer.starts
   pub lines_before : AreKept records_before before.seen
   pub does : CarriesOutWork work before after o u status
+  pub bases_after : AreBasesOf settings.pools records_after before.writer.starts
   pub lines_after : AreKept records_after after.seen
   pub no_other_blobs : (p : ℕ) → HasNoOthersAt settings.pools before.writer.starts records_before before.seen p
       → HasNoOthersAt settings.pools before.writer.starts records_after after.seen p
   pub faults_are : after.faults ≡ faults
 
--- the line for refused records: the place of the pool, and that of the line
-abbrev pub store_line : ℕ → ℕ → List ℕ
-store_line place at = codes "store " ++ (decimal place ++ (codes " " ++ (decimal at ++ codes "\n")))
+-- what stands between the place of the pool and that of the line
+abbrev pub part_words : StorePart → List ℕ
+part_words part.Base = codes " base "
+part_words part.Lines = codes " "
+
+-- the line for refused records: the place of the pool, which part of its records, and the place of the line
+abbrev pub store_line : ℕ → StorePart → ℕ → List ℕ
+store_line place which at = codes "store " ++ (decimal place ++ (part_words which ++ (decimal at ++ codes "\n")))
 
 -- why no door was made of the records, and what is printed for it; nothing else was done
 pub data NoDoor (settings : Settings) (records : List (Option Tables)) (old_faults new_faults : ℕ) (o u : Streams) (status : ℕ) : Type 0 where
   no_memory : status ≡ 5 → u ≡ o → NoDoor settings records old_faults new_faults o u status
   failed : Rose old_faults new_faults → status ≡ 4 → u ≡ o → NoDoor settings records old_faults new_faults o u status
-  bad_store : (place at : ℕ) → IsBadStore settings records place at → Prints (store_line place at) 3 o.console u.console status → SameButConsole o u
+  bad_store : (place : ℕ) (which : StorePart) (at : ℕ) → IsBadStore settings records place which at → Prints (store_line place which at) 3 o.console u.console status → SameButConsole o u
       → NoDoor settings records old_faults new_faults o u status
 
 -- what is told of a fault of the load
 abbrev pub TellsFault : LoadFault → LinkState → LinkState → ℕ → Type 0
 TellsFault load.Memory s t status = (status ≡ 5) × (t ≡ s)
 TellsFault load.Failed s t status = (status ≡ 4) × (t ≡ s)
-TellsFault (load.BadStore place at) s t status = Prints (store_line place at) 3 s t status
+TellsFault (load.BadStore place which at) s t status = Prints (store_line place which at) 3 s t status
 
 -- a command over keepers, which have these records and have failed so often
 pub data RunsOver (work : ServerWork) (settings : Settings) (records_before records_after : List (Option Tables)) (old_faults new_faults : ℕ) (o u : Streams) (status : ℕ) : Type 0 where

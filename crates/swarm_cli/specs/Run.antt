@@ -2,7 +2,7 @@
 use Rattle.std.specs.Prelude.{◌≡◌, ◌⊎◌, ℕ, List, Option, Some, None}
 use Rattle.link_writer.specs.Printing.{Prints}
 use Rattle.swarm_policy.specs.Open.{open_settings}
-use Rattle.command_words.specs.Commands.{CommandValue, session, serve, bot, client, drill}
+use Rattle.command_words.specs.Commands.{CommandValue, session, serve, checkpoint, bot, client, drill}
 use Rattle.remote_commands.specs.BotCommands.{RunsBotCommand}
 use Rattle.remote_commands.specs.Clients.{RunsClient}
 use Rattle.swarm_cli.specs.ServerWork.{Service, by_one, serving}
@@ -20,6 +20,7 @@ RunsBy what (Some path) x y status = RunsFile what path x.files y.files x.store 
 abbrev pub CarriesOut : CommandValue → Environment → Environment → ℕ → Type 0
 CarriesOut (session settings) x y status = RunsBy (by_one work.session) settings x y status
 CarriesOut (serve settings address workers connections) x y status = RunsBy (serving address workers connections) settings x y status
+CarriesOut (checkpoint settings) x y status = RunsBy work.checkpoint (Some settings) x y status
 CarriesOut (bot options) x y status = RunsBotCommand options x y status
 CarriesOut (drill cycles start) x y status = Drills start cycles x.streams.console y.streams.console status × OnlyConsole x y
 CarriesOut (client server caller work) x y status = RunsClient server caller work x y status

@@ -1,10 +1,12 @@
 -- What is done with a door.
-use Rattle.std.specs.Prelude.{◌≡◌, ◌==◌, if◌then◌else◌, ℕ, List, [], ◌∷◌, ◌++◌, Option}
+use Rattle.std.specs.Prelude.{◌≡◌, ◌==◌, if◌then◌else◌, ℕ, List, [], ◌∷◌, ◌++◌, slice_get, Option, IfSome}
 use Rattle.std.specs.List.{flat_map}
 use Rattle.sw_base.specs.Acceptors.{AcceptorState}
 use Rattle.sw_base.specs.Listeners.{ListenerState, Gives, FailsToListen, Shuts}
 use Rattle.sw_base.specs.declared.start_fault.StartFault.{StartFault}
 use Rattle.sw_base.specs.declared.start_fault.StartFault.TheVariants as start
+use Rattle.swarm_model.specs.declared.pool_settings.PoolSettings.{PoolSettings}
+use Rattle.swarm_model.specs.Bases.{Base, empty_base}
 use Rattle.pool_doors.specs.Doors.{DoorState}
 use Rattle.swarm_http.specs.declared.ended.Ended.{Ended}
 use Rattle.swarm_http.specs.declared.ended.Ended.TheVariants.{Closed, LastAsked, CutShort, BadHead, Retired, ReadFault, WriteFault, Memory}
@@ -22,14 +24,20 @@ pub data ServerWork : Type 0 where
   session : ServerWork
   serve : List ℕ → ℕ → ServerWork
 
--- that is done over one door, or several workers serve the connections that come at an address: so many workers, each at most so many
+-- that is done over one door; or several workers serve the connections that come at an address: so many workers, each at most so
+-- many; or the kept records are made to begin anew
 pub data Service : Type 0 where
   by_one : ServerWork → Service
   by_several : List ℕ → ℕ → ℕ → Service
+  checkpoint : Service
 
 -- one worker serves over a door of its own
 abbrev pub serving : List ℕ → ℕ → ℕ → Service
 serving address workers connections = if workers == 1 then by_one (serve address connections) else by_several address workers connections
+
+-- nothing led to the log of any pool
+abbrev pub BeginNew : List PoolSettings → (ℕ → Base) → Type 0
+BeginNew pools starts = (p : ℕ) → IfSome (slice_get pools p) (λ pool. starts p ≡ empty_base pool)
 
 -- ---- a session
 
@@ -84,11 +92,11 @@ pub record CannotListen (fault : StartFault) (n m : ListenerState) (a b : ℕ �
   pub clock : b ≡ a
   pub door : after ≡ before
 
--- the links that came were served, and the summary of the logs was printed
+-- the links that came were served, and the summary of the pools was printed
 pub record ServesLinks (address : List ℕ) (connections : ℕ) (before after : DoorState) (o u : Streams) (status : ℕ) : Type 0 where
   pub stopped : WorkStop
   pub serves : ServesListener address connections o.listener u.listener o.clock u.clock before after stopped
-  pub summary : PrintsMade (summary_of before.settings.pools after.seen) (work_status stopped) o.console u.console status
+  pub summary : PrintsMade (summary_of before.settings.pools before.writer.starts after.seen) (work_status stopped) o.console u.console status
 
 -- nothing was served, since no acceptor was given
 pub record ServesNothing (before after : DoorState) (o u : Streams) (status : ℕ) : Type 0 where

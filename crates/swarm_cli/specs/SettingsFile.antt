@@ -14,9 +14,10 @@ use Rattle.link_writer.specs.Printing.{Prints}
 use Rattle.pool_doors.specs.Doors.{DoorState, IsFreshDoor}
 use Rattle.client_commands.specs.Commands.{settings_line}
 use Rattle.remote_commands.specs.Streams.{Streams, SameButConsole}
-use Rattle.swarm_cli.specs.ServerWork.{ServerWork, CarriesOutWork, Service, by_one, by_several}
+use Rattle.swarm_cli.specs.ServerWork.{ServerWork, CarriesOutWork, BeginNew, Service, by_one, by_several, checkpoint}
 use Rattle.swarm_cli.specs.Sharing.{RunsShared}
 use Rattle.swarm_cli.specs.KeptRecords.{RunsKept}
+use Rattle.swarm_cli.specs.Checkpoints.{RunsCheckpoint}
 
 -- the line for the first broken rule of a text
 abbrev pub fault_line : SettingsFault → List ℕ
@@ -39,11 +40,13 @@ abbrev pub PrintsFault : SettingsFault → StoreState → StoreState → Streams
 PrintsFault fault.Memory p q o u status = Stops 5 p q o u status
 PrintsFault why p q o u status = Refuses (fault_line why) p q o u status
 
--- What is done over a fresh door of these settings, which writes alone, under the number 0, to an empty log of each pool.
+-- What is done over a fresh door of these settings, which writes alone, under the number 0, to an empty log of each pool, to
+-- which nothing led.
 pub record DoesNew (work : ServerWork) (settings : Settings) (o u : Streams) (status : ℕ) : Type 0 where
   pub before : DoorState
   pub after : DoorState
   pub fresh_door : IsFreshDoor settings (λ p. []) before
+  pub begins : BeginNew settings.pools before.writer.starts
   pub does : CarriesOutWork work before after o u status
 
 -- a command over new logs, or there was no memory for a door
@@ -52,12 +55,14 @@ pub data RunsNew (work : ServerWork) (settings : Settings) (o u : Streams) (stat
   no_memory : status ≡ 5 → u ≡ o → RunsNew work settings o u status
 
 -- A command under the settings: over new logs, which leaves the store as it was, or over the records in their folder. Those are
--- for one worker.
+-- for one worker, and only those can be made to begin anew.
 abbrev pub RunsUnder : Service → Option (List ℕ) → Settings → StoreState → StoreState → Streams → Streams → ℕ → Type 0
 RunsUnder (by_one work) None settings p q o u status = RunsNew work settings o u status × (q ≡ p)
 RunsUnder (by_one work) (Some folder) settings p q o u status = RunsKept work settings folder p q o u status
 RunsUnder (by_several address workers connections) None settings p q o u status = RunsShared address workers connections settings o u status × (q ≡ p)
 RunsUnder (by_several address workers connections) (Some folder) settings p q o u status = Refuses (settings_line (codes "store") (codes "workers")) p q o u status
+RunsUnder checkpoint None settings p q o u status = Refuses (settings_line (codes "store") (codes "missing")) p q o u status
+RunsUnder checkpoint (Some folder) settings p q o u status = RunsCheckpoint settings folder p q o u status
 
 -- a command under the settings that a text gives, or what is wrong with them
 abbrev pub Follows : Service → Result Settings SettingsFault → StoreState → StoreState → Streams → Streams → ℕ → Type 0

@@ -7,7 +7,7 @@ pub(crate) enum DoorCommand {
     Serve { address: String, connections: u32 },
 }
 
-/// By whom the pools are used.
+/// What is done with the pools, and by whom they are used.
 #[derive(Drop)]
 pub(crate) enum Service {
     ByOne(DoorCommand),
@@ -17,4 +17,6 @@ pub(crate) enum Service {
         workers: u32,
         connections: u32,
     },
+    /// Their kept records are made to begin anew.
+    Checkpoint,
 }

@@ -2,16 +2,16 @@
 ghost use Rattle.std.specs.Prelude.{◌≡◌, ◌≤◌, ℕ, map, length, IfOk, IsTrue, string_bytes};
 ghost use Rattle.drill_requests.specs.Texts.{drill_bytes};
 ghost use Rattle.swarm_model.specs.Settings.{are_settings};
-ghost use Rattle.swarm_history.specs.Machines.{logs_of, pools_of};
+ghost use Rattle.swarm_history.specs.Machines.{logs_of, pools_of, start_at, starts_of};
 ghost use Rattle.pool_summaries.specs.Summaries.{summary_of};
 ghost use Rattle.remote_commands.specs.Streams.{PrintsMade};
 ghost use Rattle.swarm_cli.specs.Drills.{Drills, drill_settings as spec_drill_settings, drill_status, drill_text};
 
 use crate::serving::no_keepers;
+use crate::telling::summary_of_machines;
 use dimensions::Seq;
 use drill_requests::drill_input;
 use link_writer::print;
-use pool_summaries::summary;
 use std::alloc::{AllocError, Global};
 use sw_base::{MemoryLink, StepClock};
 use swarm_history::PlainDoor;
@@ -64,9 +64,9 @@ fn drill_lines<M: Machine>(
 ) -> Result<String, AllocError>
     requires pools { pools_of (map M.kept machines.now) ≡ pools.now }
     requires few { counted.now.accepted ≤ counted.now.requests }
-    ensures { IfOk result (λ text. string_bytes text ≡ drill_text counted.now.requests counted.now.accepted (summary_of pools.now (logs_of (map M.kept machines.now)))) }
+    ensures { IfOk result (λ text. string_bytes text ≡ drill_text counted.now.requests counted.now.accepted (summary_of pools.now (start_at (starts_of (map M.kept machines.now))) (logs_of (map M.kept machines.now)))) }
 {
-    let summary = summary(alloc, pools, machines)?;
+    let summary = summary_of_machines(alloc, pools, machines)?;
     text_of(alloc, counted.requests, counted.accepted, summary.as_str())
 }
 
@@ -79,7 +79,7 @@ fn print_drill<L: Link, M: Machine>(
 ) -> u8
     requires pools { pools_of (map M.kept machines.now) ≡ pools.now }
     requires few { counted.now.accepted ≤ counted.now.requests }
-    ensures { PrintsMade (drill_text counted.now.requests counted.now.accepted (summary_of pools.now (logs_of (map M.kept machines.now)))) (drill_status counted.now.ended)
+    ensures { PrintsMade (drill_text counted.now.requests counted.now.accepted (summary_of pools.now (start_at (starts_of (map M.kept machines.now))) (logs_of (map M.kept machines.now)))) (drill_status counted.now.ended)
         (L.state console.old) (L.state console.new) result }
 {
     match drill_lines(alloc, pools, machines, counted) {

@@ -10,13 +10,16 @@
 //! `--settings FILE` those of a file; `RunsFile` of `specs/SettingsFile.antt` says what a file comes
 //! to. Where the settings name a folder, the door is made of the records that the store has of each
 //! pool there, and the records grow with the logs; `RunsKept` of `specs/KeptRecords.antt` is that
-//! contract, and `RunsBy` of `specs/Run.antt` holds them together. The word `drill` serves a
+//! contract, and `RunsBy` of `specs/Run.antt` holds them together. The word `checkpoint` makes such
+//! records begin anew from the rows for which they stand; `RunsCheckpoint` of `specs/Checkpoints.antt`
+//! says what comes of it, and [`all_records_begin_anew`] what status 0 tells. The word `drill` serves a
 //! session that is made from a number over a link in memory; `Drills` of `specs/Drills.antt` is its
 //! contract. The commands that ask a server are those of `remote_commands`. `serve` and `drill` end
-//! with the summary of the pools, which `pool_summaries` writes.
+//! with the summary of the pools and `checkpoint` with the front of each, which `pool_summaries` writes.
 #![tactic(auto)]
 
 mod attaching;
+mod checkpoint;
 mod door_command;
 mod drill;
 mod kept_records;
@@ -26,5 +29,7 @@ mod program;
 mod serving;
 mod settings_file;
 mod sharing;
+mod telling;
 
+pub use checkpoint::all_records_begin_anew;
 pub use program::run;

@@ -144,6 +144,17 @@ fn carry_out<
                 listener,
             )
         }
+        Command::Checkpoint(words) => run_file(
+            rt,
+            alloc,
+            words.settings.as_str(),
+            &Service::Checkpoint,
+            console,
+            clock,
+            files,
+            store,
+            listener,
+        ),
         Command::Bot(words) => run_bot_command(alloc, &words, console, clock, dialer, runner),
         Command::Drill(drill) => run_drill(alloc, drill.start, drill.cycles, console),
         Command::Client(words) => run_client(alloc, &words, console, clock, files, dialer),
@@ -158,9 +169,9 @@ fn carry_out<
 ///
 /// | Status | Where |
 /// |---|---|
-/// | 0 | the command did its whole work: `bot` ran as many tasks as it may, or was told to end; the input of `session` ended between requests, its last request asked to close, or 65536 were answered; `serve` served as many connections as it may, or no more came; `drill` printed its counts |
+/// | 0 | the command did its whole work: `bot` ran as many tasks as it may, or was told to end; the input of `session` ended between requests, its last request asked to close, or 65536 were answered; `serve` served as many connections as it may, or no more came; `checkpoint` made the records of all pools begin anew, and printed `pool NAME front C tasks T` for each; `drill` printed its counts |
 /// | 2 | the words are no command, or ask for help; the text that says so is printed |
-/// | 3 | the settings are refused, and `settings PLACE RULE` is printed, for `serve` with several workers also where they name a folder for the records; or the records of a pool are, and `store PLACE AT` is printed; or an option of a client's command or of `bot` is out of its grammar, and `settings OPTION grammar` is printed; or the file of `trigger` is not there or too long |
+/// | 3 | the settings are refused, and `settings PLACE RULE` is printed, for `serve` with several workers also where they name a folder for the records, and for `checkpoint` where they name none; or the records of a pool are, and `store PLACE AT` is printed, or `store PLACE base AT` where it is a line of their base; or `checkpoint` finds more than 2^31 entries before a pool's records, and `store PLACE count` is printed; or an option of a client's command or of `bot` is out of its grammar, and `settings OPTION grammar` is printed; or the file of `trigger` is not there or too long |
 /// | 4 | a read, a write or a flush on the console failed, the file or the records could not be read, no connection could be accepted, the server could not be reached by a client's command, or the folder of `bot` could not be made |
 /// | 5 | there was no memory |
 /// | 6 | the server refused the request of a client's command, and the refusal's code is printed; or `bot` was refused for good |

@@ -4,7 +4,7 @@ ghost use Rattle.std.specs.List.{list_all};
 ghost use Rattle.sw_base.specs.Link.{IsClean};
 ghost use Rattle.swarm_model.specs.Settings.{are_settings};
 ghost use Rattle.swarm_http.specs.Answered.{KeepsDoor};
-ghost use Rattle.swarm_history.specs.Machines.{logs_of, pools_of};
+ghost use Rattle.swarm_history.specs.Machines.{logs_of, pools_of, start_at, starts_of};
 ghost use Rattle.pool_summaries.specs.Summaries.{summary_of};
 ghost use Rattle.remote_commands.specs.Streams.{PrintsMade};
 ghost use Rattle.swarm_cli.specs.ServerWork.{exit_status, work_status, start_status};
@@ -15,8 +15,8 @@ ghost use Rattle.swarm_cli.specs.SettingsFile.{RunsNew};
 use crate::door_command::DoorCommand;
 use crate::listening::serve_listener;
 use crate::printing::print_bad_store;
+use crate::telling::summary_of_machines;
 use link_writer::print;
-use pool_summaries::summary;
 use std::alloc::{AllocError, Global};
 use sw_base::{Listener, StartFault};
 use swarm_history::{LoadFault, PlainDoor};
@@ -121,9 +121,9 @@ pub(crate) fn print_summary<L: Link, M: Machine>(
     status: u8,
 ) -> u8
     requires pools { pools_of (map M.kept machines.now) ≡ pools.now }
-    ensures { PrintsMade (summary_of pools.now (logs_of (map M.kept machines.now))) status (L.state console.old) (L.state console.new) result }
+    ensures { PrintsMade (summary_of pools.now (start_at (starts_of (map M.kept machines.now))) (logs_of (map M.kept machines.now))) status (L.state console.old) (L.state console.new) result }
 {
-    match summary(alloc, pools, machines) {
+    match summary_of_machines(alloc, pools, machines) {
         Ok(text) => print(console, text.as_bytes(), status),
         Err(_) => 5,
     }
@@ -138,7 +138,7 @@ fn finish<L: Link, M: Machine>(
     used: DoorResult,
 ) -> u8
     requires pools { pools_of (map M.kept machines.now) ≡ pools.now }
-    ensures { IsFinished used (summary_of pools.now (logs_of (map M.kept machines.now))) (L.state console.old) (L.state console.new) result }
+    ensures { IsFinished used (summary_of pools.now (start_at (starts_of (map M.kept machines.now))) (logs_of (map M.kept machines.now))) (L.state console.old) (L.state console.new) result }
 {
     match used {
         DoorResult::Ended(status) => status,
@@ -153,13 +153,13 @@ fn finish<L: Link, M: Machine>(
 }
 
 /// Tells why no door was made, and answers the status.
-fn tell_fault<L: Link>(console: &mut L, fault: LoadFault) -> u8
+pub(crate) fn tell_fault<L: Link>(console: &mut L, fault: LoadFault) -> u8
     ensures { TellsFault fault (L.state console.old) (L.state console.new) result }
 {
     match fault {
         LoadFault::Memory => 5,
         LoadFault::Failed => 4,
-        LoadFault::BadStore { place, at } => print_bad_store(console, place, at),
+        LoadFault::BadStore { place, part, at } => print_bad_store(console, place, part, at),
     }
 }
 

@@ -8,6 +8,7 @@ ghost use Rattle.swarm_policy.specs.Pools.{have_own_names};
 ghost use Rattle.swarm_cli.specs.Handling.{service_of, HasRanges};
 ghost use Rattle.swarm_cli.specs.SettingsFile.{PrintsFault, RunsUnder, RunsText, RunsFile};
 
+use crate::checkpoint::run_checkpoint;
 use crate::door_command::Service;
 use crate::kept_records::run_kept;
 use crate::printing::print_refusal;
@@ -26,7 +27,7 @@ use swarm_policy::{SettingsFault, read_settings};
 /// The most bytes of a file with settings.
 const SETTINGS_SIZE: u64 = 1_048_576;
 
-/// Carries a command out over new logs, of which nothing is kept.
+/// Carries a command out over new logs, of which nothing is kept. So no records can begin anew.
 pub(crate) fn run_unkept<T: Threads + Wait + Sync, L: Link, C: Clock + Drop + Send, N: Listener>(
     rt: &T,
     alloc: Global,
@@ -60,6 +61,7 @@ pub(crate) fn run_unkept<T: Threads + Wait + Sync, L: Link, C: Clock + Drop + Se
             &*clock,
             listener,
         ),
+        Service::Checkpoint => print_refusal(alloc, console, "store", "missing"),
     }
 }
 
@@ -95,6 +97,7 @@ fn run_accepted<T: Threads + Wait + Sync, L: Link, C: Clock + Drop + Send, P: St
                 listener,
             ),
             Service::BySeveral { .. } => print_refusal(alloc, console, "store", "workers"),
+            Service::Checkpoint => run_checkpoint(alloc, settings, folder.as_str(), console, store),
         },
     }
 }
