@@ -1,6 +1,7 @@
 ghost use Rattle.std.specs.Thread.{IsSync};
 
 use crate::links::{compare_dialed, compare_served, dialer_of, listener_of};
+use crate::records::{compare_behind, put_before};
 use dimensions::TryCopy;
 use runners::MemoryRunner;
 use std::alloc::{AllocError, Global};
@@ -80,7 +81,7 @@ fn run_over<T: Threads + Wait + Sync, C: Clock + Drop + Send>(
 }
 
 /// Runs a transcript over a clock and a store, its bytes in pieces of this size, and compares what
-/// was written, what is left of the runner's answers, and the status.
+/// was written, what is left of the runner's answers, the status, and what the store keeps.
 fn check_over<T: Threads + Wait + Sync, C: Clock + Drop + Send>(
     rt: &T,
     alloc: Global,
@@ -89,6 +90,7 @@ fn check_over<T: Threads + Wait + Sync, C: Clock + Drop + Send>(
     clock: &mut C,
     store: &mut MemoryStore,
 ) -> Result<(), TranscriptError> {
+    put_before(alloc, transcript, store)?;
     let mut dialer = dialer_of(alloc, transcript, piece, None)?;
     let mut runner = runner_of(alloc, transcript)?;
     let (link, status) = run_over(
@@ -104,7 +106,8 @@ fn check_over<T: Threads + Wait + Sync, C: Clock + Drop + Send>(
     compare_dialed(alloc, transcript, &dialer)?;
     compare_console(alloc, transcript, link.output())?;
     compare_runner(transcript, runner.answers_left())?;
-    compare_status(transcript, transcript.status, status)
+    compare_status(transcript, transcript.status, status)?;
+    compare_behind(alloc, transcript, store)
 }
 
 /// Runs a transcript with what its last dialed link gives cut at a place: nothing is printed, and

@@ -3,7 +3,8 @@
 //!
 //! A run is `run` of `swarm_cli`, over a console, files, a store, a listener, a dialer and a runner in
 //! memory and a clock that answers the transcript's moments. The store is that of the transcript: a run
-//! behind `again` finds what the run before it left there. [`ProgramRuns`] also runs each transcript by
+//! behind `again` finds what the run before it left there, or what the transcript puts in its place, and what
+//! it leaves is compared where the transcript says so. [`ProgramRuns`] also runs each transcript by
 //! [`check_sessions`](test_session_runs::check_sessions) over the machine that scans lists, so that the same
 //! rows hold of another machine.
 #![tactic(auto)]
@@ -11,6 +12,7 @@
 mod checking;
 mod links;
 mod program_runs;
+mod records;
 
 pub use checking::check;
 pub use program_runs::ProgramRuns;

@@ -1,6 +1,6 @@
 ghost use Rattle.std.specs.Prelude.{◌≡◌, ◌↔◌, [], IfSome, IsOk, vec_len};
 
-use crate::{Conversation, Transcript, TranscriptError};
+use crate::{Conversation, PoolRecords, Transcript, TranscriptError};
 use std::alloc::{AllocError, Global};
 
 /// How many bytes are shown before the first that differs.
@@ -156,6 +156,25 @@ pub fn compare_nothing(
         line: transcript.line,
         came: excerpt(alloc, output, 0, CAME)?,
     })
+}
+
+/// Compares the records that a store keeps of a pool with those that it is to keep.
+///
+/// # Errors
+///
+/// The count or a line is another, or there are more lines or fewer.
+pub fn compare_records(
+    alloc: Global,
+    wanted: &PoolRecords,
+    came: &PoolRecords,
+) -> Result<(), TranscriptError> {
+    let line = wanted.line;
+    let wanted = wanted.text(alloc)?;
+    let came = came.text(alloc)?;
+    if wanted.as_bytes() == came.as_bytes() {
+        return Ok(());
+    }
+    Err(other_reply(alloc, line, wanted.as_bytes(), came.as_bytes())?)
 }
 
 /// Compares how many links a run used with how many it was to use.

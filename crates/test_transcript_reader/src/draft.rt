@@ -1,4 +1,4 @@
-use crate::{Conversation, File, TextFault, Transcript, TranscriptError};
+use crate::{Conversation, File, PoolRecords, TextFault, Transcript, TranscriptError};
 use std::alloc::{AllocError, Global};
 use std::mem;
 
@@ -12,6 +12,13 @@ pub(crate) enum Place {
     Dial,
 }
 
+/// When the store has the records whose lines are read.
+#[derive(Clone, Copy)]
+pub(crate) enum When {
+    BeforeTheRun,
+    BehindTheRun,
+}
+
 /// A transcript whose lines are being read.
 #[derive(Drop)]
 pub(crate) struct Draft {
@@ -23,6 +30,8 @@ pub(crate) struct Draft {
     has_from: bool,
     /// Whether the next line may be one of the last file.
     is_in_file: bool,
+    /// When the store has the records that were begun last.
+    when: Option<When>,
     /// How many requests over the link have no reply yet.
     unanswered: usize,
     /// The further fields of the next request, and the line of the last of them.
@@ -39,6 +48,7 @@ impl Draft {
             has_row: false,
             has_from: false,
             is_in_file: false,
+            when: None,
             unanswered: 0,
             fields: Vec::new(alloc),
             fields_line: line,
@@ -58,6 +68,7 @@ impl Draft {
             has_row: true,
             has_from: false,
             is_in_file: false,
+            when: None,
             unanswered: 0,
             fields: Vec::new(alloc),
             fields_line: line,
@@ -173,6 +184,33 @@ impl Draft {
     /// Lets no more lines come to the last file.
     pub(crate) fn end_file(&mut self) {
         self.is_in_file = false;
+    }
+
+    /// Begins records of a pool, which have no lines yet.
+    pub(crate) fn begin_records(
+        &mut self,
+        when: When,
+        records: PoolRecords,
+    ) -> Result<(), AllocError> {
+        match when {
+            When::BeforeTheRun => self.transcript.records_before.push(records)?,
+            When::BehindTheRun => self.transcript.records_after.push(records)?,
+        }
+        self.when = Some(when);
+        Ok(())
+    }
+
+    /// The records that were begun last.
+    pub(crate) fn records(&mut self, line: usize) -> Result<&mut PoolRecords, TranscriptError> {
+        let records = match self.when {
+            Some(When::BeforeTheRun) => self.transcript.records_before.last_mut(),
+            Some(When::BehindTheRun) => self.transcript.records_after.last_mut(),
+            None => None,
+        };
+        match records {
+            Some(records) => Ok(records),
+            None => Err(TextFault::LineWithoutRecords.at(line)),
+        }
     }
 
     /// Adds a field to the head of the next request.

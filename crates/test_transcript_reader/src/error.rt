@@ -27,6 +27,8 @@ pub enum TextFault {
     LateStore,
     /// A line of a file that does not stand right below its `file` or another line of it.
     LineWithoutFile,
+    /// A line of a base or of a log before the first records.
+    LineWithoutRecords,
     RequestWithoutCaller,
     FieldWithoutRequest,
     /// A reply before the first request, or the second reply to one.
@@ -59,6 +61,7 @@ impl fmt::Display for TextFault {
                 )
             }
             TextFault::LineWithoutFile => write!(f, "no file stands right above this line of one"),
+            TextFault::LineWithoutRecords => write!(f, "no records stand above this line of some"),
             TextFault::RequestWithoutCaller => write!(f, "this request has no caller"),
             TextFault::FieldWithoutRequest => write!(f, "no request follows this field"),
             TextFault::ReplyWithoutRequest => write!(f, "this reply has no request before it"),
@@ -120,6 +123,10 @@ pub enum TranscriptError {
         wanted: u64,
         came: u64,
     },
+    /// The store had no keeper for the records at this line, or its keeper failed.
+    Store {
+        line: usize,
+    },
     /// Of so many answers that the runner gives in the transcript that begins at this line, some were
     /// not taken.
     RunnerAnswers {
@@ -141,6 +148,7 @@ impl TranscriptError {
             | TranscriptError::Links { line, .. }
             | TranscriptError::Moments { line, .. }
             | TranscriptError::Waits { line, .. }
+            | TranscriptError::Store { line }
             | TranscriptError::RunnerAnswers { line, .. } => *line,
             TranscriptError::Memory => 0,
         }
@@ -176,6 +184,7 @@ impl fmt::Display for TranscriptError {
                 f,
                 "{wanted} seconds were to be waited, and {came} were"
             ),
+            TranscriptError::Store { .. } => write!(f, "the store failed"),
             TranscriptError::RunnerAnswers { wanted, left, .. } => write!(
                 f,
                 "all {wanted} answers of the runner were to be taken, and {left} are left"

@@ -6,7 +6,8 @@
 //! against a transcript, [`compare_link`] what was written to another link, [`compare_links`] how many
 //! links it used, [`compare_status`] its status, [`compare_moments`] how often its clock was asked,
 //! [`compare_waits`] how many seconds it waited and [`compare_runner`] whether it took all answers of
-//! its runner. A text has one entry a line. Lines that are blank or begin with `#` are left out.
+//! its runner, and [`compare_records`] what its store keeps of a pool. A text has one entry a line. Lines that
+//! are blank or begin with `#` are left out.
 //!
 //! | Line | Meaning |
 //! |---|---|
@@ -44,6 +45,9 @@
 //! | `file_fails CALL ..` | the loads of files that fail, counted from 0 |
 //! | `attach_fails CALL ..` | the attaches of keepers that fail, counted from 0 over all runs of the transcript |
 //! | `keeper_fails CALL ..` | the calls that fail of one keeper, counted from 0: the first such line is of the keeper that is attached first, and so on |
+//! | `puts COUNT FOLDER POOL` | before the run the store is given other records of this pool in the folder: COUNT entries came before their base, and they have the lines that follow. The contents of its blobs stay |
+//! | `keeps COUNT FOLDER POOL` | behind the run the store keeps these records of the pool, with the lines that follow and no others |
+//! | `base TEXT`, `line TEXT` | the next line of the base, and of the log since, of the records that were begun last |
 //! | `ends STATUS` | the status with which the run ends; 0 where the line is absent |
 //!
 //! Each TEXT and BODY may be empty, and white space at its end counts. In it, and in a PATH, `${NAME}` and
@@ -52,6 +56,9 @@
 //!
 //! The lines of a file follow its `file` at once: any other key ends it. A file without lines is
 //! empty, and no two files of a transcript have one path.
+//!
+//! For each `puts` and each `keeps` a keeper is attached and given back: they count among the attaches and
+//! the keepers that fail.
 //!
 //! A request is sent as
 //!
@@ -83,15 +90,17 @@ mod error;
 mod exchange;
 mod names;
 mod parts;
+mod pool_records;
 mod reader;
 mod runner_answers;
 mod transcript;
 
 pub use comparison::{
-    compare_console, compare_link, compare_links, compare_moments, compare_nothing, compare_runner,
-    compare_status, compare_waits,
+    compare_console, compare_link, compare_links, compare_moments, compare_nothing,
+    compare_records, compare_runner, compare_status, compare_waits,
 };
 pub use conversation::Conversation;
 pub use error::{TextFault, TranscriptError};
+pub use pool_records::PoolRecords;
 pub use reader::read;
 pub use transcript::{File, Pieces, Reply, Transcript};

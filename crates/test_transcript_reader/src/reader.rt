@@ -1,9 +1,9 @@
-use crate::draft::{Draft, Place};
+use crate::draft::{Draft, Place, When};
 use crate::exchange::{dialed_bytes, reply_bytes, request_bytes};
 use crate::names::Names;
 use crate::parts::{form_error, is_front, is_name, is_status, read_number, read_numbers};
 use crate::runner_answers::read_runner_answer;
-use crate::{Pieces, TextFault, Transcript, TranscriptError};
+use crate::{Pieces, PoolRecords, TextFault, Transcript, TranscriptError};
 use std::alloc::Global;
 
 /// What the lines so far have said.
@@ -61,6 +61,10 @@ impl Reader {
             "file_fails" => self.set_file_fails(entry),
             "attach_fails" => self.set_attach_fails(entry),
             "keeper_fails" => self.add_keeper_fails(entry),
+            "puts" => self.begin_records(When::BeforeTheRun, entry),
+            "keeps" => self.begin_records(When::BehindTheRun, entry),
+            "base" => self.add_base_line(entry),
+            "line" => self.add_log_line(entry),
             "again" => self.begin_again(entry),
             "ends" => self.set_status(entry),
             "field" => self.add_field(entry),
@@ -238,6 +242,40 @@ impl Reader {
         let line = self.line;
         let fails = read_numbers(self.alloc, line, entry)?;
         self.draft()?.before_store(line)?.keeper_fails.push(fails)?;
+        Ok(())
+    }
+
+    fn begin_records(&mut self, when: When, entry: &str) -> Result<(), TranscriptError> {
+        let Some((count, place)) = entry.split_once(' ') else {
+            return Err(self.form_error("COUNT FOLDER POOL", entry));
+        };
+        let Some((folder, pool)) = place.split_once(' ') else {
+            return Err(self.form_error("COUNT FOLDER POOL", entry));
+        };
+        let count = read_number(self.alloc, self.line, count)?;
+        let records = PoolRecords::new(self.alloc, self.line, folder, pool, count)?;
+        self.draft()?.begin_records(when, records)?;
+        Ok(())
+    }
+
+    /// The text of a line of records.
+    fn record_line(&mut self, entry: &str) -> Result<String, TranscriptError> {
+        let bytes = self.expand(entry)?;
+        let text = String::from_utf8_lossy(self.alloc, bytes.as_slice())?;
+        Ok(text)
+    }
+
+    fn add_base_line(&mut self, entry: &str) -> Result<(), TranscriptError> {
+        let line = self.line;
+        let text = self.record_line(entry)?;
+        self.draft()?.records(line)?.base.push(text)?;
+        Ok(())
+    }
+
+    fn add_log_line(&mut self, entry: &str) -> Result<(), TranscriptError> {
+        let line = self.line;
+        let text = self.record_line(entry)?;
+        self.draft()?.records(line)?.lines.push(text)?;
         Ok(())
     }
 

@@ -1,4 +1,4 @@
-use crate::Conversation;
+use crate::{Conversation, PoolRecords};
 use runners::RunnerAnswer;
 use std::alloc::{AllocError, Global};
 
@@ -75,6 +75,10 @@ pub struct Transcript {
     pub attach_fails: Vec<u64>,
     /// The numbers of the calls that fail, of each keeper in the order in which they are attached.
     pub keeper_fails: Vec<Vec<u64>>,
+    /// What is put into the store before the run.
+    pub records_before: Vec<PoolRecords>,
+    /// What the store keeps behind it.
+    pub records_after: Vec<PoolRecords>,
     /// The status with which the program ends.
     pub status: u8,
 }
@@ -107,6 +111,8 @@ impl Transcript {
             file_fails: Vec::new(alloc),
             attach_fails: Vec::new(alloc),
             keeper_fails: Vec::new(alloc),
+            records_before: Vec::new(alloc),
+            records_after: Vec::new(alloc),
             status: 0,
         })
     }
