@@ -1,21 +1,36 @@
 #!/usr/bin/env python3
-"""Figures of kept records: entries per second with a store, and the loading of long logs.
+"""Figures of kept records: entries per second with a store, the loading of long logs, and checkpoints.
 
-Usage: bench/records.py [--lines N] [PROGRAM]
+Usage: bench/records.py [--lines N] [--part NAME].. [--rounds N] [--polls N] [PROGRAM]
 
 All figures are the best of so many rounds, in which what is compared was measured in turn.
 
-- Appends: connections of polls of eight bots, each of which adds an entry, with a store and without
+- appends: connections of polls of eight bots, each of which adds an entry, with a store and without
   one. The seconds that a store adds are compared with those that the C library of SQLite takes for
   the same lines: the same tables, journal (WAL) and sync (full), one transaction a line. The C
   library is that of Python's module `sqlite3`.
-- Loading: how long the program takes to start on a file of 100000 lines and of N, 1000000 by
+- loading: how long the program takes to start on a file of 100000 lines and of N, 1000000 by
   default, for a line; and the greatest memory of the process.
+- bases: how long the program takes to start on a log, to let it begin anew by a checkpoint, and to
+  start on the base that this leaves. One log has 100000 tasks, each with its NewTask, the claim of one
+  of 40 bots, a report with a piece of output and the last report; the other has 1000000 polls of 40
+  bots. Beside them stands how many times as long as the start from the log a checkpoint takes, which is
+  to be at most twice, and the start from the base.
+- files: the size of the file after each of so many rounds (--rounds, 10 by default) of as many polls
+  (--polls, 100000 by default) in a session, and a checkpoint. It is to be no larger after the last one
+  than after the second.
+- limits: the greatest memory of a pool with 262144 tasks, 4096 bots and 262144 blobs that fill its store,
+  whose texts have 134217728 bytes: with a log of 4194304 entries that led to them, with the base alone,
+  and with as long a log of polls behind the base. It takes some 3 GB in the folder of temporary files.
 
+--part measures this part alone, and may be given several times; without it all but `limits` are measured.
 The program is built by the first `./swarm session`.
 """
 import argparse
+import hashlib
+import json
 import os
+import shutil
 import sqlite3
 import sys
 import tempfile
@@ -28,6 +43,15 @@ APPENDS = 5000
 APPEND_ROUNDS = 5
 LOAD_ROUNDS = 3
 BOTS = 8
+# What the logs have that begin anew.
+BASE_TASKS, BASE_POLLS, BASE_BOTS = 100000, 1000000, 40
+# (a connection ends after 65536 requests)
+POLLS_OF_A_SESSION = 50000
+# The limits of a pool.
+MOST_TASKS, MOST_BOTS, MOST_BLOBS, MOST_ENTRIES, MOST_WEIGHT = 262144, 4096, 262144, 4194304, 134217728
+STORE_UNITS, UNIT = 4194304, 64
+DIGEST_WEIGHT = 36
+# (files of version 1, which earlier programs read as well)
 TABLES = """
 CREATE TABLE lines(no INTEGER PRIMARY KEY, text TEXT NOT NULL);
 CREATE TABLE blobs(digest BLOB PRIMARY KEY, bytes BLOB NOT NULL);
@@ -37,6 +61,7 @@ INSERT INTO meta VALUES ('version', 1);
 SETTINGS = """%s[[pools]]
 name = "default"
 death_timeout_secs = 2592000
+store_units = %d
 grants = [{ caller = "lab", permissions = ["swarming.pools.listTasks", "profile.pools.runBot"] }]
 """
 DIMENSIONS = '"dimensions":[{"key":"pool","value":["default"]},{"key":"id","value":["b%d"]}]'
@@ -59,18 +84,18 @@ def handshake_line(number, moment):
     return '{"b":%d,"dims":%s,"id":"b%d","k":"handshake","m":%d,"p":0,"q":"","session":"s"}' % (number, dims, number, moment)
 
 
-def poll_line(number, moment):
-    return '{"b":%d,"dims":null,"hint":false,"k":"poll","m":%d,"p":0,"q":null}' % (number, moment)
+def poll_line(number, moment, hint="false"):
+    return '{"b":%d,"dims":null,"hint":%s,"k":"poll","m":%d,"p":0,"q":null}' % (number, hint, moment)
 
 
 def bot_of(place):
     return place % BOTS + 1
 
 
-def write_settings(folder, store):
+def write_settings(folder, store, units=1048576):
     path = os.path.join(folder, "settings.toml")
     with open(path, "w") as file:
-        file.write(SETTINGS % ('store = "%s"\n' % store if store else ""))
+        file.write(SETTINGS % ('store = "%s"\n' % store if store else "", units))
     return path
 
 
@@ -123,21 +148,31 @@ def show(name, count, seconds):
     print("%-44s %10d %10.3f s %10.0f /s" % (name, count, seconds, count / seconds), flush=True)
 
 
-def write_records(folder, count):
-    """A file of so many lines: a handshake of each bot, and then their polls."""
+def write_lines(folder, lines, blobs=()):
+    """A file of these lines, and of blobs, each a digest with its bytes."""
     os.mkdir(folder)
     file = sqlite3.connect(os.path.join(folder, "default.sqlite"), isolation_level=None)
     file.execute("PRAGMA journal_mode = WAL")
+    file.execute("PRAGMA synchronous = OFF")
     file.executescript(TABLES)
-    moment = int(time.time())
     file.execute("BEGIN")
-    lines = [handshake_line(number, moment) for number in range(1, BOTS + 1)]
     file.executemany("INSERT INTO lines(text) VALUES (?)", ((line,) for line in lines))
-    polls = ((poll_line(bot_of(place), moment),) for place in range(count - BOTS))
-    file.executemany("INSERT INTO lines(text) VALUES (?)", polls)
+    file.executemany("INSERT INTO blobs VALUES (?, ?)", blobs)
     file.execute("COMMIT")
     file.execute("PRAGMA wal_checkpoint(TRUNCATE)")
     file.close()
+
+
+def polls(count, bots, moment):
+    """A handshake of each bot, and then their polls, so many lines together."""
+    for number in range(1, bots + 1):
+        yield handshake_line(number, moment)
+    for place in range(count - bots):
+        yield poll_line(place % bots + 1, moment)
+
+
+def write_records(folder, count):
+    write_lines(folder, polls(count, BOTS, int(time.time())))
 
 
 def measure_loading(program, counts):
@@ -158,15 +193,220 @@ def measure_loading(program, counts):
     print("%-44s %10.2f" % ("a line of the longer log, times the shorter's", best[many] / many / (best[few] / few)), flush=True)
 
 
+# ---- checkpoints
+
+
+def compact(members):
+    return json.dumps(members, sort_keys=True, separators=(",", ":"))
+
+
+def new_line(task, moment, command):
+    properties = {
+        "caches": [],
+        "command": [command],
+        "dimensions": [{"key": "pool", "value": "default"}],
+        "env": [],
+        "execution_timeout_secs": 0,
+        "grace_period_secs": 30,
+        "idempotent": False,
+        "inputs": [],
+        "io_timeout_secs": 0,
+        "outputs": [],
+    }
+    slices = [{"expiration_secs": 604800, "properties": properties, "wait_for_capacity": True}]
+    request = {"bot_ping_tolerance_secs": 1200, "name": "task %d" % task, "priority": 0, "task_slices": slices}
+    entry = {"k": "new", "t": task, "who": "lab", "uuid": None, "state": "PENDING", "slice": 0, "from": None, "request": request}
+    return compact({**entry, "m": moment, "p": 0})
+
+
+def claim_line(task, bot, moment):
+    return '{"b":%d,"claim":"c%d","k":"claim","m":%d,"p":0,"t":%d}' % (bot, task, moment, task)
+
+
+def update_line(task, bot, moment, chunk, last):
+    return compact({"k": "update", "b": bot, "t": task, "try": 1, "chunk": chunk, "last": last, "m": moment, "p": 0})
+
+
+def put_line(digest, size, moment):
+    return '{"digest":"%s","k":"put","m":%d,"p":0,"size":%d}' % (digest, moment, size)
+
+
+def output_of(task):
+    return b"the output of task %d\n" % task
+
+
+LAST = {"dropped": 0, "duration_ms": 1, "exit_code": 0, "files": [], "hard_timeout": False, "io_timeout": False}
+
+
+def runs(tasks, bots, moment):
+    """A handshake of each bot, and the entries of each task: created, claimed, and reported twice."""
+    for number in range(1, bots + 1):
+        yield handshake_line(number, moment)
+    for task in range(1, tasks + 1):
+        bot, output = task % bots + 1, output_of(task)
+        yield new_line(task, moment, "true")
+        yield claim_line(task, bot, moment)
+        yield update_line(task, bot, moment, [0, len(output), hashlib.sha256(output).hexdigest()], None)
+        yield update_line(task, bot, moment, None, LAST)
+
+
+def outputs(tasks):
+    for task in range(1, tasks + 1):
+        output = output_of(task)
+        yield hashlib.sha256(output).digest(), output
+
+
+def copied(folder, name):
+    """A copy of the records of a folder, under another name."""
+    other = folder + name
+    shutil.rmtree(other, ignore_errors=True)
+    shutil.copytree(folder, other)
+    return other
+
+
+def timed(program, command, folder, units=1048576):
+    """The seconds of a start over the records, or of a checkpoint, and the greatest memory."""
+    with tempfile.TemporaryDirectory() as settings:
+        seconds, memory, _ = run(program, [], (command, "--settings", write_settings(settings, folder, units)))
+        return seconds, memory
+
+
+def show_run(name, seconds, memory):
+    print("%-60s %8.3f s %8.1f MiB" % (name, seconds, memory), flush=True)
+
+
+def measure_base(program, name, folder):
+    """A start from the log, a checkpoint over it, and a start from the base that this leaves."""
+    steps = ("a start from the log", "a checkpoint over the log", "a start from the base")
+    best, memory = dict.fromkeys(steps, float("inf")), {}
+    for _ in range(LOAD_ROUNDS):
+        log, anew = copied(folder, ".log"), copied(folder, ".anew")
+        for step, command, records in zip(steps, ("session", "checkpoint", "session"), (log, anew, anew)):
+            seconds, memory[step] = timed(program, command, records)
+            best[step] = min(best[step], seconds)
+    for step in steps:
+        show_run("%s: %s" % (name, step), best[step], memory[step])
+    for step in steps[1:]:
+        print("%-60s %8.2f" % ("%s: %s, times a start from the log" % (name, step), best[step] / best[steps[0]]), flush=True)
+
+
+def measure_bases(program):
+    with tempfile.TemporaryDirectory() as folder:
+        tasks, asked, moment = os.path.join(folder, "tasks"), os.path.join(folder, "polls"), int(time.time())
+        write_lines(tasks, runs(BASE_TASKS, BASE_BOTS, moment), outputs(BASE_TASKS))
+        measure_base(program, "%d tasks" % BASE_TASKS, tasks)
+        write_lines(asked, polls(BASE_POLLS + BASE_BOTS, BASE_BOTS, moment))
+        measure_base(program, "%d polls" % BASE_POLLS, asked)
+
+
+def measure_files(program, rounds, count):
+    """The size of the file after rounds of polls and a checkpoint."""
+    with tempfile.TemporaryDirectory() as folder:
+        records = os.path.join(folder, "records")
+        settings = write_settings(folder, records)
+        shakes = b"".join(handshake(number) for number in range(1, BASE_BOTS + 1))
+        asked = b"".join(poll(number) for number in range(1, BASE_BOTS + 1))
+        run(program, [(shakes, 1)], ("session", "--settings", settings))
+        path, sizes = os.path.join(records, "default.sqlite"), []
+        for number in range(rounds):
+            session, left = 0.0, count
+            while left > 0:
+                piece = min(left, POLLS_OF_A_SESSION)
+                seconds, _, good = run(program, [(asked, piece // BASE_BOTS)], ("session", "--settings", settings))
+                if good != piece // BASE_BOTS * BASE_BOTS:
+                    sys.exit("%d of %d polls were answered well" % (good, piece))
+                session, left = session + seconds, left - piece
+            long = os.path.getsize(path)
+            checkpoint, _ = timed(program, "checkpoint", records)
+            sizes.append(os.path.getsize(path))
+            name = "round %d of %d polls and a checkpoint" % (number + 1, count)
+            print("%-44s %8.1f s %8.1f s %10d bytes %10d bytes" % (name, session, checkpoint, long, sizes[-1]), flush=True)
+    if rounds > 2:
+        print("%-44s %10.3f" % ("the last round's file, times the second's", sizes[-1] / sizes[1]), flush=True)
+
+
+# ---- a full pool
+
+
+def content(number):
+    """One of the contents that fill the store together."""
+    return b"%016d" % number * (STORE_UNITS // MOST_BLOBS * UNIT // 16)
+
+
+def filled(moment):
+    """The entries of a pool that is full in each way."""
+    for number in range(1, MOST_BOTS + 1):
+        yield handshake_line(number, moment)
+    for number in range(MOST_BLOBS):
+        it = content(number)
+        yield put_line(hashlib.sha256(it).hexdigest(), len(it), moment)
+    # (a bot's texts are its name, its session and its dimensions)
+    weight = sum(2 * len("b%d" % number) + len("s" "id" "pool" "default") for number in range(1, MOST_BOTS + 1))
+    left = MOST_WEIGHT - weight - DIGEST_WEIGHT * MOST_BLOBS
+    size = left // MOST_TASKS - len("lab" "pool" "default")
+    # (while there is a task for a bot, its poll says so)
+    for place in range(MOST_ENTRIES - MOST_BOTS - MOST_BLOBS - MOST_TASKS):
+        yield poll_line(place % MOST_BOTS + 1, moment)
+    for task in range(1, MOST_TASKS + 1):
+        yield new_line(task, moment, "x" * (size - len("task %d" % task)))
+
+
+def contents():
+    for number in range(MOST_BLOBS):
+        it = content(number)
+        yield hashlib.sha256(it).digest(), it
+
+
+def add_polls(folder, moment):
+    """As long a log of polls as there may be, behind the base."""
+    file = sqlite3.connect(os.path.join(folder, "default.sqlite"), isolation_level=None)
+    file.execute("PRAGMA synchronous = OFF")
+    file.execute("BEGIN")
+    lines = ((poll_line(place % MOST_BOTS + 1, moment, "true"),) for place in range(MOST_ENTRIES))
+    file.executemany("INSERT INTO lines(text) VALUES (?)", lines)
+    file.execute("COMMIT")
+    file.execute("PRAGMA wal_checkpoint(TRUNCATE)")
+    file.close()
+
+
+def measure_limits(program):
+    with tempfile.TemporaryDirectory() as folder:
+        full, moment = os.path.join(folder, "full"), int(time.time())
+        write_lines(full, filled(moment), contents())
+        show_run("a full pool: a start from its log", *timed(program, "session", full, STORE_UNITS))
+        show_run("a full pool: a checkpoint over its log", *timed(program, "checkpoint", full, STORE_UNITS))
+        show_run("a full pool: a start from its base", *timed(program, "session", full, STORE_UNITS))
+        show_run("a full pool: a checkpoint over its base", *timed(program, "checkpoint", full, STORE_UNITS))
+        add_polls(full, moment)
+        show_run("a full pool: a start from its base and a full log", *timed(program, "session", full, STORE_UNITS))
+        show_run("a full pool: a checkpoint over its base and a full log", *timed(program, "checkpoint", full, STORE_UNITS))
+
+
+PARTS = ("appends", "loading", "bases", "files", "limits")
+
+
 def main():
-    parser = argparse.ArgumentParser(usage="bench/records.py [--lines N] [PROGRAM]")
+    usage = "bench/records.py [--lines N] [--part NAME].. [--rounds N] [--polls N] [PROGRAM]"
+    parser = argparse.ArgumentParser(usage=usage)
     parser.add_argument("--lines", type=int, default=1000000, metavar="N")
+    parser.add_argument("--part", action="append", choices=PARTS, metavar="NAME")
+    parser.add_argument("--rounds", type=int, default=10, metavar="N")
+    parser.add_argument("--polls", type=int, default=100000, metavar="N")
     parser.add_argument("program", nargs="?", default=os.path.join(HERE, "crates/swarm/out/swarm"))
     words = parser.parse_args()
     if not os.access(words.program, os.X_OK):
         sys.exit("%s is not there: build it by ./swarm session" % words.program)
-    measure_appends(words.program)
-    measure_loading(words.program, (100000, words.lines))
+    parts = words.part or PARTS[:-1]
+    if "appends" in parts:
+        measure_appends(words.program)
+    if "loading" in parts:
+        measure_loading(words.program, (100000, words.lines))
+    if "bases" in parts:
+        measure_bases(words.program)
+    if "files" in parts:
+        measure_files(words.program, words.rounds, words.polls)
+    if "limits" in parts:
+        measure_limits(words.program)
 
 
 if __name__ == "__main__":

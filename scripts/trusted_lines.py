@@ -35,7 +35,7 @@ HEADLINE = [
     ("Rattle.sw_base.specs.Files", "FilesState Loads Saves"),
     ("Rattle.runners.specs.Calls", "RunnerState Performs Signals Looks CollectsFile Cleans"),
     ("Rattle.swarm_keeper.specs.Stores", "StoreState HasPlace PlacesStay IsAttached NotAttached Detaches"),
-    ("Rattle.swarm_keeper.specs.Tables", "Tables Counts appended bytes_of"),
+    ("Rattle.swarm_keeper.specs.Tables", "Tables Counts appended replaced bytes_of"),
 ]
 # The traits whose contracts cite these.
 TRAITS = [("sw_base", "link", "Link"), ("sw_base", "clock", "Clock"), ("sw_base", "files", "Files"), ("sw_base", "acceptor", "Acceptor"), ("sw_base", "listener", "Listener"), ("sw_base", "dialer", "Dialer"), ("runners", "runner", "Runner"), ("swarm_keeper", "keeper", "Keeper"), ("swarm_keeper", "store", "Store"), ("pool_doors", "door", "Door")]
@@ -48,8 +48,8 @@ LAWS = [
     ("Rattle.swarm_model.specs.DueLaw", "DueIsEarliest"),
     ("Rattle.swarm_model.specs.RefusalLaw", "RefusalsAddNothing"),
     ("Rattle.swarm_model.specs.Soundness", "StaysSound"),
-    ("Rattle.pool_laws.specs.BaseRules", "KeepsBaseRows LeadsToABase OpeningIsABase"),
-    ("Rattle.pool_laws.specs.StateWeight", "OpeningWeighsNothing WeightAfter WeightIsBounded"),
+    ("Rattle.pool_laws.specs.BaseLaws", "KeepsBaseRows LeadsToABase OpeningIsABase OpeningWeighsNothing WeightAfter WeightIsBounded"),
+    ("Rattle.pool_laws.specs.Bases", "StatesFromABase ClaimsFromABase RunsFromABase TallyFromABase TallyAddsUpFromABase RestIsLegal RestTellsTheSame"),
     ("Rattle.bot_core.specs.Output", "SendsWhatWasWritten"),
     ("Rattle.bot_core.specs.Starts", "StartsOnce"),
     ("Rattle.bot_core.specs.Signals", "KillsAfterTermAndGrace"),

@@ -1,5 +1,5 @@
-"""What the checks of kept records share: settings with a store, sessions of the program, and the rows
-that another program, the sqlite3 of Python, finds in the file of a pool.
+"""What the checks of kept records share: settings with a store, sessions and checkpoints of the program,
+and the rows that another program, the sqlite3 of Python, finds in the file of a pool.
 
 It is no check of its own, so it may not be executed.
 """
@@ -23,7 +23,7 @@ PERMISSIONS = [
     "profile.pools.runBot",
     "profile.pools.useBlobs",
 ]
-TABLES = ("lines", "blobs", "meta")
+TABLES = ("base", "lines", "blobs", "meta")
 # What stands beside the file of a pool while it is open, and stays where the process is killed.
 ENDS = ("", "-wal", "-shm", "-journal")
 
@@ -84,8 +84,8 @@ class Store:
         shutil.copytree(self.records, other.records)
         return other
 
-    def words(self, program=SWARM):
-        return [program, "session", "--settings", self.settings]
+    def words(self, program=SWARM, command="session"):
+        return [program, command, "--settings", self.settings]
 
     def session(self, requests, program=SWARM, seconds=60):
         """Runs a session over these requests: its output and its status."""
@@ -93,6 +93,14 @@ class Store:
             self.words(program), input=b"".join(requests), stdout=subprocess.PIPE, timeout=seconds, check=False
         )
         return done.stdout, done.returncode
+
+
+    def checkpoint(self, program=SWARM, seconds=60):
+        """Lets the records begin anew: what is printed, and the status."""
+        done = subprocess.run(
+            self.words(program, "checkpoint"), stdin=subprocess.DEVNULL, stdout=subprocess.PIPE, timeout=seconds, check=False
+        )
+        return done.stdout.decode(), done.returncode
 
 
 def query(path, words):
@@ -120,12 +128,28 @@ def shown_by_sqlite3(path, words):
     return (done.stdout + done.stderr).decode().strip()
 
 
-def lines_of(path):
-    """The kept lines, in the order of their numbers, which have to be 1, 2 and so on."""
-    rows = query(path, "SELECT no, text FROM lines ORDER BY no")
+def numbered(path, table):
+    """The texts of a table, in the order of their numbers, which have to be 1, 2 and so on."""
+    rows = query(path, f"SELECT no, text FROM {table} ORDER BY no")
     if [number for number, _ in rows] != list(range(1, len(rows) + 1)):
-        raise ValueError(f"{path}: the numbers of the lines are {[number for number, _ in rows]}")
+        raise ValueError(f"{path}: the numbers of {table} are {[number for number, _ in rows]}")
     return [text.decode() for _, text in rows]
+
+
+def lines_of(path):
+    """The kept lines of the log."""
+    return numbered(path, "lines")
+
+
+def base_of(path):
+    """The kept lines of the base."""
+    return numbered(path, "base")
+
+
+def count_of(path):
+    """How many entries came before the base."""
+    [(count,)] = query(path, "SELECT value FROM meta WHERE name = 'count'")
+    return count
 
 
 def blobs_of(path):
@@ -147,11 +171,19 @@ def change(path, *commands):
     kept.close()
 
 
-def without_moment(line):
-    """An entry without the second at which it was added."""
-    members = json.loads(line)
-    del members["m"]
-    return json.dumps(members, sort_keys=True)
+def with_texts(table, texts):
+    """The commands that put these texts in the place of those of a table, numbered from 1."""
+    return [(f"DELETE FROM {table}",), *((f"INSERT INTO {table} VALUES (?, ?)", at, text) for at, text in enumerate(texts, 1))]
+
+
+def as_version_1():
+    """The commands that make a file of version 1 of one without lines of a base."""
+    return [("DROP TABLE base",), ("DELETE FROM meta WHERE name = 'count'",), ("UPDATE meta SET value = 1",)]
+
+
+def compact(members):
+    """A line of these members: compact JSON with sorted keys."""
+    return json.dumps(members, sort_keys=True, separators=(",", ":"), ensure_ascii=False)
 
 
 # ---- requests and replies
@@ -163,16 +195,22 @@ def request(path, body, caller="ana", method="POST"):
     return head.encode() + body
 
 
-def handshake(bot, pool="default"):
+def handshake(bot, pool="default", session="s", **more):
+    """A bot comes; `more` are further members of the request."""
     dimensions = [{"key": "pool", "value": [pool]}, {"key": "id", "value": [bot]}]
-    return request("/bot/handshake", {"bot_id": bot, "session": "s", "dimensions": dimensions}, "rack")
+    return request("/bot/handshake", {"bot_id": bot, "session": session, "dimensions": dimensions, **more}, "rack")
 
 
-def new_task(name, pool="default", **more):
-    """A task that waits, with further properties, or with others than its command and its dimensions."""
-    properties = {"command": ["true"], "dimensions": [{"key": "pool", "value": pool}], **more}
+def task_with(properties, pool="default", **more):
+    """A task that waits, with further properties, or with others than its command and its dimensions; `more` are
+    members of the request."""
+    properties = {"command": ["true"], "dimensions": [{"key": "pool", "value": pool}], **properties}
     slices = [{"expiration_secs": 604800, "wait_for_capacity": True, "properties": properties}]
-    return request("/prpc/swarming.v2.Tasks/NewTask", {"name": name, "task_slices": slices})
+    return request("/prpc/swarming.v2.Tasks/NewTask", {"task_slices": slices, **more})
+
+
+def new_task(name, pool="default", **properties):
+    return task_with(properties, pool, name=name)
 
 
 def cancel(task, kill_running=False):
@@ -183,8 +221,8 @@ def claim(bot, claim_id, pool="default"):
     return request("/bot/claim", {"pool": pool, "bot_id": bot, "claim_id": claim_id}, "rack")
 
 
-def report(bot, run, output, start, exit_code=None):
-    body = {"bot_id": bot, "task_id": run, "output_chunk_start": start}
+def report(bot, run, output, start, exit_code=None, **more):
+    body = {"bot_id": bot, "task_id": run, "output_chunk_start": start, **more}
     body["output"] = base64.b64encode(output).decode()
     if exit_code is not None:
         body.update(exit_code=exit_code, duration_ms=1)
