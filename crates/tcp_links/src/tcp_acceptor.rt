@@ -1,14 +1,15 @@
 ghost use Rattle.std.specs.Prelude.{◌≡◌, All, IfOk, length, None};
+ghost use Rattle.sw_base.specs.Link.{opened};
 
 use crate::closing::close;
 use crate::limits::set_limits;
-use crate::{DeadlineLink, HasFailed, Limits, LinkEnding, TcpLink};
+use crate::{DeadlineLink, HasFailed, Limits, LinkEnding, SocketLink, TcpLink};
 use log::{Log, error, info};
 use std::alloc::Global;
 use std::io::ErrorKind;
-use std::net::{SocketAddr, TcpListener, TcpStream};
+use std::net::{SocketAddr, TcpListener};
 use std::{io, rt};
-use sw_base::{Acceptor, Failed, StartFault};
+use sw_base::{Acceptor, Failed, Link, StartFault};
 
 /// One of the acceptors of a listening socket. It tells no links. A link that ends while its peer
 /// still sends is read on for one second at most, so that the peer gets the last reply. It logs each
@@ -74,14 +75,16 @@ fn may_retry(kind: ErrorKind) -> bool {
     )
 }
 
-/// The next stream and its peer, with the limit of a write set on it. One on which it can't be set is
-/// gone, and is passed over.
-fn next_stream(listener: &TcpListener, limits: Limits) -> io::Result<(TcpStream, SocketAddr)> {
+/// The next link and its peer, with the limit of a write set on its stream. One on which it can't be set
+/// is gone, and is passed over.
+fn next_link(listener: &TcpListener, limits: Limits) -> io::Result<(SocketLink, SocketAddr)>
+    ensures { IfOk result (λ it. ⟦<SocketLink as Link>⟧.state it.0 ≡ opened None None) }
+{
     for _ in 0..u64::MAX {
         match listener.accept() {
             Ok((stream, peer)) => {
                 if set_limits(&stream, limits) {
-                    return Ok((stream, peer));
+                    return Ok((TcpLink::over(stream)?, peer));
                 }
             }
             Err(error) => {
@@ -95,18 +98,13 @@ fn next_stream(listener: &TcpListener, limits: Limits) -> io::Result<(TcpStream,
 }
 
 impl<'a, T: rt::Clock + Log + Sync> Acceptor for TcpAcceptor<'a, T> {
-    type Link = DeadlineLink<'a, TcpLink<TcpStream>, T>;
+    type Link = DeadlineLink<'a, SocketLink, T>;
 
     ghost state = { λ a. record { coming = None; served = None; out = None; faults = a.faults } };
 
-    fn accept(&mut self) -> Result<Option<DeadlineLink<'a, TcpLink<TcpStream>, T>>, Failed> {
-        match next_stream(&self.listener, self.limits) {
-            Ok((stream, peer)) => Ok(Some(DeadlineLink::new(
-                TcpLink::new(stream),
-                peer,
-                self.rt,
-                self.limits,
-            ))),
+    fn accept(&mut self) -> Result<Option<DeadlineLink<'a, SocketLink, T>>, Failed> {
+        match next_link(&self.listener, self.limits) {
+            Ok((link, peer)) => Ok(Some(DeadlineLink::new(link, peer, self.rt, self.limits))),
             Err(error) => {
                 error!(self.rt; "can't accept a connection: {error}");
                 self.faults = self.faults.saturating_add(1);
@@ -115,7 +113,7 @@ impl<'a, T: rt::Clock + Log + Sync> Acceptor for TcpAcceptor<'a, T> {
         }
     }
 
-    fn end(&mut self, link: DeadlineLink<'a, TcpLink<TcpStream>, T>) {
+    fn end(&mut self, link: DeadlineLink<'a, SocketLink, T>) {
         let peer = link.peer();
         let by = match link.ending() {
             LinkEnding::OtherSide => "the client",

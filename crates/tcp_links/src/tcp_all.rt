@@ -1,14 +1,17 @@
-ghost use Rattle.std.specs.Prelude.{◌≡◌, None};
+ghost use Rattle.std.specs.Prelude.{◌≡◌, IfOk, None};
+ghost use Rattle.sw_base.specs.Link.{opened};
 
 use crate::limits::set_limits;
 use crate::tcp_acceptor::acceptors;
-use crate::{DeadlineLink, HasFailed, Limits, LinkEnding, LoggedLink, TcpAcceptor, TcpLink};
+use crate::{
+    DeadlineLink, HasFailed, Limits, LinkEnding, LoggedLink, SocketLink, TcpAcceptor, TcpLink,
+};
 use log::{Level, Log, error, info, log_enabled};
 use std::alloc::Global;
 use std::io::ErrorKind;
 use std::net::{Net, SocketAddr, TcpListener, TcpStream, ToSocketAddrs};
 use std::{io, rt};
-use sw_base::{Dialer, Listener, StartFault};
+use sw_base::{Dialer, Link, Listener, StartFault};
 
 /// The system's sockets, as a listener and a dialer with one count of faults. It tells nothing else.
 ///
@@ -87,17 +90,19 @@ impl<'a, N: Net<Listener = TcpListener, Stream = TcpStream>, T: rt::Clock + Log 
     }
 }
 
-/// A stream to the first of the address's places that answers, and that place, with the limit of a
-/// write set on it. Each place has the limit of a call to answer.
+/// A link to the first of the address's places that answers, and that place, with the limit of a write
+/// set on its stream. Each place has the limit of a call to answer.
 fn connect<N: Net<Stream = TcpStream>>(
     net: &N,
     address: &str,
     limits: Limits,
-) -> io::Result<(TcpStream, SocketAddr)> {
+) -> io::Result<(SocketLink, SocketAddr)>
+    ensures { IfOk result (λ it. ⟦<SocketLink as Link>⟧.state it.0 ≡ opened None None) }
+{
     let mut last = io::Error::from(ErrorKind::NotConnected);
     for place in address.to_socket_addrs(net)? {
         match TcpStream::connect_timeout(net, &place, limits.call) {
-            Ok(stream) if set_limits(&stream, limits) => return Ok((stream, place)),
+            Ok(stream) if set_limits(&stream, limits) => return Ok((TcpLink::over(stream)?, place)),
             Ok(_) => {}
             Err(error) => last = error,
         }
@@ -107,18 +112,18 @@ fn connect<N: Net<Stream = TcpStream>>(
 
 impl<'a, N: Net<Listener = TcpListener, Stream = TcpStream>, T: rt::Clock + Log + Sync> Dialer
     for TcpAll<'a, N, T> {
-    type Link = LoggedLink<DeadlineLink<'a, TcpLink<TcpStream>, T>>;
+    type Link = LoggedLink<DeadlineLink<'a, SocketLink, T>>;
 
     ghost state = { λ l. record { dialed = None; answers = None; ended = None; out = None; faults = l.faults } };
 
     fn dial(
         &mut self,
         address: &str,
-    ) -> Result<LoggedLink<DeadlineLink<'a, TcpLink<TcpStream>, T>>, StartFault> {
+    ) -> Result<LoggedLink<DeadlineLink<'a, SocketLink, T>>, StartFault> {
         let limits = Limits::of_client();
         match connect(self.net, address, limits) {
-            Ok((stream, peer)) => {
-                let link = DeadlineLink::new(TcpLink::new(stream), peer, self.rt, limits);
+            Ok((link, peer)) => {
+                let link = DeadlineLink::new(link, peer, self.rt, limits);
                 let is_kept = log_enabled!(self.rt; Level::Error);
                 Ok(LoggedLink::new(self.alloc, link, is_kept))
             }
@@ -130,7 +135,7 @@ impl<'a, N: Net<Listener = TcpListener, Stream = TcpStream>, T: rt::Clock + Log 
         }
     }
 
-    fn end(&mut self, link: LoggedLink<DeadlineLink<'a, TcpLink<TcpStream>, T>>) {
+    fn end(&mut self, link: LoggedLink<DeadlineLink<'a, SocketLink, T>>) {
         if let Some((status, body)) = link.refusal() {
             error!(self.rt; "the server refused, status {status}: {body}");
         }

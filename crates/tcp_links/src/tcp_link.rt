@@ -1,24 +1,30 @@
-ghost use Rattle.std.specs.Prelude.{◌≡◌, ◌≢◌, ◌≤◌, ◌<◌, ◌↔◌, ◌⊎◌, ◌∷◌, [], IfOk, IsTrue, length, take, None};
+ghost use Rattle.std.specs.Prelude.{◌≡◌, ◌≤◌, ◌<◌, ◌↔◌, ◌∷◌, [], IfOk, IsErr, IsTrue, IsFalse, length, take, None};
+ghost use Rattle.std.specs.Io.KnownBytes.{ReadConsumes, WriteAppends};
 ghost use Rattle.sw_base.specs.Link.{LinkState, opened};
 
 use crate::{HasFailed, LimitedReads, LimitedStream, LinkEnding};
 use std::io;
 use std::io::{ErrorKind, Read, Write};
+use std::net::TcpStream;
 use std::time::Duration;
 use sw_base::{Failed, Link};
 
 // The first byte of a hello of TLS: the type of a record that is a handshake (RFC 8446, section 5.1).
 const TLS_HANDSHAKE: u8 = 0x16;
 
-/// A stream as a link. It tells no bytes. A write of 0 bytes counts as a failed one, and a call that
-/// a signal interrupts is made again. A first read whose first byte begins a hello of TLS fails:
-/// whoever sends it awaits an answer in TLS, and would send nothing more. The error of the last call
-/// that failed is kept, for whoever says why.
+/// A stream as a link: what it reads and what it writes are told by two halves, a reader and a writer.
+/// It tells what they tell; `std` does not say what a flush of a writer does, so what was written counts
+/// as flushed. A write of 0 bytes counts as a failed one, and a call that a signal interrupts is made
+/// again. Where the first byte that comes begins a hello of TLS, each read after it fails: whoever sends
+/// that awaits an answer in TLS, and would send nothing more. The error of the last call that failed is
+/// kept, for whoever says why.
 #[derive(Drop)]
-pub struct TcpLink<S: Read + Write + Drop> {
-    stream: S,
-    // Whether bytes have come.
+pub struct TcpLink<R: Read + Drop, W: Write + Drop> {
+    reader: R,
+    writer: W,
+    // Whether bytes have come, and whether they begin a hello of TLS.
     has_begun: bool,
+    speaks_tls: bool,
     // Whether a read found the end of the input.
     at_end: bool,
     read_faults: u64,
@@ -26,14 +32,29 @@ pub struct TcpLink<S: Read + Write + Drop> {
     error: Option<io::Error>,
 }
 
-impl<S: Read + Write + Drop> TcpLink<S> {
-    /// A link over a stream. No call of it has failed.
-    pub fn new(stream: S) -> Self
-        ensures { ⟦<TcpLink<S> as Link>⟧.state result ≡ opened None None }
+/// A socket as a link, by two handles of it. Their bytes `std` doesn't tell.
+pub type SocketLink = TcpLink<TcpStream, TcpStream>;
+
+impl TcpLink<TcpStream, TcpStream> {
+    /// A link over a socket, of which it makes a second handle to write by.
+    pub fn over(stream: TcpStream) -> io::Result<SocketLink>
+        ensures { IfOk result (λ link. ⟦<SocketLink as Link>⟧.state link ≡ opened None None) }
+    {
+        let writer = stream.try_clone()?;
+        Ok(TcpLink::new(stream, writer))
+    }
+}
+
+impl<R: Read + Drop, W: Write + Drop> TcpLink<R, W> {
+    /// A link over two halves. No call of it has failed.
+    pub fn new(reader: R, writer: W) -> Self
+        ensures { ⟦<TcpLink<R, W> as Link>⟧.state result ≡ opened (R.remaining reader) (W.contents writer) }
     {
         TcpLink {
-            stream,
+            reader,
+            writer,
             has_begun: false,
+            speaks_tls: false,
             at_end: false,
             read_faults: 0,
             write_faults: 0,
@@ -41,32 +62,39 @@ impl<S: Read + Write + Drop> TcpLink<S> {
         }
     }
 
-    /// Reads once, unless the stream's first bytes begin a hello of TLS.
+    /// Reads once, unless the first bytes that came begin a hello of TLS.
     fn read_plain(&mut self, into: &mut [u8]) -> io::Result<usize>
         ensures bound { IfOk result (λ n. n ≤ length into.new) }
-        ensures plain { IsTrue self.old.has_begun ⊎ IfOk result (λ n. take 1 (take n into.new) ≢ 0x16 ∷ []) }
+        ensures same { length into.new ≡ length into.old }
+        ensures bytes { ReadConsumes (R.remaining self.old.reader) (R.remaining self.new.reader) result into.new }
+        ensures seen { IsFalse self.old.has_begun → IfOk result (λ n. IsTrue self.new.speaks_tls ↔ (take 1 (take n into.new) ≡ 0x16 ∷ [])) }
+        ensures plain { IsTrue self.old.speaks_tls → IsErr result }
+        ensures writer { self.new.writer ≡ self.old.writer }
         ensures reads { self.new.read_faults ≡ self.old.read_faults }
         ensures writes { self.new.write_faults ≡ self.old.write_faults }
     {
-        let n = read_again(&mut self.stream, into)?;
-        let has_begun = self.has_begun;
-        self.has_begun = true;
-        if !has_begun && is_hello(&into[..n]) {
+        if self.speaks_tls {
             return Err(io::Error::new(ErrorKind::InvalidData, "it speaks TLS"));
+        }
+        let n = read_again(&mut self.reader, into)?;
+        if !self.has_begun {
+            self.has_begun = true;
+            self.speaks_tls = is_hello(&into[..n]);
         }
         Ok(n)
     }
 
-    /// The stream, where its peer may have sent more than was read and still awaits the last reply.
-    pub(crate) fn into_unfinished(self) -> Option<S> {
+    /// The half that reads, where its peer may have sent more than was read and still awaits the last
+    /// reply.
+    pub(crate) fn into_unfinished(self) -> Option<R> {
         if self.at_end || self.has_failed() {
             return None;
         }
-        Some(self.stream)
+        Some(self.reader)
     }
 }
 
-impl<S: Read + Write + Drop> HasFailed for TcpLink<S> {
+impl<R: Read + Drop, W: Write + Drop> HasFailed for TcpLink<R, W> {
     fn has_failed(&self) -> bool {
         self.read_faults > 0 || self.write_faults > 0
     }
@@ -80,18 +108,20 @@ impl<S: Read + Write + Drop> HasFailed for TcpLink<S> {
     }
 }
 
-impl<S: Read + Write + LimitedStream + Drop> LimitedReads for TcpLink<S> {
+impl<R: Read + LimitedStream + Drop, W: Write + Drop> LimitedReads for TcpLink<R, W> {
     fn limit_reads(&mut self, limit: Duration) -> bool {
-        self.stream.limit_reads(limit)
+        self.reader.limit_reads(limit)
     }
 }
 
 /// Reads once, and again where a signal interrupted that.
-fn read_again<S: Read>(stream: &mut S, into: &mut [u8]) -> io::Result<usize>
-    ensures { IfOk result (λ n. n ≤ length into.new) }
+fn read_again<R: Read>(reader: &mut R, into: &mut [u8]) -> io::Result<usize>
+    ensures bound { IfOk result (λ n. n ≤ length into.new) }
+    ensures same { length into.new ≡ length into.old }
+    ensures bytes { ReadConsumes (R.remaining reader.old) (R.remaining reader.new) result into.new }
 {
     for _ in 0..u64::MAX {
-        match stream.read(into) {
+        match reader.read(into) {
             Ok(n) => return Ok(n),
             Err(error) => {
                 if error.kind() != ErrorKind::Interrupted {
@@ -111,11 +141,12 @@ fn is_hello(bytes: &[u8]) -> bool
 }
 
 /// Writes once, and again where a signal interrupted that: 1 byte at least.
-fn write_again<S: Write>(stream: &mut S, piece: &[u8]) -> io::Result<usize>
-    ensures { IfOk result (λ n. (0 < n) × (n ≤ length piece.now)) }
+fn write_again<W: Write>(writer: &mut W, piece: &[u8]) -> io::Result<usize>
+    ensures bound { IfOk result (λ n. (0 < n) × (n ≤ length piece.now)) }
+    ensures bytes { WriteAppends (W.contents writer.old) (W.contents writer.new) result piece.now }
 {
     for _ in 0..u64::MAX {
-        match stream.write(piece) {
+        match writer.write(piece) {
             Ok(n) if n > 0 => return Ok(n),
             Ok(_) => return Err(io::Error::from(ErrorKind::WriteZero)),
             Err(error) => {
@@ -128,11 +159,11 @@ fn write_again<S: Write>(stream: &mut S, piece: &[u8]) -> io::Result<usize>
     Err(io::Error::from(ErrorKind::Interrupted))
 }
 
-impl<S: Read + Write + Drop> Link for TcpLink<S> {
+impl<R: Read + Drop, W: Write + Drop> Link for TcpLink<R, W> {
     ghost state = { λ l. record {
-      left = None;
-      written = None;
-      flushed = None;
+      left = R.remaining l.reader;
+      written = W.contents l.writer;
+      flushed = W.contents l.writer;
       read_faults = l.read_faults;
       write_faults = l.write_faults;
     } };
@@ -152,7 +183,7 @@ impl<S: Read + Write + Drop> Link for TcpLink<S> {
     }
 
     fn write(&mut self, piece: &[u8]) -> Result<usize, Failed> {
-        match write_again(&mut self.stream, piece) {
+        match write_again(&mut self.writer, piece) {
             Ok(n) => Ok(n),
             Err(error) => {
                 self.write_faults = self.write_faults.saturating_add(1);
@@ -163,7 +194,7 @@ impl<S: Read + Write + Drop> Link for TcpLink<S> {
     }
 
     fn flush(&mut self) -> Result<(), Failed> {
-        match self.stream.flush() {
+        match self.writer.flush() {
             Ok(()) => Ok(()),
             Err(error) => {
                 self.write_faults = self.write_faults.saturating_add(1);
