@@ -69,14 +69,6 @@ fn move_in<R: Files + Processes + AllocGlobal>(
     }
 }
 
-fn deepest_prepared(caches: &[PreparedCache]) -> usize {
-    let mut deepest = 0;
-    for cache in caches {
-        deepest = deepest.max(depth(cache.path.as_str()));
-    }
-    deepest
-}
-
 /// Moves the caches of a run to their paths.
 pub fn move_all_in<R: Files + Processes + AllocGlobal>(
     rt: &R,
@@ -84,7 +76,8 @@ pub fn move_all_in<R: Files + Processes + AllocGlobal>(
     work: &str,
     caches: &[PreparedCache],
 ) -> io::Result<()> {
-    for level in 0..=deepest_prepared(caches) {
+    let deepest = caches.iter().map(|it| depth(it.path.as_str())).max();
+    for level in 0..=deepest.unwrap_or(0) {
         for cache in caches {
             if depth(cache.path.as_str()) == level {
                 move_in(rt, kept, work, cache)?;
@@ -111,14 +104,6 @@ fn move_back<R: Files + Processes + AllocGlobal>(
     move_folder(rt, from.as_str(), to.as_str(), work)
 }
 
-fn deepest_of(caches: &[CachePath]) -> usize {
-    let mut deepest = 0;
-    for cache in caches {
-        deepest = deepest.max(depth(cache.path.as_str()));
-    }
-    deepest
-}
-
 /// Moves the caches of a run back from its work folder.
 pub fn move_all_back<R: Files + Processes + AllocGlobal>(
     rt: &R,
@@ -126,7 +111,8 @@ pub fn move_all_back<R: Files + Processes + AllocGlobal>(
     work: &str,
     caches: &[CachePath],
 ) -> io::Result<()> {
-    for level in (0..=deepest_of(caches)).rev() {
+    let deepest = caches.iter().map(|it| depth(it.path.as_str())).max();
+    for level in (0..=deepest.unwrap_or(0)).rev() {
         for cache in caches {
             if depth(cache.path.as_str()) == level {
                 move_back(rt, kept, work, cache)?;

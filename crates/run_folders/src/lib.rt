@@ -2,8 +2,9 @@
 //! which both are held in order.
 //!
 //! Nothing that a task names, be it an input, an output or a cache, leads out of the work folder, and no
-//! symbolic link is followed on the way. That no clause says: what is proved is that each call is safe and
-//! ends. Each program of the system is given 300 seconds.
+//! symbolic link is followed on the way. Proved is which names and paths are taken, by the rule on the paths
+//! of a task, and that each call is safe and ends; the rest no clause says. Each program of the system is
+//! given 300 seconds.
 //!
 //! The crate stands below `shell_runner`, which starts the children.
 #![tactic(auto)]
