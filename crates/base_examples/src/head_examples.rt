@@ -5,10 +5,11 @@ ghost use Rattle.httparse.specs.Grammar.{RequestHead, ResponseHead, ReadsRespons
 ghost use Rattle.head_fields.specs.Fields.{same_name, only, lacks};
 ghost use Rattle.head_fields.specs.Numbers.{number, only_number};
 ghost use Rattle.head_fields.specs.declared.number.Number.TheVariants.{Absent, Told, Broken};
-ghost use Rattle.request_head.specs.declared.method.Method.TheVariants.{Get, Post};
+ghost use Rattle.request_head.specs.declared.method.Method.TheVariants.{Get, Head, Post, Other};
+ghost use Rattle.request_head.specs.declared.head_refusal.HeadRefusal.TheVariants.{LengthRequired, TooLarge};
 ghost use Rattle.request_head.specs.declared.after.After.TheVariants as after;
 ghost use Rattle.request_head.specs.Heads.{IsHead, IsNoHead};
-ghost use Rattle.request_head.specs.HeadFields.{limit_at, is_close, closes, after_told, refusal, length_required, too_large};
+ghost use Rattle.request_head.specs.HeadFields.{method_named, limit_at, is_close, closes, after_told, refusal};
 ghost use Rattle.reply_reader.specs.Replies.{IsReplyHead, HasNoReply, size_of, size_of_fields};
 ghost use Rattle.base_examples.specs.HeadExamples.{reply_of};
 
@@ -50,7 +51,7 @@ pub fn the_limit_of_a_body_is_greater_for_blobs()
     ensures blob { limit_at (codes "/blobs/default") ≡ 16777216 }
     ensures other { limit_at (codes "/bot/poll") ≡ 65536 }
     ensures at_the_limit { refusal Post (Told 65536) false 65536 ≡ None }
-    ensures above { refusal Post (Told 65537) false 65536 ≡ Some (too_large 65536) }
+    ensures above { refusal Post (Told 65537) false 65536 ≡ Some (TooLarge 65536) }
 {}
 
 /// A connection closes by the token `close`, in any case, and with version 1.0.
@@ -64,10 +65,17 @@ pub fn a_connection_closes_by_its_token_or_its_version()
 
 /// A transfer coding is refused beside a length too, and a method with a body needs a length.
 pub fn a_body_is_told_by_a_length_alone()
-    ensures coded { refusal Post (Told 2) true 65536 ≡ Some length_required }
-    ensures coded_without_length { refusal Get Absent true 65536 ≡ Some length_required }
-    ensures without_length { refusal Post Absent false 65536 ≡ Some length_required }
+    ensures coded { refusal Post (Told 2) true 65536 ≡ Some LengthRequired }
+    ensures coded_without_length { refusal Get Absent true 65536 ≡ Some LengthRequired }
+    ensures without_length { refusal Post Absent false 65536 ≡ Some LengthRequired }
     ensures no_body { refusal Get Absent false 65536 ≡ None }
+{}
+
+/// The name of a method is compared byte for byte, and HEAD needs no length.
+pub fn a_method_is_named_in_upper_case()
+    ensures head { method_named (codes "HEAD") ≡ Head }
+    ensures other { method_named (codes "head") ≡ Other }
+    ensures no_body { refusal Head Absent false 65536 ≡ None }
 {}
 
 /// A head with bytes behind it is no head.

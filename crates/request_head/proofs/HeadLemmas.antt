@@ -1,5 +1,5 @@
 -- What the code's loops and spans say of a head.
-use Rattle.std.proofs.Common.{◌≡◌, ℕ, ◌+◌, ◌<◌, true, false, Bool, ◌&&◌, ◌||◌, not, codes, option_map, Option, refl, sym, inr, arith, List, [], ◌∷◌, length, take, map, get_or, ap, ◌∙◌}
+use Rattle.std.proofs.Common.{◌≡◌, ℕ, ◌+◌, ◌<◌, true, false, Bool, ◌&&◌, ◌||◌, not, codes, option_map, refl, sym, arith, List, [], ◌∷◌, length, take, map, get_or, ap, ◌∙◌}
 use Rattle.std.specs.List.{list_all, list_any}
 use Rattle.std.proofs.lemmas.Bool.{false≢true}
 use Rattle.std.proofs.lemmas.List.Sums.{AllPass-from_list_all}
@@ -18,10 +18,10 @@ use Rattle.request_head.specs.declared.method.Method.{Method}
 use Rattle.head_fields.specs.declared.number.Number.{Number}
 use Rattle.head_fields.specs.Fields.{lacks}
 use Rattle.head_fields.specs.Numbers.{value_or_zero}
-use Rattle.request_head.specs.HeadFields.{is_visible, is_caller, is_closing, method_named, length_told, limit_at, closes, caller_told, after_told, fields_of, method_of, size_of, closes_of, caller_of, after_of, HeadRefusal, refusal, head_refusal}
-use Rattle.request_head.specs.HeadChecks.{Covers, IsHeadOf, IsWholeHead, IsChecked, IsCheckedHead, IsDue, Refuses}
+use Rattle.request_head.specs.HeadFields.{is_visible, is_caller, is_closing, method_named, length_told, limit_at, closes, caller_told, after_told, fields_of, method_of, size_of, closes_of, caller_of, after_of, refusal, head_refusal}
+use Rattle.request_head.specs.HeadChecks.{Covers, IsHeadOf, IsWholeHead, IsChecked, IsCheckedHead}
 use Rattle.request_head.specs.declared.head_check.HeadCheck.{HeadCheck}
-use Rattle.request_head.specs.declared.head_check.HeadCheck.TheVariants.{Bad, LengthRequired, TooLarge, Good}
+use Rattle.request_head.specs.declared.head_check.HeadCheck.TheVariants.{NoHead, Refused, Good}
 use Rattle.request_head.specs.declared.head.Head.{Head}
 
 -- the second of two tests that both pass
@@ -70,6 +70,12 @@ refusal_read {text = text} {r = r} {headers = headers} {h = h} covers method tol
     ∙ ap (λ x. refusal method told (not x) (limit_at h.target)) e
     ∙ ap (λ x. refusal method told (not none) x) t
 
+-- the method, by what was read of the span that covers it
+pub method_read : {text : List ℕ} {r : RequestSpans} {headers : List HeaderSpan} {h : RequestHead} → Covers text r headers h
+    → {method : Method} → method ≡ method_named (span_bytes text r.method) → method ≡ method_of h
+unfolding method_of
+method_read covers method = method ∙ ap method_named covers.method
+
 -- what the head says, by what was read of the spans that cover it
 pub says_read : {text : List ℕ} {r : RequestSpans} {headers : List HeaderSpan} {h : RequestHead} → Covers text r headers h → (head : Head)
     → head.method ≡ method_named (span_bytes text r.method) → head.target.now ≡ span_bytes text r.path
@@ -92,14 +98,6 @@ covers_whole text headers r w = record { method = w.at.method; target = w.at.pat
 
 -- an answer that is due to a head is due to its text
 pub judged_head : (text : List ℕ) (answer : HeadCheck) → IsCheckedHead text answer → IsChecked text answer
-judged_head text Bad head_check = inr head_check
-judged_head text LengthRequired head_check = head_check
-judged_head text (TooLarge limit) head_check = head_check
+judged_head text NoHead head_check = absurd head_check.due
+judged_head text (Refused method why) head_check = head_check
 judged_head text (Good head) head_check = head_check
-
--- a refusal is due where it is the head's
-pub due_refused : (h : RequestHead) (why : Option HeadRefusal) (answer : HeadCheck) → head_refusal h ≡ why → Refuses why answer → IsDue h answer
-due_refused h why Bad same refuses = same ∙ refuses
-due_refused h why LengthRequired same refuses = same ∙ refuses
-due_refused h why (TooLarge limit) same refuses = same ∙ refuses
-due_refused h why (Good head) same refuses = absurd refuses

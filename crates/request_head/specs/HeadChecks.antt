@@ -1,14 +1,14 @@
 -- What is judged of a text.
-use Rattle.std.specs.Prelude.{◌≡◌, ◌⊎◌, ℕ, List, map, Option, Some, None, option_map}
+use Rattle.std.specs.Prelude.{◌≡◌, ℕ, List, map, Some, None, option_map}
 use Rattle.httparse.specs.Grammar.{RequestHead}
 use Rattle.httparse.specs.Spans.{span_bytes, IsRequestAt, IsRequestWithin, header_bytes}
 use Rattle.httparse.specs.declared.spans.HeaderSpan.{HeaderSpan}
 use Rattle.httparse.specs.declared.spans.RequestSpans.{RequestSpans}
 use Rattle.request_head.specs.declared.head.Head.{Head}
 use Rattle.request_head.specs.declared.head_check.HeadCheck.{HeadCheck}
-use Rattle.request_head.specs.declared.head_check.HeadCheck.TheVariants.{Bad, LengthRequired, TooLarge, Good}
+use Rattle.request_head.specs.declared.head_check.HeadCheck.TheVariants.{NoHead, Refused, Good}
 use Rattle.request_head.specs.Heads.{IsHead, IsNoHead}
-use Rattle.request_head.specs.HeadFields.{HeadRefusal, bad, length_required, too_large, head_refusal, fields_of, method_of, size_of, closes_of, caller_of, after_of}
+use Rattle.request_head.specs.HeadFields.{head_refusal, fields_of, method_of, size_of, closes_of, caller_of, after_of}
 
 -- the head says this
 pub record IsHeadOf (h : RequestHead) (head : Head) : Type 0 where
@@ -19,18 +19,10 @@ pub record IsHeadOf (h : RequestHead) (head : Head) : Type 0 where
   pub caller : option_map (λ c. c.now) head.caller ≡ caller_of h
   pub after : head.after ≡ after_of h
 
--- the answer is a refusal, and this one
-abbrev pub Refuses : Option HeadRefusal → HeadCheck → Type 0
-Refuses why Bad = why ≡ Some bad
-Refuses why LengthRequired = why ≡ Some length_required
-Refuses why (TooLarge limit) = why ≡ Some (too_large limit)
-Refuses why (Good head) = ⊥
-
 -- the answer that is due to a head
 abbrev pub IsDue : RequestHead → HeadCheck → Type 0
-IsDue h Bad = Refuses (head_refusal h) Bad
-IsDue h LengthRequired = Refuses (head_refusal h) LengthRequired
-IsDue h (TooLarge limit) = Refuses (head_refusal h) (TooLarge limit)
+IsDue h NoHead = ⊥
+IsDue h (Refused method why) = (head_refusal h ≡ Some why) × (method ≡ method_of h)
 IsDue h (Good head) = (head_refusal h ≡ None) × IsHeadOf h head
 
 -- the text is a head, and the answer is due to it; the head is one alone, by the grammar's law `request_unique`
@@ -41,9 +33,8 @@ pub record IsCheckedHead (text : List ℕ) (answer : HeadCheck) : Type 0 where
 
 -- each answer where it is due
 abbrev pub IsChecked : List ℕ → HeadCheck → Type 0
-IsChecked text Bad = IsNoHead text ⊎ IsCheckedHead text Bad
-IsChecked text LengthRequired = IsCheckedHead text LengthRequired
-IsChecked text (TooLarge limit) = IsCheckedHead text (TooLarge limit)
+IsChecked text NoHead = IsNoHead text
+IsChecked text (Refused method why) = IsCheckedHead text (Refused method why)
 IsChecked text (Good head) = IsCheckedHead text (Good head)
 
 -- the spans of the text cover the parts of the head

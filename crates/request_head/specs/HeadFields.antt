@@ -9,7 +9,9 @@ use Rattle.head_fields.specs.Numbers.{only_number, is_broken, is_absent, value_o
 use Rattle.head_fields.specs.declared.number.Number.{Number}
 use Rattle.head_fields.specs.declared.number.Number.TheVariants as number
 use Rattle.request_head.specs.declared.method.Method.{Method}
-use Rattle.request_head.specs.declared.method.Method.TheVariants.{Get, Post, Put, Other}
+use Rattle.request_head.specs.declared.method.Method.TheVariants.{Get, Head, Post, Put, Other}
+use Rattle.request_head.specs.declared.head_refusal.HeadRefusal.{HeadRefusal}
+use Rattle.request_head.specs.declared.head_refusal.HeadRefusal.TheVariants.{Bad, LengthRequired, TooLarge}
 use Rattle.request_head.specs.declared.after.After.{After}
 use Rattle.request_head.specs.declared.after.After.TheVariants as after
 
@@ -21,8 +23,9 @@ fields_of h = map name_and_value h.fields
 abbrev pub method_named : List ℕ → Method
 method_named name =
     if bytes_eq name (codes "GET") then Get
+    else (if bytes_eq name (codes "HEAD") then Head
     else (if bytes_eq name (codes "POST") then Post
-    else (if bytes_eq name (codes "PUT") then Put else Other))
+    else (if bytes_eq name (codes "PUT") then Put else Other)))
 
 -- what Content-Length tells
 abbrev pub length_told : List (List ℕ × List ℕ) → Number
@@ -37,6 +40,7 @@ abbrev pub has_body : Method → Bool
 has_body Post = true
 has_body Put = true
 has_body Get = false
+has_body Head = false
 has_body Other = false
 
 -- the token is `close`, in any case
@@ -86,17 +90,12 @@ after_told fields = after_number (only_number 19 (named (codes "x-swarming-after
 abbrev pub wants_length : Method → Number → Bool → Bool
 wants_length method length encoded = encoded || (has_body method && is_absent length)
 
--- why a head is refused
-pub data HeadRefusal : Type 0 where
-  bad length_required : HeadRefusal
-  too_large : (limit : ℕ) → HeadRefusal
-
 -- a Content-Length that is none; then a Transfer-Encoding, or a body of no length; then one that is too long
 abbrev pub refusal : Method → Number → Bool → ℕ → Option HeadRefusal
 refusal method length encoded limit =
-    if is_broken length then Some bad
-    else (if wants_length method length encoded then Some length_required
-    else (if nat_le (value_or_zero length) limit then None else Some (too_large limit)))
+    if is_broken length then Some Bad
+    else (if wants_length method length encoded then Some LengthRequired
+    else (if nat_le (value_or_zero length) limit then None else Some (TooLarge limit)))
 
 unfoldable pub method_of : RequestHead → Method
 method_of h = method_named h.method

@@ -1,14 +1,14 @@
-ghost use Rattle.std.specs.Prelude.{◌≡◌, All, IsUtf8, length, map, MatchOption, MatchResult, option_map};
+ghost use Rattle.std.specs.Prelude.{◌≡◌, All, IsUtf8, length, map, MatchOption, MatchResult, None, Some, option_map};
 ghost use Rattle.httparse.specs.Grammar.{RequestHead};
 ghost use Rattle.httparse.specs.Spans.{IsWithin, IsHeaderWithin, span_bytes, header_bytes};
 ghost use Rattle.request_head.specs.Heads.{IsNoHead};
 ghost use Rattle.request_head.specs.HeadFields.{limit_at as spec_limit_at, caller_told as spec_caller_told, refusal};
 ghost use Rattle.head_fields.specs.Numbers.{value_or_zero};
-ghost use Rattle.request_head.specs.HeadChecks.{IsChecked, IsDue, Refuses, Covers, IsWholeHead};
+ghost use Rattle.request_head.specs.HeadChecks.{IsChecked, IsDue, Covers, IsWholeHead};
 
 use crate::caller::caller_of;
 use crate::connection::closes;
-use crate::{After, Head, Method};
+use crate::{After, Head, HeadRefusal, Method};
 use head_fields::{Number, lacks, only, only_number};
 use httparse::Status;
 use httparse::spans::{EMPTY_HEADER_SPAN, HeaderSpan, RequestSpans, parse_request};
@@ -21,13 +21,9 @@ const BLOB_LIMIT: u32 = 16777216;
 /// What is judged of the bytes of a head.
 #[derive(Clone, Copy, Debug, PartialEq, Eq)]
 pub enum HeadCheck<'a> {
-    /// They are no request head, or one with more than 64 fields, or one whose Content-Length is
-    /// not one field of 1 to 10 digits.
-    Bad,
-    /// The head has a Transfer-Encoding, or its method is POST or PUT and it has no Content-Length.
-    LengthRequired,
-    /// The Content-Length is above the limit of the target.
-    TooLarge { limit: u32 },
+    /// They are no request head, or one with more than 64 fields.
+    NoHead,
+    Refused { method: Method, why: HeadRefusal },
     Good(Head<'a>),
 }
 
@@ -68,25 +64,20 @@ fn caller_told<'a>(text: &'a [u8], headers: &[HeaderSpan]) -> Option<&'a str>
 }
 
 /// The bytes of the body, or the refusal that is due.
-fn body_size<'a>(
-    method: Method,
-    length: Number,
-    encoded: bool,
-    limit: u32,
-) -> Result<u32, HeadCheck<'a>>
+fn body_size(method: Method, length: Number, encoded: bool, limit: u32) -> Result<u32, HeadRefusal>
     ensures { MatchResult result
         (λ size. (refusal method length encoded limit ≡ None) × (size ≡ value_or_zero length))
-        (λ answer. Refuses (refusal method length encoded limit) answer) }
+        (λ why. refusal method length encoded limit ≡ Some why) }
 {
     if length.is_broken() {
-        return Err(HeadCheck::Bad);
+        return Err(HeadRefusal::Bad);
     }
     if encoded || (method.has_body() && length.is_absent()) {
-        return Err(HeadCheck::LengthRequired);
+        return Err(HeadRefusal::LengthRequired);
     }
     let size = length.value_or_zero();
     if size > u64::from(limit) {
-        return Err(HeadCheck::TooLarge { limit });
+        return Err(HeadRefusal::TooLarge { limit });
     }
     Ok(size as u32)
 }
@@ -117,7 +108,7 @@ fn check_whole_head<'a>(
             caller: caller_told(text, headers),
             after: After::from_number(only_number(text, headers, b"x-swarming-after", 19)),
         }),
-        Err(refused) => refused,
+        Err(why) => HeadCheck::Refused { method, why },
     }
 }
 
@@ -128,6 +119,6 @@ pub fn check_head(text: &[u8]) -> HeadCheck<'_>
     let mut headers = [EMPTY_HEADER_SPAN; 64];
     match whole_head(text, &mut headers) {
         Some(head) => check_whole_head(text, &head, &headers[..head.headers]),
-        None => HeadCheck::Bad,
+        None => HeadCheck::NoHead,
     }
 }

@@ -5,6 +5,7 @@ ghost use Rattle.request_head.specs.HeadFields.{method_named, has_body as spec_h
 #[derive(Clone, Copy, Debug, PartialEq, Eq)]
 pub enum Method {
     Get,
+    Head,
     Post,
     Put,
     Other,
@@ -16,6 +17,8 @@ impl Method {
     {
         if name == b"GET".as_slice() {
             Method::Get
+        } else if name == b"HEAD".as_slice() {
+            Method::Head
         } else if name == b"POST".as_slice() {
             Method::Post
         } else if name == b"PUT".as_slice() {
@@ -31,7 +34,7 @@ impl Method {
     {
         match self {
             Method::Post | Method::Put => true,
-            Method::Get | Method::Other => false,
+            Method::Get | Method::Head | Method::Other => false,
         }
     }
 }

@@ -22,7 +22,7 @@ use Rattle.swarm_http.specs.Permissions.{permitted}
 use Rattle.swarm_http.specs.Requests.{CallerRequest, and_then, routed, with_front, caller_request_of, permitted_request, request_of, parts_of, front_of}
 use Rattle.swarm_http.specs.Outcomes.{DoorCall, called_place, call_of, rejected, no_body_memory, IsCalled}
 use Rattle.swarm_http.specs.Replies.{refusal}
-use Rattle.swarm_http.specs.Sends.{status_in, text_of}
+use Rattle.swarm_http.specs.Sends.{status_in, shown_in}
 use Rattle.swarm_http.specs.Steps.{Answers, IsRejection, by_rule, by_memory}
 use Rattle.swarm_http.proofs.Serving.{HandsIn-nil}
 
@@ -53,14 +53,14 @@ asks_permitted settings who asked e = ap (λ (r : Result Asked Rule). and_then r
 
 -- a request that was refused before any call
 pub refused_early : (settings : Settings) (head : RequestHead) (body : List ℕ) (a : ℕ → Option (List ℕ)) (door : DoorState) (shown : ReplyBytes) (why : Rule)
-    → door.settings ≡ settings → request_of settings head body ≡ Err why → status_in shown ≡ status_of (reply.No why) → text_of shown ≡ refusal None why
+    → door.settings ≡ settings → request_of settings head body ≡ Err why → status_in shown ≡ status_of (reply.No why) → shown_in shown ≡ refusal None why
     → Answers head body a a door door shown
 refused_early settings head body a door shown why same means status text =
     record { outcome = rejected why; acts = (rw same means, refl); moments = HandsIn-nil a; keeper = omega arith; status = status; shown = text }
 
 -- a request for which there was no memory
 pub not_held : (head : RequestHead) (body : List ℕ) (a : ℕ → Option (List ℕ)) (door : DoorState) (shown : ReplyBytes)
-    → status_in shown ≡ status_of (reply.No rule.WantOfMemory) → text_of shown ≡ refusal None rule.WantOfMemory → Answers head body a a door door shown
+    → status_in shown ≡ status_of (reply.No rule.WantOfMemory) → shown_in shown ≡ refusal None rule.WantOfMemory → Answers head body a a door door shown
 not_held head body a door shown status text = record { outcome = no_body_memory; acts = refl; moments = HandsIn-nil a; keeper = omega arith; status = status; shown = text }
 
 -- a request that was refused for what was left to look at

@@ -1,5 +1,5 @@
 -- The head at the front of what is pending, and what stands behind it.
-use Rattle.std.specs.Prelude.{◌⊎◌, if◌then◌else◌, not, nat_le, nat_eq, codes, IfSome, IsTrue}
+use Rattle.std.specs.Prelude.{if◌then◌else◌, not, nat_le, nat_eq, codes, IfSome, IsTrue}
 use Rattle.std.specs.List.{starts_with}
 use Rattle.std.proofs.Common.{inl, inr, refl, Bool, true, false, ◌≡◌, ℕ, ◌+◌, ◌-◌, ◌<◌, ◌≤◌, None, List, [], ◌++◌, length, take, arith, sym, ap, ◌∙◌, subst, append_assoc, append-nil, Option, Some, leb-true}
 use Rattle.std.proofs.lemmas.List.{get_or-take, length-take-le}
@@ -13,7 +13,10 @@ use Rattle.link_reader.specs.Bodies.{IsWhole, IsCut}
 use Rattle.request_head.specs.Heads.{IsHead, IsNoHead}
 use Rattle.head_fields.specs.Fields.{lacks}
 use Rattle.head_fields.specs.Numbers.{is_broken, value_or_zero}
-use Rattle.request_head.specs.HeadFields.{bad, length_required, too_large, head_refusal, size_of, limit_at, fields_of, length_told, wants_length, method_named}
+use Rattle.request_head.specs.declared.method.Method.{Method}
+use Rattle.request_head.specs.declared.head_refusal.HeadRefusal.{HeadRefusal}
+use Rattle.request_head.specs.declared.head_refusal.HeadRefusal.TheVariants.{Bad, LengthRequired, TooLarge}
+use Rattle.request_head.specs.HeadFields.{head_refusal, size_of, limit_at, fields_of, length_told, wants_length, method_named}
 use Rattle.request_head.specs.HeadChecks.{IsCheckedHead}
 use Rattle.request_head.specs.declared.head_check.HeadCheck.TheVariants as head_check
 use Rattle.swarm_model.specs.declared.rule.Rule.TheVariants as rule
@@ -24,7 +27,7 @@ use Rattle.swarm_http.specs.declared.request.Received.{Received}
 use Rattle.swarm_http.specs.declared.request.Incoming.{Incoming}
 use Rattle.swarm_http.specs.declared.request.Incoming.TheVariants as taken
 use Rattle.swarm_http.specs.Exchange.{HeadSays}
-use Rattle.swarm_http.specs.Answered.{IsPart, in_body, IsRefused, no_head, by_head}
+use Rattle.swarm_http.specs.Answered.{IsPart, in_body, head_rule, IsRefused, no_head, by_head}
 use Rattle.swarm_http.specs.Sends.{rule_of}
 use Rattle.swarm_http.specs.Takes.{IsLimit, IsHeld, IsReceived, StopsAs, IsIncoming, Takes}
 
@@ -83,19 +86,17 @@ pub part_cut : {input text : List ℕ} {size : ℕ} {head : RequestHead} → Hea
 part_cut {text = text} {size = size} {head = head} says told cut =
     in_body text cut.front head says cut.input_is (let short : length cut.front < size = cut.short in omega (arith, told))
 
--- the bytes through the first blank line are no head, or one that says so
-pub bad_refused : (pending : List ℕ) (n : ℕ) → IsHeadEnd pending n → IsNoHead (take n pending) ⊎ IsCheckedHead (take n pending) head_check.Bad → IsRefused pending rule.BadHead
-bad_refused pending n end (inl none) = no_head n refl end none
-bad_refused pending n end (inr h) = by_head n h.head bad refl end h.is_head h.due
+-- the bytes through the first blank line are no head
+pub none_refused : (pending : List ℕ) (n : ℕ) → IsHeadEnd pending n → IsNoHead (take n pending) → IsRefused pending None rule.BadHead
+none_refused pending n end none = no_head n refl refl end none
 
-pub length_refused : (pending : List ℕ) (n : ℕ) → IsHeadEnd pending n → IsCheckedHead (take n pending) head_check.LengthRequired → IsRefused pending rule.LengthRequired
-length_refused pending n end h = by_head n h.head length_required refl end h.is_head h.due
-
-pub size_refused : (pending : List ℕ) (n limit : ℕ) → IsHeadEnd pending n → IsCheckedHead (take n pending) (head_check.TooLarge limit) → IsRefused pending (rule.TooLarge limit)
-size_refused pending n limit end h = by_head n h.head (too_large limit) refl end h.is_head h.due
+-- they are a head that is refused
+pub cause_refused : (pending : List ℕ) (n : ℕ) {method : Method} {why : HeadRefusal} → IsHeadEnd pending n → IsCheckedHead (take n pending) (head_check.Refused method why)
+    → IsRefused pending (Some method) (head_rule why)
+cause_refused pending n {why = why} end h = by_head n h.head why (ap Some h.due.1) refl end h.is_head h.due.0
 
 refusal_limit : (broken wants fits : Bool) (at limit : ℕ)
-    → (if broken then Some bad else (if wants then Some length_required else (if fits then None else Some (too_large at)))) ≡ Some (too_large limit) → at ≡ limit
+    → (if broken then Some Bad else (if wants then Some LengthRequired else (if fits then None else Some (TooLarge at)))) ≡ Some (TooLarge limit) → at ≡ limit
 refusal_limit true wants fits at limit e = absurd (cc)
 refusal_limit false true fits at limit e = absurd (cc)
 refusal_limit false false true at limit e = absurd (cc)
@@ -106,7 +107,7 @@ one_of_limits true = inr refl
 one_of_limits false = inl refl
 
 -- there are two limits
-pub limit_is : (h : RequestHead) (limit : ℕ) → head_refusal h ≡ Some (too_large limit) → IsLimit limit
+pub limit_is : (h : RequestHead) (limit : ℕ) → head_refusal h ≡ Some (TooLarge limit) → IsLimit limit
 unfolding head_refusal
 limit_is h limit e =
     subst IsLimit
@@ -115,7 +116,7 @@ limit_is h limit e =
     (one_of_limits (starts_with nat_eq h.target (codes "/blobs/")))
 
 fits_limit : (broken wants fits : Bool) (at : ℕ)
-    → (if broken then Some bad else (if wants then Some length_required else (if fits then None else Some (too_large at)))) ≡ None → IsTrue fits
+    → (if broken then Some Bad else (if wants then Some LengthRequired else (if fits then None else Some (TooLarge at)))) ≡ None → IsTrue fits
 fits_limit true wants fits at e = absurd (cc)
 fits_limit false true fits at e = absurd (cc)
 fits_limit false false true at e = refl
@@ -146,7 +147,8 @@ short_body {received = received} x =
     held_short (λ v. v.items) received.body r.body r.held.body_is (subst (λ n. n ≤ 16777216) r.size (accepted_size r.head r.says.accepted))
 
 -- the head that is pending is refused, with nothing read
-pub refused_here : {s : LinkState} {pending : List ℕ} {why : Refusal} → IsRefused pending (rule_of why) → Takes s s pending pending (taken.Refuses why)
+pub refused_here : {s : LinkState} {pending : List ℕ} {method : Option Method} {why : Refusal} → IsRefused pending method (rule_of why)
+    → Takes s s pending pending (taken.Refuses method why)
 refused_here {s = s} {pending = pending} refused = record { taken = []; moves = Moves-refl s; output = SameOutput-refl s; outcome = (refused, append-nil pending, refl) }
 
 stops_after : (ended : Ended) (rest : List ℕ) (s t u : LinkState) → t.read_faults ≡ s.read_faults → StopsAs ended rest t u → StopsAs ended rest s u
@@ -161,7 +163,7 @@ stops_after Memory rest s t u le x = x
 
 taken_after : (s t u : LinkState) (input new : List ℕ) (r : Incoming) → t.read_faults ≡ s.read_faults → IsIncoming t u input new r → IsIncoming s u input new r
 taken_after s t u input new (taken.Asks received) le x = (x.0, x.1 ∙ le)
-taken_after s t u input new (taken.Refuses why) le x = (x.0, x.1, x.2 ∙ le)
+taken_after s t u input new (taken.Refuses method why) le x = (x.0, x.1, x.2 ∙ le)
 taken_after s t u input new (taken.Ends ended) le x = stops_after ended input s t u le x
 
 -- a request was taken after reads, none of which failed

@@ -1,5 +1,5 @@
 -- Exchanges, one after another.
-use Rattle.std.proofs.Common.{Bool, true, false, ◌≡◌, ℕ, ◌+◌, ◌<◌, ◌≤◌, List, [], ◌∷◌, ◌++◌, length, arith, refl, sym, ap, ◌∙◌, append_assoc, append-nil, length-append, Option, None, Result, subst}
+use Rattle.std.proofs.Common.{Bool, true, false, ◌≡◌, ℕ, ◌+◌, ◌<◌, ◌≤◌, List, [], ◌∷◌, ◌++◌, length, arith, refl, sym, ap, ◌∙◌, append_assoc, append-nil, length-append, Option, Some, None, Result, subst}
 use Rattle.std.specs.Prelude.{◌==◌, ◌≢◌}
 use Rattle.std.specs.List.{flat_map, count_by}
 use Rattle.std.specs.Io.KnownBytes.{Consumes}
@@ -7,7 +7,8 @@ use Rattle.std.proofs.KnownBytes.{Consumes-nil, Consumes-trans}
 use Rattle.std.proofs.lemmas.List.Concat.{flat_map-append}
 use Rattle.dimensions.proofs.Counting.{count-append}
 use Rattle.httparse.specs.Grammar.{RequestHead}
-use Rattle.request_head.specs.HeadFields.{size_of}
+use Rattle.request_head.specs.declared.method.Method.{Method}
+use Rattle.request_head.specs.HeadFields.{method_of, size_of}
 use Rattle.sw_base.specs.Clock.{HandsIn}
 use Rattle.sw_base.specs.Faults.{Rose}
 use Rattle.sw_base.specs.Link.{LinkState, IsClean, Moves, NoFault}
@@ -20,12 +21,12 @@ use Rattle.swarm_http.specs.declared.reply.Refusal.{Refusal}
 use Rattle.swarm_http.specs.declared.reply.ReplyBytes.{ReplyBytes}
 use Rattle.swarm_http.specs.declared.request.Received.{Received}
 use Rattle.swarm_http.specs.declared.request.Incoming.TheVariants as taken
-use Rattle.swarm_http.specs.Replies.{refusal}
-use Rattle.swarm_http.specs.Outcomes.{Outcome, Acts, bytes_of, moments_used}
+use Rattle.swarm_http.specs.Replies.{Shown, refusal, sent_to}
+use Rattle.swarm_http.specs.Outcomes.{Outcome, Acts, shown_of, moments_used}
 use Rattle.swarm_http.specs.Exchange.{Exchange, HeadSays, request_bytes, reply_of, moments_of, is_accepted, Chain}
 use Rattle.swarm_http.specs.Answered.{ConnectionState, replies, Serves, NoneCloses, KeepersFailed, IsOpenStill, IsCutReply, last_reply, refused_head, EndsAs, EndsAtFault, IsAnswered, KeepsDoor}
 use Rattle.link_writer.specs.Sends.{Sends}
-use Rattle.swarm_http.specs.Sends.{rule_of, status_in, text_of}
+use Rattle.swarm_http.specs.Sends.{rule_of, status_in, shown_in}
 use Rattle.swarm_http.specs.Takes.{IsHeld, StopsAs, Takes, ReadsWell}
 use Rattle.swarm_http.specs.Counting.{IsCounted}
 use Rattle.swarm_http.specs.Steps.{Answers, GoesOn, Stops, AreCounted, count_of}
@@ -87,8 +88,8 @@ cut_after : (xs ys : List Exchange) (rest sent : List ℕ) → length xs < 65536
 cut_after xs ys rest sent few o (last_reply zs x front back is still so_far whole) =
     last_reply (xs ++ zs) x front back (ap (λ l. xs ++ l) is ∙ sym (append_assoc xs zs (x ∷ []))) (none_close xs zs o still)
     (ap (λ l. replies xs ++ l) so_far ∙ sym (append_assoc (replies xs) (replies zs) front) ∙ ap (λ l. l ++ front) (sym (flat_map-append reply_of xs zs))) whole
-cut_after xs ys rest sent few o (refused_head why front back still refused so_far whole) =
-    refused_head why front back (open_after xs ys few o still) refused
+cut_after xs ys rest sent few o (refused_head method why front back still refused so_far whole) =
+    refused_head method why front back (open_after xs ys few o still) refused
     (ap (λ l. replies xs ++ l) so_far ∙ sym (append_assoc (replies xs) (replies ys) front) ∙ ap (λ l. l ++ front) (sym (flat_map-append reply_of xs ys))) whole
 
 -- a connection that ends after some exchanges, none of which asks to close it
@@ -107,8 +108,9 @@ ends_after LastAsked xs ys rest sent s m t few o well nr nm e =
       replies_after xs ys sent e.1,
     )
 ends_after CutShort xs ys rest sent s m t few o well nr nm e = (e.0, e.1, replies_after xs ys sent e.2, open_after xs ys few o e.3)
-ends_after BadHead xs ys rest sent s m t few o well nr nm e =
-    (e.0, e.1, ap (λ l. replies xs ++ l) e.2 ∙ sym (append_assoc (replies xs) (replies ys) (refusal None e.0)) ∙ ap (λ l. l ++ refusal None e.0) (sym (flat_map-append reply_of xs ys)), open_after xs ys few o e.3)
+ends_after BadHead xs ys rest all s m t few o well nr nm e =
+    let sent = sent_to e.0 (refusal None e.1) in
+    (e.0, e.1, e.2, ap (λ l. replies xs ++ l) e.3 ∙ sym (append_assoc (replies xs) (replies ys) sent) ∙ ap (λ l. l ++ sent) (sym (flat_map-append reply_of xs ys)), open_after xs ys few o e.4)
 ends_after Retired xs ys rest sent s m t few o well nr nm e = absurd (nr refl)
 ends_after ReadFault xs ys rest sent s m t few o well nr nm e = (subst (λ n. Rose n t.read_faults) well.reads e.0, e.1, replies_after xs ys sent e.2, open_after xs ys few o e.3)
 ends_after WriteFault xs ys rest sent s m t few o well nr nm e = (subst (λ n. Rose n t.write_faults) well.writes e.0, cut_after xs ys rest sent few o e.1)
@@ -140,15 +142,20 @@ write_fault reads = record { reads = λ n. reads; writes = λ n. absurd (n refl)
 no_faults : {ended : Ended} {s t : LinkState} → t.read_faults ≡ s.read_faults → t.write_faults ≡ s.write_faults → IsClean t → EndsAtFault ended s t
 no_faults reads writes clean = record { reads = λ n. reads; writes = λ n. writes; clean = λ n. clean }
 
+-- what is sent by the method that is held of a request is its reply
+sent_as : {m n : Method} {a b : Shown} → m ≡ n → a ≡ b → sent_to (Some m) a ≡ sent_to (Some n) b
+sent_as {n = n} {a = a} same is = ap (λ k. sent_to (Some k) a) same ∙ ap (sent_to (Some n)) is
+
 -- a request was taken, answered and its reply written
 abbrev goes_on : {pending rest : List ℕ} {received : Received} {shown : ReplyBytes} {T E : Type 0} {r : Result T E} {t : LinkState} {v w : ConnectionState}
     → Takes v.link t pending rest (taken.Asks received)
     → ((body : List ℕ) (head : RequestHead) → IsHeld received body head → Answers head body v.clock w.clock v.door w.door shown)
-    → (y : Sends t w.link (text_of shown) r) → y.back ≡ [] → w.link.write_faults ≡ t.write_faults → IsClean w.link → received.line.closes ≡ false → GoesOn pending rest v w
+    → (y : Sends t w.link (sent_to (Some received.line.method) (shown_in shown)) r) → y.back ≡ [] → w.link.write_faults ≡ t.write_faults → IsClean w.link → received.line.closes ≡ false → GoesOn pending rest v w
 goes_on {v = v} {w = w} x answers y all well flushed still =
     let q = x.outcome.0 in
     let z = answers q.body q.head q.held in
-    let sent : y.written.sent ≡ bytes_of z.outcome = sym (append-nil y.written.sent) ∙ ap (λ l. y.written.sent ++ l) (sym all) ∙ sym y.written.whole ∙ z.shown in
+    let sent : y.written.sent ≡ sent_to (Some (method_of q.head)) (shown_of z.outcome) =
+    sym (append-nil y.written.sent) ∙ ap (λ l. y.written.sent ++ l) (sym all) ∙ sym y.written.whole ∙ sent_as q.held.line.method z.shown in
     let moves = Moves-trans x.moves y.written.moves in
     let one : Exchange = record { text = q.text; body = q.body; head = q.head; outcome = z.outcome } in
     record {
@@ -164,7 +171,7 @@ goes_on {v = v} {w = w} x answers y all well flushed still =
 abbrev reply_cut : {pending rest : List ℕ} {received : Received} {shown : ReplyBytes} {T E : Type 0} {r : Result T E} {t : LinkState} {v w : ConnectionState}
     → Takes v.link t pending rest (taken.Asks received)
     → ((body : List ℕ) (head : RequestHead) → IsHeld received body head → Answers head body v.clock w.clock v.door w.door shown)
-    → Sends t w.link (text_of shown) r → Rose t.write_faults w.link.write_faults → Stops pending v w WriteFault
+    → Sends t w.link (sent_to (Some received.line.method) (shown_in shown)) r → Rose t.write_faults w.link.write_faults → Stops pending v w WriteFault
 reply_cut {rest = rest} {v = v} {w = w} x answers y rose =
     let q = x.outcome.0 in
     let z = answers q.body q.head q.held in
@@ -176,7 +183,7 @@ reply_cut {rest = rest} {v = v} {w = w} x answers y rose =
       sent = y.written.sent;
       serves = one_served (subst (λ l. Moves v.link w.link l y.written.sent) (append-nil x.taken) moves) q.input_is q.says q.size z.acts z.moments;
       keepers = one_failed one v.door w.door z.keeper;
-      ends = (subst (λ n. Rose n w.link.write_faults) x.output.write_faults rose, last_reply [] one y.written.sent y.back refl tt refl (sym z.shown ∙ y.written.whole));
+      ends = (subst (λ n. Rose n w.link.write_faults) x.output.write_faults rose, last_reply [] one y.written.sent y.back refl tt refl (sym (sent_as q.held.line.method z.shown) ∙ y.written.whole));
       few = omega arith;
       faults = write_fault (y.written.input.read_faults ∙ x.outcome.1);
       not_retired = λ h. cc;
@@ -187,12 +194,13 @@ reply_cut {rest = rest} {v = v} {w = w} x answers y rose =
 abbrev asked_last : {pending rest : List ℕ} {received : Received} {shown : ReplyBytes} {T E : Type 0} {r : Result T E} {t : LinkState} {v w : ConnectionState}
     → Takes v.link t pending rest (taken.Asks received)
     → ((body : List ℕ) (head : RequestHead) → IsHeld received body head → Answers head body v.clock w.clock v.door w.door shown)
-    → (y : Sends t w.link (text_of shown) r) → y.back ≡ [] → w.link.write_faults ≡ t.write_faults → IsClean w.link → received.line.closes ≡ true → Stops pending v w LastAsked
+    → (y : Sends t w.link (sent_to (Some received.line.method) (shown_in shown)) r) → y.back ≡ [] → w.link.write_faults ≡ t.write_faults → IsClean w.link → received.line.closes ≡ true → Stops pending v w LastAsked
 asked_last {rest = rest} {v = v} {w = w} x answers y all well flushed closing =
     let q = x.outcome.0 in
     let z = answers q.body q.head q.held in
     let one : Exchange = record { text = q.text; body = q.body; head = q.head; outcome = z.outcome } in
-    let sent : y.written.sent ≡ bytes_of z.outcome = sym (append-nil y.written.sent) ∙ ap (λ l. y.written.sent ++ l) (sym all) ∙ sym y.written.whole ∙ z.shown in
+    let sent : y.written.sent ≡ sent_to (Some (method_of q.head)) (shown_of z.outcome) =
+    sym (append-nil y.written.sent) ∙ ap (λ l. y.written.sent ++ l) (sym all) ∙ sym y.written.whole ∙ sent_as q.held.line.method z.shown in
     let moves = Moves-trans x.moves y.written.moves in
     record {
       xs = one ∷ [];
@@ -200,7 +208,7 @@ asked_last {rest = rest} {v = v} {w = w} x answers y all well flushed closing =
       sent = y.written.sent;
       serves = one_served (subst (λ l. Moves v.link w.link l y.written.sent) (append-nil x.taken) moves) q.input_is q.says q.size z.acts z.moments;
       keepers = one_failed one v.door w.door z.keeper;
-      ends = (record { earlier = []; last = one; are = refl; open_before = tt; closing = sym q.held.line.closes ∙ closing }, sent ∙ sym (append-nil (bytes_of z.outcome)));
+      ends = (record { earlier = []; last = one; are = refl; open_before = tt; closing = sym q.held.line.closes ∙ closing }, sent ∙ sym (append-nil (reply_of one)));
       few = omega arith;
       faults = no_faults (y.written.input.read_faults ∙ x.outcome.1) (well ∙ x.output.write_faults) flushed;
       not_retired = λ h. cc;
@@ -208,9 +216,9 @@ asked_last {rest = rest} {v = v} {w = w} x answers y all well flushed closing =
     }
 
 -- the head was refused
-abbrev head_refused : {pending rest : List ℕ} {why : Refusal} {T E : Type 0} {r : Result T E} {s t u : LinkState} {a : ℕ → Option (List ℕ)} {d : DoorState}
-    → Takes s t pending rest (taken.Refuses why) → (w : Sends t u (refusal None (rule_of why)) r) → w.back ≡ [] → u.write_faults ≡ t.write_faults → IsClean u → Stops pending (record { link = s; clock = a; door = d }) (record { link = u; clock = a; door = d }) BadHead
-head_refused {rest = rest} {why = why} {s = s} {u = u} {d = d} x w all well flushed =
+abbrev head_refused : {pending rest : List ℕ} {method : Option Method} {why : Refusal} {T E : Type 0} {r : Result T E} {s t u : LinkState} {a : ℕ → Option (List ℕ)} {d : DoorState}
+    → Takes s t pending rest (taken.Refuses method why) → (w : Sends t u (sent_to method (refusal None (rule_of why))) r) → w.back ≡ [] → u.write_faults ≡ t.write_faults → IsClean u → Stops pending (record { link = s; clock = a; door = d }) (record { link = u; clock = a; door = d }) BadHead
+head_refused {rest = rest} {method = method} {why = why} {s = s} {u = u} {d = d} x w all well flushed =
     let moves = Moves-trans x.moves w.written.moves in
     record {
       xs = [];
@@ -218,7 +226,7 @@ head_refused {rest = rest} {why = why} {s = s} {u = u} {d = d} x w all well flus
       sent = w.written.sent;
       serves = none_served (subst (λ l. Moves s u l w.written.sent) (append-nil x.taken) moves) x.outcome.1;
       keepers = none_failed d;
-      ends = (rule_of why, x.outcome.0, sym (append-nil w.written.sent) ∙ ap (λ l. w.written.sent ++ l) (sym all) ∙ sym w.written.whole, nothing_open);
+      ends = (method, rule_of why, x.outcome.0, sym (append-nil w.written.sent) ∙ ap (λ l. w.written.sent ++ l) (sym all) ∙ sym w.written.whole, nothing_open);
       few = omega arith;
       faults = no_faults (w.written.input.read_faults ∙ x.outcome.2) (well ∙ x.output.write_faults) flushed;
       not_retired = λ h. cc;
@@ -226,9 +234,9 @@ head_refused {rest = rest} {why = why} {s = s} {u = u} {d = d} x w all well flus
     }
 
 -- the refusal of a head was not written whole
-abbrev refusal_cut : {pending rest : List ℕ} {why : Refusal} {T E : Type 0} {r : Result T E} {s t u : LinkState} {a : ℕ → Option (List ℕ)} {d : DoorState}
-    → Takes s t pending rest (taken.Refuses why) → Sends t u (refusal None (rule_of why)) r → Rose t.write_faults u.write_faults → Stops pending (record { link = s; clock = a; door = d }) (record { link = u; clock = a; door = d }) WriteFault
-refusal_cut {rest = rest} {why = why} {s = s} {u = u} {d = d} x w rose =
+abbrev refusal_cut : {pending rest : List ℕ} {method : Option Method} {why : Refusal} {T E : Type 0} {r : Result T E} {s t u : LinkState} {a : ℕ → Option (List ℕ)} {d : DoorState}
+    → Takes s t pending rest (taken.Refuses method why) → Sends t u (sent_to method (refusal None (rule_of why))) r → Rose t.write_faults u.write_faults → Stops pending (record { link = s; clock = a; door = d }) (record { link = u; clock = a; door = d }) WriteFault
+refusal_cut {rest = rest} {method = method} {why = why} {s = s} {u = u} {d = d} x w rose =
     let moves = Moves-trans x.moves w.written.moves in
     record {
       xs = [];
@@ -236,7 +244,7 @@ refusal_cut {rest = rest} {why = why} {s = s} {u = u} {d = d} x w rose =
       sent = w.written.sent;
       serves = none_served (subst (λ l. Moves s u l w.written.sent) (append-nil x.taken) moves) x.outcome.1;
       keepers = none_failed d;
-      ends = (subst (λ n. Rose n u.write_faults) x.output.write_faults rose, refused_head (rule_of why) w.written.sent w.back nothing_open x.outcome.0 refl w.written.whole);
+      ends = (subst (λ n. Rose n u.write_faults) x.output.write_faults rose, refused_head method (rule_of why) w.written.sent w.back nothing_open x.outcome.0 refl w.written.whole);
       few = omega arith;
       faults = write_fault (w.written.input.read_faults ∙ x.outcome.2);
       not_retired = λ h. cc;
@@ -302,7 +310,7 @@ few_more false few = omega arith
 pub goes_on_counted : {pending rest : List ℕ} {received : Received} {shown : ReplyBytes} {T E : Type 0} {r : Result T E} {t : LinkState} {v w : ConnectionState} {accepted : Bool}
     → Takes v.link t pending rest (taken.Asks received)
     → ((body : List ℕ) (head : RequestHead) → IsHeld received body head → Answers head body v.clock w.clock v.door w.door shown)
-    → (y : Sends t w.link (text_of shown) r) → y.back ≡ [] → w.link.write_faults ≡ t.write_faults → IsClean w.link → received.line.closes ≡ false
+    → (y : Sends t w.link (sent_to (Some received.line.method) (shown_in shown)) r) → y.back ≡ [] → w.link.write_faults ≡ t.write_faults → IsClean w.link → received.line.closes ≡ false
     → accepted ≡ (status_in shown == 200) → (goes : GoesOn pending rest v w) × (accepted ≡ is_accepted goes.x)
 goes_on_counted x answers y all well flushed still is =
     let q = x.outcome.0 in let z = answers q.body q.head q.held in (goes_on x answers y all well flushed still, is ∙ ap (λ n. n == 200) z.status)
@@ -310,7 +318,7 @@ goes_on_counted x answers y all well flushed still is =
 pub reply_cut_counted : {pending rest : List ℕ} {received : Received} {shown : ReplyBytes} {T E : Type 0} {r : Result T E} {t : LinkState} {v w : ConnectionState} {accepted : Bool}
     → Takes v.link t pending rest (taken.Asks received)
     → ((body : List ℕ) (head : RequestHead) → IsHeld received body head → Answers head body v.clock w.clock v.door w.door shown)
-    → Sends t w.link (text_of shown) r → Rose t.write_faults w.link.write_faults
+    → Sends t w.link (sent_to (Some received.line.method) (shown_in shown)) r → Rose t.write_faults w.link.write_faults
     → accepted ≡ (status_in shown == 200) → (stops : Stops pending v w WriteFault) × AreCounted stops.xs true accepted
 reply_cut_counted {accepted = accepted} x answers y rose is =
     let q = x.outcome.0 in let z = answers q.body q.head q.held in
@@ -319,19 +327,19 @@ reply_cut_counted {accepted = accepted} x answers y rose is =
 pub asked_last_counted : {pending rest : List ℕ} {received : Received} {shown : ReplyBytes} {T E : Type 0} {r : Result T E} {t : LinkState} {v w : ConnectionState} {accepted : Bool}
     → Takes v.link t pending rest (taken.Asks received)
     → ((body : List ℕ) (head : RequestHead) → IsHeld received body head → Answers head body v.clock w.clock v.door w.door shown)
-    → (y : Sends t w.link (text_of shown) r) → y.back ≡ [] → w.link.write_faults ≡ t.write_faults → IsClean w.link → received.line.closes ≡ true
+    → (y : Sends t w.link (sent_to (Some received.line.method) (shown_in shown)) r) → y.back ≡ [] → w.link.write_faults ≡ t.write_faults → IsClean w.link → received.line.closes ≡ true
     → accepted ≡ (status_in shown == 200) → (stops : Stops pending v w LastAsked) × AreCounted stops.xs true accepted
 asked_last_counted {accepted = accepted} x answers y all well flushed closing is =
     let q = x.outcome.0 in let z = answers q.body q.head q.held in
     (asked_last x answers y all well flushed closing, are_one (record { text = q.text; body = q.body; head = q.head; outcome = z.outcome }) accepted (is ∙ ap (λ n. n == 200) z.status))
 
-pub head_refused_counted : {pending rest : List ℕ} {why : Refusal} {T E : Type 0} {r : Result T E} {s t u : LinkState} {a : ℕ → Option (List ℕ)} {d : DoorState}
-    → Takes s t pending rest (taken.Refuses why) → (w : Sends t u (refusal None (rule_of why)) r) → w.back ≡ [] → u.write_faults ≡ t.write_faults → IsClean u
+pub head_refused_counted : {pending rest : List ℕ} {method : Option Method} {why : Refusal} {T E : Type 0} {r : Result T E} {s t u : LinkState} {a : ℕ → Option (List ℕ)} {d : DoorState}
+    → Takes s t pending rest (taken.Refuses method why) → (w : Sends t u (sent_to method (refusal None (rule_of why))) r) → w.back ≡ [] → u.write_faults ≡ t.write_faults → IsClean u
     → (stops : Stops pending (record { link = s; clock = a; door = d }) (record { link = u; clock = a; door = d }) BadHead) × AreCounted stops.xs false false
 head_refused_counted x w all well flushed = (head_refused x w all well flushed, are_none)
 
-pub refusal_cut_counted : {pending rest : List ℕ} {why : Refusal} {T E : Type 0} {r : Result T E} {s t u : LinkState} {a : ℕ → Option (List ℕ)} {d : DoorState}
-    → Takes s t pending rest (taken.Refuses why) → Sends t u (refusal None (rule_of why)) r → Rose t.write_faults u.write_faults
+pub refusal_cut_counted : {pending rest : List ℕ} {method : Option Method} {why : Refusal} {T E : Type 0} {r : Result T E} {s t u : LinkState} {a : ℕ → Option (List ℕ)} {d : DoorState}
+    → Takes s t pending rest (taken.Refuses method why) → Sends t u (sent_to method (refusal None (rule_of why))) r → Rose t.write_faults u.write_faults
     → (stops : Stops pending (record { link = s; clock = a; door = d }) (record { link = u; clock = a; door = d }) WriteFault) × AreCounted stops.xs false false
 refusal_cut_counted x w rose = (refusal_cut x w rose, are_none)
 

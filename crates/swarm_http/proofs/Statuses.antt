@@ -1,33 +1,40 @@
 -- The bytes of a reply begin with its status.
 use Rattle.std.proofs.Common.{◌≡◌, ℕ, List, [], ◌++◌, length, Bool, true, false, Option, Some, None, get_or, refl, sym, ap, ◌∙◌, append_assoc}
-use Rattle.std.specs.Prelude.{◌==◌, ◌↔◌, IsTrue, codes, decimal}
+use Rattle.std.specs.Prelude.{◌==◌, ◌↔◌, if◌then◌else◌, IsTrue, codes, decimal}
 use Rattle.std.specs.Fmt.{digits}
 use Rattle.swarm_model.specs.declared.reply.Reply.{Reply}
 use Rattle.swarm_model.specs.declared.reply.Reply.TheVariants as reply
 use Rattle.swarm_model.specs.declared.rule.Rule.{Rule}
 use Rattle.swarm_model.specs.declared.rule.Rule.TheVariants as rule
 use Rattle.reply_bodies.specs.Bodies.{body_of, content_type_of, status_of}
-use Rattle.swarm_http.specs.Replies.{phrase_of, front_line, head_with, reply_text, shown, refusal}
-use Rattle.swarm_http.specs.Outcomes.{Outcome, rejected, answered, aborted, no_body_memory, no_reply_memory, stop_rule, answer_of, bytes_of, called_place}
+use Rattle.request_head.specs.declared.method.Method.{Method}
+use Rattle.request_head.specs.HeadFields.{method_of}
+use Rattle.swarm_http.specs.Replies.{phrase_of, front_line, head_with, Shown, reply_with, shown, refusal, takes_body, sent_to}
+use Rattle.swarm_http.specs.Outcomes.{Outcome, rejected, answered, aborted, no_body_memory, no_reply_memory, stop_rule, answer_of, shown_of, called_place}
 use Rattle.swarm_http.specs.Exchange.{Exchange, reply_of, is_accepted}
 use Rattle.swarm_http.specs.Statuses.{start_of, Begins, ShowsStatus}
 
-text_begins : (status : ℕ) (media_type : List ℕ) (front : Option ℕ) (body : List ℕ) → Begins (start_of status) (reply_text status media_type front body)
-unfolding reply_text head_with
-text_begins status media_type front body = (
-  (phrase_of status ++ (codes "\r\nContent-Length: " ++ (decimal (length body) ++ (codes "\r\nContent-Type: " ++ (media_type ++ (codes "\r\n" ++ front_line front (codes "\r\n"))))))) ++ body,
+-- what is sent of a reply begins as its head does
+sent_begins : (start : List ℕ) (method : Option Method) (it : Shown) → Begins start it.head → Begins start (sent_to method it)
+sent_begins start method it begins =
+    let body = if takes_body method then it.body else [] in (begins.0 ++ body, ap (λ l. l ++ body) begins.1 ∙ append_assoc start begins.0 body)
+
+head_begins : (status : ℕ) (media_type : List ℕ) (front : Option ℕ) (body : List ℕ) → Begins (start_of status) (reply_with status media_type front body).head
+unfolding reply_with head_with
+head_begins status media_type front body = (
+  phrase_of status ++ (codes "\r\nContent-Length: " ++ (decimal (length body) ++ (codes "\r\nContent-Type: " ++ (media_type ++ (codes "\r\n" ++ front_line front (codes "\r\n")))))),
   simp append_assoc,
 )
 
-shown_begins : (place : ℕ) (front : Option ℕ) (r : Reply) (pieces : List (List ℕ)) → Begins (start_of (status_of r)) (shown place front r pieces)
+shown_begins : (place : ℕ) (front : Option ℕ) (r : Reply) (pieces : List (List ℕ)) → Begins (start_of (status_of r)) (shown place front r pieces).head
 unfolding shown
-shown_begins place front r pieces = text_begins (status_of r) (content_type_of r) front (body_of place r pieces)
+shown_begins place front r pieces = head_begins (status_of r) (content_type_of r) front (body_of place r pieces)
 
-refusal_begins : (front : Option ℕ) (why : Rule) → Begins (start_of (status_of (reply.No why))) (refusal front why)
+refusal_begins : (front : Option ℕ) (why : Rule) → Begins (start_of (status_of (reply.No why))) (refusal front why).head
 unfolding refusal
 refusal_begins front why = shown_begins 0 front (reply.No why) []
 
-outcome_begins : (outcome : Outcome) → Begins (start_of (status_of (answer_of outcome))) (bytes_of outcome)
+outcome_begins : (outcome : Outcome) → Begins (start_of (status_of (answer_of outcome))) (shown_of outcome).head
 outcome_begins (rejected why) = refusal_begins None why
 outcome_begins (answered call result) = shown_begins (called_place call) (Some result.front) result.reply result.pieces
 outcome_begins (aborted call why) = refusal_begins None (stop_rule why)
@@ -35,7 +42,7 @@ outcome_begins no_body_memory = refusal_begins None rule.WantOfMemory
 outcome_begins (no_reply_memory call result) = refusal_begins (Some result.front) rule.WantOfMemory
 
 pub shows_status : (x : Exchange) → ShowsStatus x
-shows_status x = outcome_begins x.outcome
+shows_status x = sent_begins (start_of (status_of (answer_of x.outcome))) (Some (method_of x.head)) (shown_of x.outcome) (outcome_begins x.outcome)
 
 -- ---- a refusal has another status than 200
 

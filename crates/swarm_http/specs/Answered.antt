@@ -8,13 +8,16 @@ use Rattle.sw_base.specs.Faults.{Rose, RoseBy}
 use Rattle.sw_base.specs.Link.{LinkState, IsClean, Moves}
 use Rattle.link_reader.specs.Heads.{IsHeadEnd, IsOpen, IsTooLong}
 use Rattle.request_head.specs.Heads.{IsHead, IsNoHead}
-use Rattle.request_head.specs.HeadFields.{HeadRefusal, bad, length_required, too_large, head_refusal, size_of}
+use Rattle.request_head.specs.declared.method.Method.{Method}
+use Rattle.request_head.specs.declared.head_refusal.HeadRefusal.{HeadRefusal}
+use Rattle.request_head.specs.declared.head_refusal.HeadRefusal.TheVariants.{Bad, LengthRequired, TooLarge}
+use Rattle.request_head.specs.HeadFields.{head_refusal, method_of, size_of}
 use Rattle.swarm_model.specs.declared.rule.Rule.{Rule}
 use Rattle.swarm_model.specs.declared.rule.Rule.TheVariants as rule
 use Rattle.pool_doors.specs.Doors.{DoorState, AddsNoOthers}
 use Rattle.swarm_http.specs.declared.ended.Ended.{Ended}
 use Rattle.swarm_http.specs.declared.ended.Ended.TheVariants.{Closed, LastAsked, CutShort, BadHead, Retired, ReadFault, WriteFault, Memory}
-use Rattle.swarm_http.specs.Replies.{refusal}
+use Rattle.swarm_http.specs.Replies.{refusal, sent_to}
 use Rattle.swarm_http.specs.Exchange.{Exchange, request_bytes, reply_of, moments_of, closes, fails_keeper, HeadSays, Chain, AreOnce}
 
 -- the replies, one after another
@@ -43,16 +46,16 @@ pub data IsPart (rest : List ℕ) : Type 0 where
 
 -- the rule of a head's refusal
 abbrev pub head_rule : HeadRefusal → Rule
-head_rule bad = rule.BadHead
-head_rule length_required = rule.LengthRequired
-head_rule (too_large limit) = rule.TooLarge limit
+head_rule Bad = rule.BadHead
+head_rule LengthRequired = rule.LengthRequired
+head_rule (TooLarge limit) = rule.TooLarge limit
 
--- the rule for which the head at the front is refused: it is too long, it is no head, or what it says is refused
-pub data IsRefused (rest : List ℕ) (why : Rule) : Type 0 where
-  too_long : why ≡ rule.BadHead → IsTooLong rest → IsRefused rest why
-  no_head : (n : ℕ) → why ≡ rule.BadHead → IsHeadEnd rest n → IsNoHead (take n rest) → IsRefused rest why
-  by_head : (n : ℕ) (head : RequestHead) (cause : HeadRefusal) → why ≡ head_rule cause → IsHeadEnd rest n → IsHead (take n rest) head → head_refusal head ≡ Some cause
-      → IsRefused rest why
+-- the method of the head at the front, and the rule for which it is refused: it is too long or no head, and then has no method, or what it says is refused
+pub data IsRefused (rest : List ℕ) (method : Option Method) (why : Rule) : Type 0 where
+  too_long : method ≡ None → why ≡ rule.BadHead → IsTooLong rest → IsRefused rest method why
+  no_head : (n : ℕ) → method ≡ None → why ≡ rule.BadHead → IsHeadEnd rest n → IsNoHead (take n rest) → IsRefused rest method why
+  by_head : (n : ℕ) (head : RequestHead) (cause : HeadRefusal) → method ≡ Some (method_of head) → why ≡ head_rule cause → IsHeadEnd rest n → IsHead (take n rest) head
+      → head_refusal head ≡ Some cause → IsRefused rest method why
 
 -- no request asks to close the connection
 abbrev pub NoneCloses : List Exchange → Type 0
@@ -75,7 +78,8 @@ pub record IsOpenStill (most : ℕ) (xs : List Exchange) : Type 0 where
 pub data IsCutReply (most : ℕ) (xs : List Exchange) (rest sent : List ℕ) : Type 0 where
   last_reply : (ys : List Exchange) (x : Exchange) (front back : List ℕ) → xs ≡ ys ++ x ∷ [] → NoneCloses ys → sent ≡ replies ys ++ front → reply_of x ≡ front ++ back
       → IsCutReply most xs rest sent
-  refused_head : (why : Rule) (front back : List ℕ) → IsOpenStill most xs → IsRefused rest why → sent ≡ replies xs ++ front → refusal None why ≡ front ++ back
+  refused_head : (method : Option Method) (why : Rule) (front back : List ℕ) → IsOpenStill most xs → IsRefused rest method why → sent ≡ replies xs ++ front
+      → sent_to method (refusal None why) ≡ front ++ back
       → IsCutReply most xs rest sent
 
 -- the door's count of faults rose by at least the number of requests whose reply is that of a keeper's fault
@@ -87,7 +91,8 @@ abbrev pub EndsAs : ℕ → Ended → List Exchange → List ℕ → List ℕ �
 EndsAs most Closed xs rest sent s t = (rest ≡ []) × IsAtEnd t.left × (sent ≡ replies xs) × IsOpenStill most xs
 EndsAs most LastAsked xs rest sent s t = LastCloses xs × (sent ≡ replies xs)
 EndsAs most CutShort xs rest sent s t = IsPart rest × IsAtEnd t.left × (sent ≡ replies xs) × IsOpenStill most xs
-EndsAs most BadHead xs rest sent s t = (why : Rule) × IsRefused rest why × (sent ≡ replies xs ++ refusal None why) × IsOpenStill most xs
+EndsAs most BadHead xs rest sent s t =
+    (method : Option Method) × (why : Rule) × IsRefused rest method why × (sent ≡ replies xs ++ sent_to method (refusal None why)) × IsOpenStill most xs
 EndsAs most Retired xs rest sent s t = (length xs ≡ most) × (sent ≡ replies xs) × NoneCloses xs
 EndsAs most ReadFault xs rest sent s t = Rose s.read_faults t.read_faults × ((rest ≡ []) ⊎ IsPart rest) × (sent ≡ replies xs) × IsOpenStill most xs
 EndsAs most WriteFault xs rest sent s t = Rose s.write_faults t.write_faults × IsCutReply most xs rest sent

@@ -1,15 +1,16 @@
 -- One request and its outcome.
-use Rattle.std.specs.Prelude.{◌≡◌, ◌==◌, ℕ, Bool, ◌≤◌, List, [], ◌∷◌, ◌++◌, length, filter, None, IsTrue}
+use Rattle.std.specs.Prelude.{◌≡◌, ◌==◌, ℕ, Bool, ◌≤◌, List, [], ◌∷◌, ◌++◌, length, filter, None, Some, IsTrue}
 use Rattle.std.specs.List.{flat_map}
 use Rattle.httparse.specs.Grammar.{RequestHead}
 use Rattle.link_reader.specs.Heads.{IsHeadEnd}
 use Rattle.request_head.specs.Heads.{IsHead}
-use Rattle.request_head.specs.HeadFields.{head_refusal, size_of, closes_of}
+use Rattle.request_head.specs.HeadFields.{head_refusal, method_of, size_of, closes_of}
 use Rattle.swarm_model.specs.declared.pool_settings.Settings.{Settings}
 use Rattle.swarm_model.specs.declared.entry.Entry.{Entry}
 use Rattle.reply_bodies.specs.Bodies.{status_of}
 use Rattle.pool_doors.specs.Doors.{Logs, Writer}
-use Rattle.swarm_http.specs.Outcomes.{Outcome, Acts, answer_of, bytes_of, calls, moments_used, entries_at, is_keeper_stop}
+use Rattle.swarm_http.specs.Replies.{sent_to}
+use Rattle.swarm_http.specs.Outcomes.{Outcome, Acts, answer_of, shown_of, calls, moments_used, entries_at, is_keeper_stop}
 
 -- a request as it stood on the link, what its head is, and its outcome
 pub record Exchange : Type 0 where
@@ -22,9 +23,9 @@ pub record Exchange : Type 0 where
 abbrev pub request_bytes : Exchange → List ℕ
 request_bytes x = x.text ++ x.body
 
--- the bytes of its reply
+-- the bytes of its reply, which has no body where the method is HEAD
 abbrev pub reply_of : Exchange → List ℕ
-reply_of x = bytes_of x.outcome
+reply_of x = sent_to (Some (method_of x.head)) (shown_of x.outcome)
 
 -- the moments that it used
 abbrev pub moments_of : Exchange → List ℕ

@@ -16,7 +16,7 @@ use Rattle.pool_doors.specs.declared.door.CallFault.{CallFault}
 use Rattle.pool_doors.specs.declared.door.CallFault.TheVariants as stop
 use Rattle.pool_doors.specs.Doors.{Logs, Elsewhere, IsPoolCall, Writer}
 use Rattle.swarm_http.specs.Requests.{CallerRequest, request_of, front_of}
-use Rattle.swarm_http.specs.Replies.{shown, refusal}
+use Rattle.swarm_http.specs.Replies.{Shown, shown, refusal}
 
 -- a call of the door for a request: who asks for what, at what moment, and the entries that the log of its pool gains
 pub record DoorCall : Type 0 where
@@ -70,12 +70,12 @@ answer_of no_body_memory = reply.No rule.WantOfMemory
 answer_of (no_reply_memory call result) = reply.No rule.WantOfMemory
 
 -- the bytes of the reply; X-Swarming-Front stands there exactly where a call answered
-abbrev pub bytes_of : Outcome → List ℕ
-bytes_of (rejected why) = refusal None why
-bytes_of (answered call result) = shown (called_place call) (Some result.front) result.reply result.pieces
-bytes_of (aborted call why) = refusal None (stop_rule why)
-bytes_of no_body_memory = refusal None rule.WantOfMemory
-bytes_of (no_reply_memory call result) = refusal (Some result.front) rule.WantOfMemory
+abbrev pub shown_of : Outcome → Shown
+shown_of (rejected why) = refusal None why
+shown_of (answered call result) = shown (called_place call) (Some result.front) result.reply result.pieces
+shown_of (aborted call why) = refusal None (stop_rule why)
+shown_of no_body_memory = refusal None rule.WantOfMemory
+shown_of (no_reply_memory call result) = refusal (Some result.front) rule.WantOfMemory
 
 -- the calls of the door: one, or none
 abbrev pub calls : Outcome → List DoorCall

@@ -1,6 +1,8 @@
--- The bytes of a reply.
-use Rattle.std.specs.Prelude.{ℕ, List, [], ◌++◌, length, codes, decimal, Option, Some, None, unwrap_or}
+-- A reply, and its bytes.
+use Rattle.std.specs.Prelude.{ℕ, Bool, true, false, if◌then◌else◌, List, [], ◌++◌, length, codes, decimal, Option, Some, None, unwrap_or}
 use Rattle.http.specs.StatusCode.{reason_phrase}
+use Rattle.request_head.specs.declared.method.Method.{Method}
+use Rattle.request_head.specs.declared.method.Method.TheVariants.{Head}
 use Rattle.swarm_model.specs.declared.reply.Reply.{Reply}
 use Rattle.swarm_model.specs.declared.reply.Reply.TheVariants as reply
 use Rattle.swarm_model.specs.declared.rule.Rule.{Rule}
@@ -21,14 +23,28 @@ head_with status phrase size media_type front =
     codes "HTTP/1.1 " ++ (decimal status ++ (codes " " ++ (phrase ++ (codes "\r\nContent-Length: " ++ (decimal size
     ++ (codes "\r\nContent-Type: " ++ (media_type ++ (codes "\r\n" ++ front_line front (codes "\r\n")))))))))
 
+-- the bytes of a reply: its head, and its body
+pub record Shown : Type 0 where
+  pub head : List ℕ
+  pub body : List ℕ
+
 -- a reply with this status, this front, and this body of a media type
-unfoldable pub reply_text : ℕ → List ℕ → Option ℕ → List ℕ → List ℕ
-reply_text status media_type front body = head_with status (phrase_of status) (length body) media_type front ++ body
+unfoldable pub reply_with : ℕ → List ℕ → Option ℕ → List ℕ → Shown
+reply_with status media_type front body = record { head = head_with status (phrase_of status) (length body) media_type front; body = body }
 
 -- a reply of the pool at a place, with the bytes of the blobs that it names
-unfoldable pub shown : ℕ → Option ℕ → Reply → List (List ℕ) → List ℕ
-shown place front reply pieces = reply_text (status_of reply) (content_type_of reply) front (body_of place reply pieces)
+unfoldable pub shown : ℕ → Option ℕ → Reply → List (List ℕ) → Shown
+shown place front reply pieces = reply_with (status_of reply) (content_type_of reply) front (body_of place reply pieces)
 
 -- the reply of a refusal that names no task and no bot
-unfoldable pub refusal : Option ℕ → Rule → List ℕ
+unfoldable pub refusal : Option ℕ → Rule → Shown
 refusal front why = shown 0 front (reply.No why) []
+
+-- the reply to a request of this method has its body: not to HEAD (RFC 9110, section 9.3.2); bytes that are no head have no method
+abbrev pub takes_body : Option Method → Bool
+takes_body (Some Head) = false
+takes_body method = true
+
+-- what is sent of a reply to a request of this method
+abbrev pub sent_to : Option Method → Shown → List ℕ
+sent_to method it = it.head ++ (if takes_body method then it.body else [])

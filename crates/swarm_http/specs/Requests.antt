@@ -2,7 +2,7 @@
 use Rattle.std.specs.Prelude.{ℕ, List, Option, Some, None, Result, Ok, Err, codes}
 use Rattle.httparse.specs.Grammar.{RequestHead}
 use Rattle.request_head.specs.declared.method.Method.{Method}
-use Rattle.request_head.specs.declared.method.Method.TheVariants.{Get, Post, Put, Other}
+use Rattle.request_head.specs.declared.method.Method.TheVariants.{Get, Head, Post, Put, Other}
 use Rattle.request_head.specs.declared.after.After.{After}
 use Rattle.request_head.specs.declared.after.After.TheVariants.{Absent, Front, Broken}
 use Rattle.request_head.specs.HeadFields.{method_of, caller_of, after_of}
@@ -32,10 +32,12 @@ abbrev pub routed : Option Resource → Method → Result Route Rule
 routed None method = Err rule.NoRoute
 routed (Some (Call call)) Post = Ok call
 routed (Some (Call call)) Get = Err rule.BadMethod
+routed (Some (Call call)) Head = Err rule.BadMethod
 routed (Some (Call call)) Put = Err rule.BadMethod
 routed (Some (Call call)) Other = Err rule.BadMethod
 routed (Some Blob) Post = Err rule.BadMethod
 routed (Some Blob) Get = Ok route.GetBlob
+routed (Some Blob) Head = Err rule.BadMethod
 routed (Some Blob) Put = Ok route.PutBlob
 routed (Some Blob) Other = Err rule.BadMethod
 

@@ -1,5 +1,5 @@
 -- What is sent of a reply.
-use Rattle.std.specs.Prelude.{ℕ, List, ◌++◌, Some, None}
+use Rattle.std.specs.Prelude.{ℕ, take, drop, Some, None}
 use Rattle.swarm_model.specs.declared.rule.Rule.{Rule}
 use Rattle.swarm_model.specs.declared.rule.Rule.TheVariants as rule
 use Rattle.swarm_http.specs.declared.reply.Refusal.{Refusal}
@@ -9,7 +9,7 @@ use Rattle.swarm_http.specs.declared.reply.ReplyBytes.TheVariants as shown
 use Rattle.swarm_model.specs.declared.reply.Reply.TheVariants as reply
 use Rattle.reply_bodies.specs.Bodies.{status_of}
 use Rattle.swarm_http.specs.Requests.{broken_front}
-use Rattle.swarm_http.specs.Replies.{refusal}
+use Rattle.swarm_http.specs.Replies.{Shown, refusal}
 
 -- the rule of a refusal whose reply takes no memory
 abbrev pub rule_of : Refusal → Rule
@@ -31,13 +31,13 @@ rule_of WantOfMemory = rule.WantOfMemory
 -- the status of a reply that is ready to be written
 abbrev pub status_in : ReplyBytes → ℕ
 status_in (shown.Refused why) = status_of (reply.No (rule_of why))
-status_in (shown.Whole status text) = status
+status_in (shown.Whole status size text) = status
 status_in (shown.Blob status head content) = status
 status_in (shown.WantOfMemoryAt front) = status_of (reply.No rule.WantOfMemory)
 
--- the bytes of a reply that is ready to be written
-abbrev pub text_of : ReplyBytes → List ℕ
-text_of (shown.Refused why) = refusal None (rule_of why)
-text_of (shown.Whole status text) = text.items
-text_of (shown.Blob status head content) = head.items ++ content
-text_of (shown.WantOfMemoryAt front) = refusal (Some front) rule.WantOfMemory
+-- the head and the body of a reply that is ready to be written
+abbrev pub shown_in : ReplyBytes → Shown
+shown_in (shown.Refused why) = refusal None (rule_of why)
+shown_in (shown.Whole status size text) = record { head = take size text.items; body = drop size text.items }
+shown_in (shown.Blob status head content) = record { head = head.items; body = content }
+shown_in (shown.WantOfMemoryAt front) = refusal (Some front) rule.WantOfMemory

@@ -11,12 +11,12 @@ use Rattle.swarm_http.specs.declared.ended.Ended.TheVariants.{Retired, Memory}
 use Rattle.swarm_http.specs.declared.connection.Step.{Step}
 use Rattle.swarm_http.specs.declared.connection.Step.TheVariants.{Next, End}
 use Rattle.swarm_http.specs.declared.reply.ReplyBytes.{ReplyBytes}
-use Rattle.swarm_http.specs.Outcomes.{Outcome, Acts, CountsStop, answer_of, bytes_of, moments_used}
+use Rattle.swarm_http.specs.Outcomes.{Outcome, Acts, CountsStop, answer_of, shown_of, moments_used}
 use Rattle.swarm_http.specs.Exchange.{Exchange, reply_of, closes, is_accepted}
 use Rattle.httparse.specs.Grammar.{RequestHead}
 use Rattle.swarm_http.specs.Answered.{ConnectionState, Serves, KeepersFailed, EndsAs, EndsAtFault}
 use Rattle.swarm_http.specs.Replies.{refusal}
-use Rattle.swarm_http.specs.Sends.{status_in, text_of}
+use Rattle.swarm_http.specs.Sends.{status_in, shown_in}
 use Rattle.swarm_wire.specs.declared.asked.Asked.{Asked}
 use Rattle.swarm_model.specs.declared.rule.Rule.{Rule}
 use Rattle.swarm_model.specs.declared.rule.Rule.TheVariants as rule
@@ -28,12 +28,12 @@ pub record Answers (head : RequestHead) (body : List ℕ) (a b : ℕ → Option 
   pub moments : HandsIn a b (moments_used outcome)
   pub keeper : CountsStop outcome old.faults new.faults
   pub status : status_in result ≡ status_of (answer_of outcome)
-  pub shown : text_of result ≡ bytes_of outcome
+  pub shown : shown_in result ≡ shown_of outcome
 
 -- the reply is the refusal for the request's rule, or that for want of memory
 pub data IsRejection (shown : ReplyBytes) (asked : Result Asked Rule) : Type 0 where
-  by_rule : (why : Rule) → asked ≡ Err why → status_in shown ≡ status_of (reply.No why) → text_of shown ≡ refusal None why → IsRejection shown asked
-  by_memory : status_in shown ≡ status_of (reply.No rule.WantOfMemory) → text_of shown ≡ refusal None rule.WantOfMemory → IsRejection shown asked
+  by_rule : (why : Rule) → asked ≡ Err why → status_in shown ≡ status_of (reply.No why) → shown_in shown ≡ refusal None why → IsRejection shown asked
+  by_memory : status_in shown ≡ status_of (reply.No rule.WantOfMemory) → shown_in shown ≡ refusal None rule.WantOfMemory → IsRejection shown asked
 
 -- one request was answered, and its reply written and flushed
 pub record GoesOn (pending rest : List ℕ) (old new : ConnectionState) : Type 0 where

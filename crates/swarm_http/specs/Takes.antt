@@ -71,7 +71,7 @@ pub record IsReceived (received : Received) (input rest : List ℕ) : Type 0 whe
 -- a request, a refused head, or an end, with `new` pending after it
 abbrev pub IsIncoming : LinkState → LinkState → List ℕ → List ℕ → Incoming → Type 0
 IsIncoming s t input new (taken.Asks received) = IsReceived received input new × ReadsWell s t
-IsIncoming s t input new (taken.Refuses why) = IsRefused new (rule_of why) × (input ≡ new) × ReadsWell s t
+IsIncoming s t input new (taken.Refuses method why) = IsRefused new method (rule_of why) × (input ≡ new) × ReadsWell s t
 IsIncoming s t input new (taken.Ends ended) = StopsAs ended input s t
 
 -- the input is what was pending, and then what was taken from the link; nothing was written

@@ -64,10 +64,11 @@ fn serve_one<D: Door, L: Link, C: Clock>(
 {
     match take_request(alloc, routes, pending, link) {
         Incoming::Asks(received) => {
+            let method = received.line.method;
             let closes = received.line.closes;
             let shown = answer_request(alloc, settings, received, door, clock);
             let accepted = shown.is_accepted();
-            match send_shown(link, shown) {
+            match send_shown(link, shown, Some(method)) {
                 Ok(()) if closes => Step::End {
                     ended: Ended::LastAsked,
                     asked: true,
@@ -81,7 +82,11 @@ fn serve_one<D: Door, L: Link, C: Clock>(
                 },
             }
         }
-        Incoming::Refuses(why) => match send_shown(link, ReplyBytes::Refused(why)) {
+        Incoming::Refuses { method, why } => match send_shown(
+            link,
+            ReplyBytes::Refused(why),
+            method,
+        ) {
             Ok(()) => Step::End {
                 ended: Ended::BadHead,
                 asked: false,

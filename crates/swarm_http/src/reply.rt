@@ -2,8 +2,8 @@
 ghost use Rattle.std.specs.Prelude.{◌≡◌, ◌==◌, ◌<◌, ◌++◌, [], Err, None, Some, IfOk, OnOk, get_or, string_bytes};
 ghost use Rattle.http.specs.StatusCode.{IsStatusCode};
 ghost use Rattle.reply_bodies.specs.Bodies.{status_of as spec_status_of};
-ghost use Rattle.swarm_http.specs.Replies.{phrase_of as spec_phrase_of, head_with, reply_text, shown};
-ghost use Rattle.swarm_http.specs.Sends.{status_in, text_of};
+ghost use Rattle.swarm_http.specs.Replies.{phrase_of as spec_phrase_of, head_with, reply_with, shown};
+ghost use Rattle.swarm_http.specs.Sends.{status_in, shown_in};
 ghost use Rattle.swarm_http.specs.Steps.{IsRejection};
 
 use dimensions::Seq;
@@ -39,8 +39,12 @@ pub enum Refusal {
 #[derive(Drop)]
 pub enum ReplyBytes {
     Refused(Refusal),
-    /// Its status, and its head with its body behind it.
-    Whole(u16, Vec<u8>),
+    /// Its status, and its head of so many bytes with its body behind it.
+    Whole {
+        status: u16,
+        head_size: usize,
+        text: Vec<u8>,
+    },
     /// Its status, its head, and the content of the blob that is its body.
     Blob(u16, Vec<u8>, Seq<u8>),
     /// Its call answered with this front, and there was no memory for the reply.
@@ -54,7 +58,7 @@ impl ReplyBytes {
         ensures { result ≡ (status_in self.now == 200) }
     {
         match self {
-            ReplyBytes::Whole(status, _) | ReplyBytes::Blob(status, _, _) => *status == 200,
+            ReplyBytes::Whole { status, .. } | ReplyBytes::Blob(status, _, _) => *status == 200,
             ReplyBytes::Refused(_) | ReplyBytes::WantOfMemoryAt(_) => false,
         }
     }
@@ -148,26 +152,32 @@ fn head_bytes(
 }
 
 /// A head and its body in one buffer, whose memory is taken once.
-#[tactic(auto, unfolding(crate::specs::Replies::reply_text))]
-fn reply_bytes(
+#[tactic(auto, unfolding(crate::specs::Replies::reply_with))]
+fn joined_reply(
     alloc: Global,
     status: u16,
     media_type: &str,
     front: Option<u64>,
     body: &[u8],
-) -> Result<Vec<u8>, AllocError>
+) -> Result<ReplyBytes, AllocError>
     requires { IsStatusCode status }
-    ensures { IfOk result (λ v. v.items ≡ reply_text status media_type.now front body.now) }
+    ensures status { IfOk result (λ s. status_in s ≡ status) }
+    ensures text { IfOk result (λ s. shown_in s ≡ reply_with status media_type.now front body.now) }
 {
     let size = body.len();
     let room = size.saturating_add(HEAD_ROOM);
     let mut text = head_bytes(alloc, status, media_type, front, size, room)?;
+    let head_size = text.len();
     text.extend_from_slice(body)?;
-    Ok(text)
+    Ok(ReplyBytes::Whole {
+        status,
+        head_size,
+        text,
+    })
 }
 
 /// The content of a blob stays where it is: only the head takes memory.
-#[tactic(auto, unfolding(crate::specs::Replies::reply_text))]
+#[tactic(auto, unfolding(crate::specs::Replies::reply_with))]
 fn blob_reply(
     alloc: Global,
     status: u16,
@@ -177,7 +187,7 @@ fn blob_reply(
 ) -> Result<ReplyBytes, AllocError>
     requires { IsStatusCode status }
     ensures status { IfOk result (λ s. status_in s ≡ status) }
-    ensures text { IfOk result (λ s. text_of s ≡ reply_text status media_type.now front content) }
+    ensures text { IfOk result (λ s. shown_in s ≡ reply_with status media_type.now front content) }
 {
     let size = content.as_slice().len();
     let head = head_bytes(alloc, status, media_type, front, size, HEAD_ROOM)?;
@@ -206,7 +216,7 @@ pub fn whole_reply(
 ) -> Result<ReplyBytes, AllocError>
     requires { place < 4 }
     ensures status { IfOk result (λ s. status_in s ≡ spec_status_of reply.now) }
-    ensures text { IfOk result (λ s. text_of s ≡ shown place front reply.now pieces) }
+    ensures text { IfOk result (λ s. shown_in s ≡ shown place front reply.now pieces) }
 {
     let (status, media_type) = (status_of(reply), content_type(reply));
     if let Reply::Blob { .. } = reply {
@@ -214,8 +224,7 @@ pub fn whole_reply(
         return blob_reply(alloc, status, media_type, front, content);
     }
     let body = show_reply(alloc, place, reply, &pieces)?;
-    let text = reply_bytes(alloc, status, media_type, front, body.as_slice())?;
-    Ok(ReplyBytes::Whole(status, text))
+    joined_reply(alloc, status, media_type, front, body.as_slice())
 }
 
 /// The reply of a refusal, or that for want of memory.

@@ -3,11 +3,13 @@ ghost use Rattle.std.specs.Prelude.{◌≡◌, ◌≤◌, ℕ, List, length, tak
 ghost use Rattle.httparse.specs.Grammar.{RequestHead};
 ghost use Rattle.sw_base.specs.Link.{IsClean};
 ghost use Rattle.link_reader.specs.Heads.{IsHeadEnd};
+ghost use Rattle.request_head.specs.declared.head_refusal.HeadRefusal.TheVariants as cause;
 ghost use Rattle.request_head.specs.HeadFields.{size_of};
 ghost use Rattle.request_head.specs.HeadChecks.{IsHeadOf};
 ghost use Rattle.swarm_model.specs.declared.rule.Rule.TheVariants as Rule;
 ghost use Rattle.routes.specs.Routes.{pool_part, digest_part};
 ghost use Rattle.swarm_http.specs.Requests.{parts_of};
+ghost use Rattle.swarm_http.specs.Answered.{head_rule};
 ghost use Rattle.swarm_http.specs.Sends.{rule_of};
 ghost use Rattle.swarm_http.specs.Exchange.{HeadSays};
 ghost use Rattle.swarm_http.specs.Takes.{IsCaller, IsRequestLine, IsLimit, Takes};
@@ -16,7 +18,7 @@ use crate::Ended;
 use crate::reply::Refusal;
 use dimensions::Text;
 use link_reader::{BodyEnd, HeadEnd, Pending, read_body, read_head};
-use request_head::{After, Head, HeadCheck, Method, check_head};
+use request_head::{After, Head, HeadCheck, HeadRefusal, Method, check_head};
 use routes::{Found, Resource, Routes};
 use std::alloc::{AllocError, Global};
 use sw_base::Link;
@@ -55,8 +57,11 @@ pub struct Received {
 #[derive(Drop)]
 pub enum Incoming {
     Asks(Received),
-    /// Its head is refused.
-    Refuses(Refusal),
+    /// Its head is refused. What is no head has no method.
+    Refuses {
+        method: Option<Method>,
+        why: Refusal,
+    },
     Ends(Ended),
 }
 
@@ -145,6 +150,17 @@ fn too_large(limit: u32) -> Refusal
     }
 }
 
+fn refusal_of(why: HeadRefusal) -> Refusal
+    requires { (limit : ℕ) → why ≡ cause.TooLarge limit → IsLimit limit }
+    ensures { rule_of result ≡ head_rule why }
+{
+    match why {
+        HeadRefusal::Bad => Refusal::BadHead,
+        HeadRefusal::LengthRequired => Refusal::LengthRequired,
+        HeadRefusal::TooLarge { limit } => too_large(limit),
+    }
+}
+
 /// Takes the request whose head is the first n bytes that are pending.
 fn take_head<L: Link>(
     alloc: Global,
@@ -159,9 +175,14 @@ fn take_head<L: Link>(
     ensures { Takes (L.state link.old) (L.state link.new) pending.old pending.new result }
 {
     match check_head(pending.front(n)) {
-        HeadCheck::Bad => Incoming::Refuses(Refusal::BadHead),
-        HeadCheck::LengthRequired => Incoming::Refuses(Refusal::LengthRequired),
-        HeadCheck::TooLarge { limit } => Incoming::Refuses(too_large(limit)),
+        HeadCheck::NoHead => Incoming::Refuses {
+            method: None,
+            why: Refusal::BadHead,
+        },
+        HeadCheck::Refused { method, why } => Incoming::Refuses {
+            method: Some(method),
+            why: refusal_of(why),
+        },
         HeadCheck::Good(head) => {
             let line = request_line_of(alloc, routes, &head);
             take_body(alloc, n, head.size, line, pending, link)
@@ -181,7 +202,10 @@ pub fn take_request<L: Link>(
 {
     match read_head(pending, link) {
         Ok(HeadEnd::At(n)) => take_head(alloc, routes, n, pending, link),
-        Ok(HeadEnd::TooLong) => Incoming::Refuses(Refusal::BadHead),
+        Ok(HeadEnd::TooLong) => Incoming::Refuses {
+            method: None,
+            why: Refusal::BadHead,
+        },
         Ok(HeadEnd::Ended) => {
             if pending.is_empty() {
                 Incoming::Ends(Ended::Closed)
