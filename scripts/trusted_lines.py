@@ -4,7 +4,7 @@
 Usage: scripts/trusted_lines.py [--write] [--names]
 
 From the contracts of `run`, `session` and the traits that they are generic over, and from the laws
-of `pool_laws` and `bot_core`, it follows each definition to those that it cites, through the specs/ of this
+of `pool_laws`, `bot_core` and `wire_laws`, it follows each definition to those that it cites, through the specs/ of this
 repository and of the kit, and to the types of src/. It prints each row of a table of docs/trusted.md
 that differs from the counts, each file that has no row, and each row that has no file, and ends
 with status 1 if there is one. With --write it puts the counts into the page; with --names it prints
@@ -56,6 +56,8 @@ LAWS = [
     ("Rattle.bot_core.specs.OpenRuns", "CleansUpEachRun"),
     ("Rattle.bot_core.specs.Repeats", "RepeatsRequests"),
     ("Rattle.bot_core.specs.Ids", "IdsGrow"),
+    ("Rattle.wire_laws.specs.Told", "RepliesAreTold"),
+    ("Rattle.wire_laws.specs.Meant", "HandshakesAreMeant PollsAreMeant ClaimsAreMeant ReportsAreMeant BlobGetsAreMeant BlobPutsAreMeant CallsAreFound BlobsAreFound"),
 ]
 # What runs at the edge of the process.
 EDGE = [
