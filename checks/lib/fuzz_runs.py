@@ -20,6 +20,8 @@ CLOCKS = "/usr/lib/*/faketime/libfaketime.so.1"
 MEMORY = "/dev/shm"
 PIPE_BYTES = 1 << 20
 MOST_SECONDS = 30
+# A long run tells its figures behind each so many sessions.
+SESSIONS_TOLD = 500
 NO_LIMIT = (resource.RLIM_INFINITY, resource.RLIM_INFINITY)
 
 
@@ -212,6 +214,8 @@ def run(asked):
                 passed += 1
             number += 1
             seconds = time.monotonic() - began
+            if number % SESSIONS_TOLD == 0:
+                print(f"{requests} requests in {number} sessions, {failed} of them differ, {seconds:.0f} s", flush=True)
             over = (asked.seconds and seconds >= asked.seconds) or (asked.requests and requests >= asked.requests)
             if over or asked.session is not None or failed >= 10:
                 break
