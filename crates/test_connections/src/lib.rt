@@ -10,8 +10,8 @@
 //!
 //! Each makes its door itself by `test_sessions`, over the machine of the program, and is served by
 //! `session`, so that the tests have none of the words, the client and the bot. Beside them stand a few of
-//! `sw_base`: that a flush of the console reaches its writer, that the system's clock has its seconds,
-//! and what a link in memory has flushed.
+//! `sw_base`: that a flush of the console reaches its writer, that the system's clock has its seconds and
+//! waits, and what a link in memory has flushed.
 //!
 //! The crate has no code that runs. A crate that has a test is proved a second time with it, so what
 //! else is to be tested of a public function stands here as well, where neither an example of its

@@ -4,7 +4,7 @@
 use std::alloc::AllocError;
 use std::io::{self, ErrorKind, Write};
 use std::test::Fail;
-use std::time::SystemTime;
+use std::time::{Duration, Instant, SystemTime};
 use sw_base::{Clock, ConsoleLink, Failed, Link, MemoryLink, SystemClock};
 
 /// A writer that takes all that it is given, and whose flush fails.
@@ -50,5 +50,16 @@ fn the_clock_of_the_system_has_its_seconds(rt: HostRuntime) -> Result<(), Fail> 
     assert!(rt; before.as_secs() > 1_700_000_000);
     assert!(rt; before.as_secs() <= now);
     assert!(rt; now <= after.as_secs());
+    Ok(())
+}
+
+#[test]
+fn a_wait_of_the_system_s_clock_lasts(rt: HostRuntime) -> Result<(), Fail> {
+    let mut clock = SystemClock::new(&rt);
+    let begun = Instant::now(&rt)?;
+    clock.wait(1);
+    let waited = begun.elapsed(&rt)?;
+    assert!(rt; waited >= Duration::from_secs(1));
+    assert!(rt; waited < Duration::from_secs(30));
     Ok(())
 }
