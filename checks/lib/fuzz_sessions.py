@@ -28,10 +28,13 @@ class Step:
 
 
 class Run:
-    """One connection: its steps, and the status with which `session` ends behind them."""
+    """One connection: its steps, and the status with which `session` ends behind them.
 
-    def __init__(self, steps, status):
-        self.steps, self.status = steps, status
+    Where a checkpoint is made before it, `checkpoint` is what that prints.
+    """
+
+    def __init__(self, steps, status, checkpoint=None):
+        self.steps, self.status, self.checkpoint = steps, status, checkpoint
 
 
 class Session:
@@ -53,7 +56,8 @@ def one_by_one(session):
     """The session with a step for each request."""
     found = Session(session.settings, session.stored)
     for run in session.runs:
-        found.runs.append(Run([Step([it], [it], step.clock, step.fails) for step in run.steps for it in step.requests], run.status))
+        steps = [Step([it], [it], step.clock, step.fails) for step in run.steps for it in step.requests]
+        found.runs.append(Run(steps, run.status, run.checkpoint))
     return answer_again(found)
 
 
@@ -62,13 +66,14 @@ def answer_again(session):
     server = Server(session.settings)
     found = Session(session.settings, session.stored)
     for run in session.runs:
+        checkpoint = None if run.checkpoint is None else server.checkpoint()
         connection, steps = Connection(server), []
         for step in run.steps:
             if connection.status is not None:
                 break
             steps.append(Step(step.requests, step.pieces, step.clock, step.fails))
             steps[-1].answers = take(connection, steps[-1])
-        found.runs.append(Run(steps, connection.end()))
+        found.runs.append(Run(steps, connection.end(), checkpoint))
     return found
 
 
@@ -132,6 +137,7 @@ class Maker:
 
     def run(self, stored):
         """One connection, which mostly lasts to its last step."""
+        checkpoint = self.server.checkpoint() if stored and self.chance(0.3) else None
         connection, steps, fails = Connection(self.server), [], False
         for _ in range(self.random.choice([3, 20, 50, 100, 200])):
             # (not before the first reply: the store is opened before)
@@ -146,7 +152,7 @@ class Maker:
             text = text[:self.random.randrange(1, len(text))]
             steps.append(Step([text], [text], self.clock, fails))
             steps[-1].answers = take(connection, steps[-1])
-        return Run(steps, connection.end())
+        return Run(steps, connection.end(), checkpoint)
 
     def step(self, connection, fails):
         requests = [self.request() for _ in range(self.random.choice([1, 1, 1, 2, 4, 8]))]
