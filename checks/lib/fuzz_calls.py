@@ -102,7 +102,10 @@ class Calls:
                 dimensions.append(Pairs(key=key, value="|".join(values)))
         self.random.shuffle(dimensions)
         return self.with_some(
-            {"env": 0.2, "caches": 0.15, "inputs": 0.2, "outputs": 0.2, "execution_timeout_secs": 0.2, "io_timeout_secs": 0.2, "grace_period_secs": 0.2, "idempotent": 0.6},
+            {
+                "env": 0.2, "caches": 0.15, "inputs": 0.2, "outputs": 0.2,
+                "execution_timeout_secs": 0.2, "io_timeout_secs": 0.2, "grace_period_secs": 0.2, "idempotent": 0.6,
+            },
             command=self.some([["true"], ["a"], ["make", "-j", "\n\t\"\\/\u20ac\x7f\x01"]]),
             env=[Pairs(key=key, value=self.some(["", "C", "\u00e9\n"])) for key in self.random.sample(["LANG", "A", "_b1"], self.random.randrange(3))],
             dimensions=dimensions,
@@ -175,8 +178,8 @@ class Calls:
         name = self.some(pool.bots) if pool.bots and self.chance(0.4) else self.some(VALUES["id"])
         bot = pool.bots.get(name)
         session = bot.session if bot and self.chance(0.1 if bot.dead else 0.5) else self.some(["s1", "s2", "s3"])
-        return (), self.with_some(
-            {"quarantined": 0.3}, bot_id=name, session=session, dimensions=self.dimensions(self.some([pool.settings.name] * 30 + ["other"]), name), quarantined=self.quarantined())
+        dimensions = self.dimensions(self.some([pool.settings.name] * 30 + ["other"]), name)
+        return (), self.with_some({"quarantined": 0.3}, bot_id=name, session=session, dimensions=dimensions, quarantined=self.quarantined())
 
     def poll(self):
         pool = self.pool()
@@ -207,7 +210,8 @@ class Calls:
     terminate_bot = get_bot = bot_fields
 
     def list_bots(self):
-        return (), self.with_some({"limit": 0.7, "cursor": 0.5}, pool=self.pool_name(), limit=self.some([0, 1, 2, 200]), cursor=self.some(["", "b1", "b2", "a", "z", "b1.x"]))
+        return (), self.with_some(
+            {"limit": 0.7, "cursor": 0.5}, pool=self.pool_name(), limit=self.some([0, 1, 2, 200]), cursor=self.some(["", "b1", "b2", "a", "z", "b1.x"]))
 
     def report(self):
         pool = self.pool()
@@ -254,6 +258,7 @@ class Calls:
             fields.append(("exit_code", self.some([0, 0, 0, 0, 1, -1, 137])))
         if self.chance(0.4 if ends else 0.1):
             fields += self.with_some(
-                {"duration_ms": 0.5, "hard_timeout": 0.3, "io_timeout": 0.2, "dropped": 0.2, "files": 0.4}, duration_ms=self.some([0, 5210]), hard_timeout=self.chance(0.5),
-                io_timeout=self.chance(0.5), dropped=self.some([0, 9]), files=[self.file(path) for path in self.random.sample(["out", "a/b"], self.random.randrange(3))])
+                {"duration_ms": 0.5, "hard_timeout": 0.3, "io_timeout": 0.2, "dropped": 0.2, "files": 0.4}, duration_ms=self.some([0, 5210]),
+                hard_timeout=self.chance(0.5), io_timeout=self.chance(0.5), dropped=self.some([0, 9]),
+                files=[self.file(path) for path in self.random.sample(["out", "a/b"], self.random.randrange(3))])
         return fields

@@ -113,6 +113,8 @@ class Programs:
             with open(settings, "w", encoding="utf-8") as file:
                 file.write(fuzz_sessions.write_settings(session.settings, os.path.join(folder, "store") if session.stored else None))
             for at, run in enumerate(session.runs):
+                if run.checkpoint is not None and (found := self.checkpoint(settings, at, run)):
+                    return found
                 console = Console(self.program, settings, self.clock)
                 try:
                     if found := self.play_run(console, at, run):
@@ -120,6 +122,12 @@ class Programs:
                 finally:
                     console.stop()
         return None
+
+    def checkpoint(self, settings, at, run):
+        words = [self.program, "checkpoint", "--settings", settings]
+        done = subprocess.run(words, env=self.clock.environment, capture_output=True, timeout=MOST_SECONDS, check=False)
+        came, wanted = (done.stdout, done.returncode), (run.checkpoint.encode(), 0)
+        return Difference(at, 0, wanted, came) if came != wanted else None
 
     def play_run(self, console, at, run):
         for place, step in enumerate(run.steps):
@@ -164,7 +172,8 @@ def shrink(programs, session):
 def cut(session, found):
     """The session up to where it differs."""
     shorter = Session(session.settings, session.stored)
-    shorter.runs = session.runs[:found.run] + [Run(session.runs[found.run].steps[:found.step + 1], session.runs[found.run].status)]
+    last = session.runs[found.run]
+    shorter.runs = session.runs[:found.run] + [Run(last.steps[:found.step + 1], last.status, last.checkpoint)]
     return shorter
 
 
@@ -173,7 +182,7 @@ def without(session, first, end):
     for run in session.runs:
         steps = [step for place, step in enumerate(run.steps, at) if not first <= place < end]
         at += len(run.steps)
-        shorter.runs.append(Run(steps, run.status))
+        shorter.runs.append(Run(steps, run.status, run.checkpoint))
     return shorter
 
 

@@ -4,6 +4,7 @@ A session is a list of runs, over one store where it has one. A run is one conne
 that are sent at a second of the clock, with a store that takes entries or fails. A part of `checks/fuzz`;
 it is no check of its own.
 """
+from lib import fuzz_heads
 from lib import fuzz_values as values
 from lib.fuzz_calls import CALLERS, Calls
 from lib.model import ALL_PERMISSIONS, Connection, Server
@@ -11,7 +12,6 @@ from lib.model_heads import CALLS
 from lib.model_pool import PoolSettings
 
 TARGETS = {call: target for target, call in CALLS.items()}
-METHODS = ["GET", "PUT", "POST", "DELETE", "OPTIONS", "post", "G", "HEAD", "HEAD", "HEAD"]
 LAST_MOMENT = 1 << 40
 # How long a batch of requests may be, so that neither side waits for the other to read.
 MOST_BATCH = 200000
@@ -28,10 +28,13 @@ class Step:
 
 
 class Run:
-    """One connection: its steps, and the status with which `session` ends behind them."""
+    """One connection: its steps, and the status with which `session` ends behind them.
 
-    def __init__(self, steps, status):
-        self.steps, self.status = steps, status
+    Where a checkpoint is made before it, `checkpoint` is what that prints.
+    """
+
+    def __init__(self, steps, status, checkpoint=None):
+        self.steps, self.status, self.checkpoint = steps, status, checkpoint
 
 
 class Session:
@@ -53,7 +56,8 @@ def one_by_one(session):
     """The session with a step for each request."""
     found = Session(session.settings, session.stored)
     for run in session.runs:
-        found.runs.append(Run([Step([it], [it], step.clock, step.fails) for step in run.steps for it in step.requests], run.status))
+        steps = [Step([it], [it], step.clock, step.fails) for step in run.steps for it in step.requests]
+        found.runs.append(Run(steps, run.status, run.checkpoint))
     return answer_again(found)
 
 
@@ -62,13 +66,14 @@ def answer_again(session):
     server = Server(session.settings)
     found = Session(session.settings, session.stored)
     for run in session.runs:
+        checkpoint = None if run.checkpoint is None else server.checkpoint()
         connection, steps = Connection(server), []
         for step in run.steps:
             if connection.status is not None:
                 break
             steps.append(Step(step.requests, step.pieces, step.clock, step.fails))
             steps[-1].answers = take(connection, steps[-1])
-        found.runs.append(Run(steps, connection.end()))
+        found.runs.append(Run(steps, connection.end(), checkpoint))
     return found
 
 
@@ -111,7 +116,7 @@ class Maker:
     """Makes a session, and by the model the answers to it."""
 
     def __init__(self, random, heads=False, records=True):
-        self.random, self.heads, self.stored = random, heads, records and random.random() < 0.2
+        self.random, self.heads, self.stored = random, fuzz_heads.Heads(random, heads), records and random.random() < 0.2
         # The shares of bodies and of heads that are changed, and how far the clock goes on: sessions differ.
         self.broken_bodies = random.choice([0.02, 0.1, 0.1, 0.3])
         self.broken_heads = random.choice([0.001, 0.003, 0.01, 0.1])
@@ -132,6 +137,7 @@ class Maker:
 
     def run(self, stored):
         """One connection, which mostly lasts to its last step."""
+        checkpoint = self.server.checkpoint() if stored and self.chance(0.3) else None
         connection, steps, fails = Connection(self.server), [], False
         for _ in range(self.random.choice([3, 20, 50, 100, 200])):
             # (not before the first reply: the store is opened before)
@@ -146,7 +152,7 @@ class Maker:
             text = text[:self.random.randrange(1, len(text))]
             steps.append(Step([text], [text], self.clock, fails))
             steps[-1].answers = take(connection, steps[-1])
-        return Run(steps, connection.end())
+        return Run(steps, connection.end(), checkpoint)
 
     def step(self, connection, fails):
         requests = [self.request() for _ in range(self.random.choice([1, 1, 1, 2, 4, 8]))]
@@ -196,68 +202,7 @@ class Maker:
         if target is None:
             target = "/blobs/" + "/".join(parts)
             method = {"put_blob": "PUT", "get_blob": "GET"}.get(call, "POST")
-        fields = self.fields(body, method)
+        fields = self.heads.fields(body, method, self.calls.pool)
         if not broken or not self.chance(self.broken_heads):
-            return self.written(method, target, b"1.1", fields) + body
-        return self.broken_head(method, target, fields) + body
-
-    def written(self, method, target, version, fields, end=b"\r\n"):
-        lines = [b"%s %s HTTP/%s" % (method.encode(), target.encode(), version)]
-        lines += [name.encode() + b":" + value for name, value in fields]
-        return end.join(lines) + b"\r\n\r\n"
-
-    def fields(self, body, method):
-        caller = self.random.choice(CALLERS) if self.chance(0.5) else "ana"
-        found = [("X-Swarming-Caller", b" " + caller.encode())]
-        if body or method != "GET":
-            found.append(("Content-Length", b" %d" % len(body)))
-        if self.chance(0.06):
-            after = max(0, self.calls.pool().front() + self.random.choice([-2, -1, 0, 0, 1, 5]))
-            found.append(("X-Swarming-After", b" %d" % after))
-        if self.chance(0.1):
-            found.append(self.random.choice([("Host", b" lab"), ("Expect", b"100-continue"), ("accept", b""), ("X-Swarming-Front", b" 7"), ("Connection", b" keep-alive")]))
-        if self.chance(0.1):
-            self.random.shuffle(found)
-            found = [(self.random.choice([str.lower, str.upper, str])(name), self.random.choice([value, value.strip(), b"\t" + value + b" "])) for name, value in found]
-        return found
-
-    def broken_head(self, method, target, fields):
-        kind = self.random.randrange(9)
-        if kind == 0:
-            return self.written(self.method(), target, b"1.1", fields)
-        if kind == 1:
-            others = [target + "/", target + "?", target[1:], target[:-1] or "/", target.upper(), "/", "*", "http://lab" + target, "/blobs/", "/blobs/a/b/c", "/blobs//a", "/nowhere", "/bot/poll#"]
-            return self.written(method, self.random.choice(others), b"1.1", fields)
-        if kind == 2:
-            return self.written(method, target, self.random.choice([b"1.0", b"1.0", b"1.2", b"2.0", b"1.", b"11", b"0.9"]), fields)
-        if kind in (3, 4):
-            return self.written(self.method() if self.chance(0.2) else method, target, b"1.1", self.broken_fields(fields))
-        if kind == 5:
-            return self.written(method, target, b"1.1", fields, end=b"\n")
-        if kind == 6:
-            return self.random.choice([b"\r\n", b"\n", b"\r\n\r\n", b" ", b"\r"]) + self.written(method, target, b"1.1", fields)
-        if kind == 7:
-            return self.random.choice([b"", b"GET / HTTP/1.1\r\n", b"X" * 20000]) + b"\r\n\r\n"
-        text = bytearray(self.written(method, target, b"1.1", fields))
-        text[self.random.randrange(len(text) - 4)] = self.random.choice([0, 9, 10, 13, 32, 58, 127, 200, self.random.randrange(33, 127)])
-        return bytes(text)
-
-    def method(self):
-        found = self.random.choice(METHODS)
-        return found if self.heads or found != "HEAD" else "PATCH"
-
-    def broken_fields(self, fields):
-        more = [
-            ("Content-Length", b" 1"), ("Content-Length", b" x"), ("Content-Length", b" 0000000000"), ("Content-Length", b" 00000000000"), ("Content-Length", b" +1"),
-            ("Content-Length", b" 65537"), ("Content-Length", b" 16777217"), ("Content-Length", b""), ("Transfer-Encoding", b" chunked"), ("Transfer-Encoding", b""),
-            ("Connection", b" close"), ("Connection", b" keep-alive, CLOSE"), ("Connection", b" closed"), ("X-Swarming-Caller", b" eve"), ("X-Swarming-Caller", b""),
-            ("X-Swarming-Caller", b" " + b"c" * 129), ("X-Swarming-Caller", b" " + b"c" * 128), ("X-Swarming-Caller", b" a b"), ("X-Swarming-After", b" x"), ("X-Swarming-After", b" 1"),
-            ("X-Swarming-After", b" " + b"0" * 19), ("X-Swarming-After", b" " + b"0" * 20), ("X-Swarming-After", b""), ("a b", b" c"), ("", b" c"), ("folded", b" a\r\n b"), ("control", b" \x01"),
-            ("high", b" \xc3\xa9"), ("tab", b" a\tb"), ("delete", b" \x7f"), ("many", b" a" + b"\r\nmany: a" * 61), ("few", b" a" + b"\r\nfew: a" * 59), ("long", b" " + b"l" * 16300),
-        ]
-        extra = self.random.choice(more)
-        kept = [it for it in fields if it[0].lower() != extra[0].lower() or self.chance(0.4)]
-        if self.chance(0.15) and kept:
-            kept.remove(self.random.choice(kept))
-        kept.insert(self.random.randrange(len(kept) + 1), extra)
-        return kept
+            return fuzz_heads.written(method, target, b"1.1", fields) + body
+        return self.heads.broken(method, target, fields) + body

@@ -54,6 +54,10 @@ class Server:
     def __init__(self, settings):
         self.pools = [BotPool(one, place) for place, one in enumerate(settings)]
 
+    def checkpoint(self):
+        """What the command `checkpoint` prints, over the records that are kept of the pools."""
+        return "".join(it.checkpoint() for it in self.pools)
+
     def pool_of(self, name):
         for pool in self.pools:
             if pool.settings.name == name:

@@ -6,8 +6,8 @@ import hashlib
 
 from lib.model_heads import Refused
 from lib.model_json import size
-from lib.model_pool import DIGEST_WEIGHT, Pool
-from lib.model_rows import Bot, Run, sorted_dimensions, weight_of_dimensions
+from lib.model_pool import Pool
+from lib.model_rows import DIGEST_WEIGHT, Bot, Run, sorted_dimensions, weight_of_dimensions
 
 LONGEST_SLEEP, LONGEST_STREAK = 60, 6
 

@@ -9,11 +9,10 @@ import hashlib
 from lib.model_calls import TASKS_OF_A_PLACE, place_of
 from lib.model_heads import Refused
 from lib.model_json import size
-from lib.model_rows import Blobs, Task
+from lib.model_rows import DIGEST_WEIGHT, Blobs, Task
 
 MOST_MOMENT = 1 << 40
 SLICE, SILENCE, DEATH, LIFE = range(4)
-DIGEST_WEIGHT = 36
 
 
 class PoolSettings:
@@ -59,6 +58,12 @@ class Pool:
         self.weight += weight
         self.last = moment
         self.earliest = None
+
+    def checkpoint(self):
+        """The records begin anew from the rows; the line that is printed."""
+        self.base, self.entries = self.front(), 0
+        self.weight = sum(it.weight() for it in self.tasks) + sum(it.weight() for it in self.bots.values())
+        return f"pool {self.settings.name} front {self.base} tasks {len(self.tasks)}\n"
 
     def begin(self, clock, after):
         """The moment of a call, once the deadlines that have come by then are settled."""

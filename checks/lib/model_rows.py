@@ -5,6 +5,7 @@ A part of the model that `checks/fuzz` holds the program against; it is no check
 from lib.model_calls import id_of
 from lib.model_json import size
 
+DIGEST_WEIGHT = 36
 FINAL = ("EXPIRED", "TIMED_OUT", "BOT_DIED", "CANCELED", "COMPLETED", "KILLED", "NO_RESOURCE")
 
 
@@ -48,7 +49,16 @@ class Task:
             return set()
         found = {digest for one in self.request.slices for _, digest, _ in one.properties["inputs"]}
         for run in (self.retried, self.run):
-            found.update(digest for _, _, digest in run.pieces if run) if run else None
+            found.update(digest for _, _, digest in (run.pieces if run else []))
+        return found
+
+    def weight(self):
+        """What its row weighs."""
+        found = size(self.who) + self.request.weight
+        for run in (self.retried, self.run):
+            if run:
+                files = run.last["files"] if run.last else []
+                found += size(run.claim) + DIGEST_WEIGHT * len(run.pieces) + sum(size(it["path"]) + DIGEST_WEIGHT for it in files)
         return found
 
     def output(self, run):
@@ -107,6 +117,10 @@ class Bot:
     def can_run(self, task):
         """Whether it could run a task that waits, and lost no run of it."""
         return task.state == "PENDING" and self.has(task.at_slice()) and not (task.retried and task.retried.bot == self.name)
+
+    def weight(self):
+        """What its row weighs."""
+        return size(self.name) + size(self.session) + weight_of_dimensions(self.dimensions) + size(self.quarantined)
 
     def shown(self):
         return {
