@@ -57,7 +57,7 @@ LAWS = [
     ("Rattle.bot_core.specs.Repeats", "RepeatsRequests"),
     ("Rattle.bot_core.specs.Ids", "IdsGrow"),
     ("Rattle.wire_laws.specs.Told", "RepliesAreTold"),
-    ("Rattle.wire_laws.specs.Meant", "HandshakesAreMeant PollsAreMeant ClaimsAreMeant ReportsAreMeant BlobGetsAreMeant BlobPutsAreMeant CallsAreFound BlobsAreFound"),
+    ("Rattle.wire_laws.specs.Meant", "HandshakesAreMeant PollsAreMeant ClaimsAreMeant ReportsAreMeant BlobGetsAreMeant BlobPutsAreMeant CallsAreFound BlobsAreFound RangesLieWithin"),
 ]
 # What runs at the edge of the process.
 EDGE = [

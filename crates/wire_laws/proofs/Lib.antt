@@ -17,3 +17,4 @@ pub mod BotMeanings
 pub mod ReportMeanings
 pub mod Targets
 pub mod BlobMeanings
+pub mod Ranges

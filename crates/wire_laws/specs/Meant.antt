@@ -1,5 +1,5 @@
 -- What the server reads in the requests of a bot.
-use Rattle.std.specs.Prelude.{codes, false, ◌≡◌, ℕ, ◌+◌, ◌<◌, ◌≤◌, ◌^◌, ⊤, true, List, [], ◌++◌, length, take, Option, None, Some, Ok}
+use Rattle.std.specs.Prelude.{codes, false, ◌≡◌, ℕ, ◌+◌, ◌<◌, ◌≤◌, ◌^◌, ⊤, true, List, [], ◌++◌, length, take, Option, None, Some, Ok, IfSome}
 use Rattle.std.specs.List.{All, list_any}
 use Rattle.std.specs.Option.{option_map}
 use Rattle.std.specs.Str.{IsUtf8}
@@ -21,7 +21,12 @@ use Rattle.routes.specs.declared.route.Route.TheVariants as route
 use Rattle.routes.specs.declared.resource.Resource.TheVariants.{Call, Blob}
 use Rattle.routes.specs.Routes.{is_part, is_question_mark, pool_part, digest_part, resource_of}
 use Rattle.json_fields.specs.Ids.{run_id}
+use Rattle.bot_core.specs.declared.action.Action.{Action}
+use Rattle.bot_core.specs.declared.action.Action.TheVariants as action
 use Rattle.bot_core.specs.declared.action.End.{End}
+use Rattle.bot_core.specs.declared.bot_state.BotState.{BotState}
+use Rattle.bot_core.specs.Bounds.{Bounds}
+use Rattle.bot_core.specs.Table.{action_of}
 use Rattle.bot_dimensions.specs.Groups.{groups_of, groups_with_bot}
 use Rattle.bot_requests.specs.declared.hands.Hands.{Hands}
 use Rattle.bot_requests.specs.Dimensions.{caches_group}
@@ -142,3 +147,16 @@ pub record FindsBlob (pool digest : List ℕ) : Type 0 where
 -- where the name of the pool has no slash and no question mark
 abbrev pub BlobsAreFound : Type 0
 BlobsAreFound = (pool digest : List ℕ) → is_part pool ≡ true → list_any is_question_mark pool ≡ false → IsDigest digest → FindsBlob pool digest
+
+-- ---- ranges
+
+-- what an action sends lies within what the server reads
+abbrev pub LiesWithin : Action → Type 0
+LiesWithin (action.Handshake first session) = IsLong session
+LiesWithin (action.Claim first session claim) = IsLong session × IsLong claim
+LiesWithin (action.Send start size last) = (size ≤ 32768) × (start + size ≤ 67108864) × IfSome last (λ end. end.dropped ≤ 2 ^ 53)
+LiesWithin other = ⊤
+
+-- of a bot whose limits are of 32 bits, and whose numbers keep to the bounds of one that goes on
+abbrev pub RangesLieWithin : Type 0
+RangesLieWithin = (s : BotState) → s.limits.steps < 2 ^ 32 → Bounds s → LiesWithin (action_of s)

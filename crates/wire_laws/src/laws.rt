@@ -1,4 +1,4 @@
-ghost use Rattle.wire_laws.specs.Meant.{BlobGetsAreMeant, BlobPutsAreMeant, BlobsAreFound, CallsAreFound, ClaimsAreMeant, HandshakesAreMeant, PollsAreMeant, ReportsAreMeant};
+ghost use Rattle.wire_laws.specs.Meant.{BlobGetsAreMeant, BlobPutsAreMeant, BlobsAreFound, CallsAreFound, ClaimsAreMeant, HandshakesAreMeant, PollsAreMeant, RangesLieWithin, ReportsAreMeant};
 ghost use Rattle.wire_laws.specs.Told.{RepliesAreTold};
 
 /// What the reader of a call is told of the status and the body of a reply is that reply, and the
@@ -35,4 +35,10 @@ pub fn blob_requests_are_meant()
 pub fn targets_are_found()
     ensures calls { CallsAreFound }
     ensures blobs { BlobsAreFound }
+{}
+
+/// The numbers that a bot sends lie within the ranges of the server while it goes on: those of its
+/// sessions and claims, where its output stands and how long it is, and how much of it was dropped.
+pub fn ranges_lie_within()
+    ensures { RangesLieWithin }
 {}
