@@ -15,8 +15,7 @@ pub fn replies_are_told()
 /// A bot's handshake, poll and claim ask for just that, under all settings: with the names of the bot,
 /// its session and its claim, and with its dimensions, its caches among them, as the server holds
 /// them. The first two ask the pool that these dimensions name, which is the bot's where none of its
-/// own pairs has the key `pool`, and the claim
-/// asks the bot's.
+/// own pairs has the key `pool`, and the claim asks the bot's.
 pub fn requests_for_work_are_meant()
     ensures handshake { HandshakesAreMeant }
     ensures poll { PollsAreMeant }
