@@ -57,7 +57,8 @@ LAWS = [
     ("Rattle.bot_core.specs.Repeats", "RepeatsRequests"),
     ("Rattle.bot_core.specs.Ids", "IdsGrow"),
     ("Rattle.wire_laws.specs.Told", "RepliesAreTold"),
-    ("Rattle.wire_laws.specs.Meant", "HandshakesAreMeant PollsAreMeant ClaimsAreMeant ReportsAreMeant BlobGetsAreMeant BlobPutsAreMeant CallsAreFound BlobsAreFound RangesLieWithin"),
+    ("Rattle.wire_laws.specs.Fitting", "AreChecked"),
+    ("Rattle.wire_laws.specs.Meant", "HandshakesAreMeant PollsAreMeant PoolsAreNamed ClaimsAreMeant ReportsAreMeant BlobGetsAreMeant BlobPutsAreMeant CallsAreFound BlobsAreFound RangesLieWithin"),
 ]
 # What runs at the edge of the process.
 EDGE = [

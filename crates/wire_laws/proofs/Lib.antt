@@ -18,3 +18,4 @@ pub mod ReportMeanings
 pub mod Targets
 pub mod BlobMeanings
 pub mod Ranges
+pub mod PoolNames

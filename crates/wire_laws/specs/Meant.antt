@@ -8,6 +8,7 @@ use Rattle.hex.specs.Hex.{encode_lower}
 use Rattle.sha2.specs.Sha256.{sha256}
 use Rattle.serde_json.specs.Written.{compact_text}
 use Rattle.dimensions.specs.BotRules.{first_bot_broken, pool_of_bot}
+use Rattle.dimensions.specs.Matching.{is_of_key}
 use Rattle.dimensions.specs.Order.{sorted_bot}
 use Rattle.task_props.specs.declared.file.File.{File}
 use Rattle.task_props.specs.Sorted.{is_path}
@@ -68,6 +69,10 @@ HandshakesAreMeant = (h : Hands) (caches : List (List ℕ)) (first session : ℕ
 abbrev pub PollsAreMeant : Type 0
 PollsAreMeant = (h : Hands) (caches : List (List ℕ)) → FitsServer h caches
     → Means route.Poll (compact_text (poll_data h caches)) (pool_of_bot (dims_of h caches)) (ask.Poll h.id (dims_of h caches) [])
+
+-- the pool that they name is the bot's, where none of its own pairs has that key
+abbrev pub PoolsAreNamed : Type 0
+PoolsAreNamed = (h : Hands) (caches : List (List ℕ)) → list_any (is_of_key (codes "pool")) (groups_of h.dims ++ caches_group caches) ≡ false → pool_of_bot (dims_of h caches) ≡ h.pool
 
 abbrev pub ClaimsAreMeant : Type 0
 ClaimsAreMeant = (h : Hands) (first session claim : ℕ) → is_name h.id ≡ true → IsUtf8 h.id → IsUtf8 h.pool → IsLong first → IsLong session → IsLong claim

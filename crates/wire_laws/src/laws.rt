@@ -1,5 +1,7 @@
-ghost use Rattle.wire_laws.specs.Meant.{BlobGetsAreMeant, BlobPutsAreMeant, BlobsAreFound, CallsAreFound, ClaimsAreMeant, HandshakesAreMeant, PollsAreMeant, RangesLieWithin, ReportsAreMeant};
+ghost use Rattle.wire_laws.specs.Meant.{BlobGetsAreMeant, BlobPutsAreMeant, BlobsAreFound, CallsAreFound, ClaimsAreMeant, HandshakesAreMeant, PollsAreMeant, PoolsAreNamed, RangesLieWithin, ReportsAreMeant};
 ghost use Rattle.wire_laws.specs.Told.{RepliesAreTold};
+ghost use Rattle.swarm_model.specs.Examples.{properties};
+ghost use Rattle.wire_laws.specs.Fitting.{AreChecked};
 
 /// What the reader of a call is told of the status and the body of a reply is that reply, and the
 /// place of the pool where an id in it names the pool: a refusal is told by its code, with its body,
@@ -12,11 +14,13 @@ pub fn replies_are_told()
 
 /// A bot's handshake, poll and claim ask for just that, under all settings: with the names of the bot,
 /// its session and its claim, and with its dimensions, its caches among them, as the server holds
-/// them. The first two ask the pool that these dimensions name, and the claim the pool of the bot.
+/// them. The first two ask the pool that these dimensions name, which is the bot's where none of its
+/// own pairs has the key `pool`, and the claim asks the bot's.
 pub fn requests_for_work_are_meant()
     ensures handshake { HandshakesAreMeant }
     ensures poll { PollsAreMeant }
     ensures claim { ClaimsAreMeant }
+    ensures pool { PoolsAreNamed }
 {}
 
 /// A report is that of its run, with the bytes of its chunk and the end that the bot told.
@@ -41,4 +45,9 @@ pub fn targets_are_found()
 /// sessions and claims, where its output stands and how long it is, and how much of it was dropped.
 pub fn ranges_lie_within()
     ensures { RangesLieWithin }
+{}
+
+/// There are properties that fit a reply: those of a small task, so the law on replies speaks of runs.
+pub fn small_properties_fit()
+    ensures { AreChecked properties }
 {}

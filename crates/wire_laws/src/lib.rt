@@ -19,5 +19,5 @@ mod laws;
 
 pub use laws::{
     blob_requests_are_meant, ranges_lie_within, replies_are_told, reports_are_meant,
-    requests_for_work_are_meant, targets_are_found,
+    requests_for_work_are_meant, small_properties_fit, targets_are_found,
 };
