@@ -1,7 +1,7 @@
 #!/usr/bin/env python3
 """Figures of kept records: entries per second with a store, the loading of long logs, and checkpoints.
 
-Usage: bench/records.py [--lines N] [--part NAME].. [--rounds N] [--polls N] [PROGRAM]
+Usage: bench/records.py [--lines N] [--part NAME].. [--rounds N] [--polls N] [--before OTHER] [PROGRAM]
 
 All figures are the best of so many rounds, in which what is compared was measured in turn.
 
@@ -13,9 +13,10 @@ All figures are the best of so many rounds, in which what is compared was measur
   default, for a line; and the greatest memory of the process.
 - bases: how long the program takes to start on a log, to let it begin anew by a checkpoint, and to
   start on the base that this leaves. One log has 100000 tasks, each with its NewTask, the claim of one
-  of 40 bots, a report with a piece of output and the last report; the other has 1000000 polls of 40
-  bots. Beside them stands how many times as long as the start from the log a checkpoint takes, which is
-  to be at most twice, and the start from the base.
+  of 40 bots, a report with a piece of output and the last report; one has 100000 NewTasks alone; and
+  the last has 1000000 polls of 40 bots. Beside them stands how many times as long as the start from the
+  log a checkpoint takes, which is to be at most twice, and the start from the base. With --before OTHER
+  the program OTHER starts on each log in turn with PROGRAM, on a file of its own.
 - files: the size of the file after each of so many rounds (--rounds, 10 by default) of as many polls
   (--polls, 100000 by default) in a session, and a checkpoint. It is to be no larger after the last one
   than after the second.
@@ -41,7 +42,7 @@ from session import HERE, run
 
 APPENDS = 5000
 APPEND_ROUNDS = 5
-LOAD_ROUNDS = 3
+LOAD_ROUNDS = 5
 BOTS = 8
 # What the logs have that begin anew.
 BASE_TASKS, BASE_POLLS, BASE_BOTS = 100000, 1000000, 40
@@ -256,12 +257,10 @@ def outputs(tasks):
         yield hashlib.sha256(output).digest(), output
 
 
-def copied(folder, name):
-    """A copy of the records of a folder, under another name."""
-    other = folder + name
-    shutil.rmtree(other, ignore_errors=True)
-    shutil.copytree(folder, other)
-    return other
+def copy_records(folder, ending):
+    """Makes a copy of the records of a folder, with this at the end of its name, in place of the one that is there."""
+    shutil.rmtree(folder + ending, ignore_errors=True)
+    shutil.copytree(folder, folder + ending)
 
 
 def timed(program, command, folder, units=1048576):
@@ -275,28 +274,39 @@ def show_run(name, seconds, memory):
     print("%-60s %8.3f s %8.1f MiB" % (name, seconds, memory), flush=True)
 
 
-def measure_base(program, name, folder):
-    """A start from the log, a checkpoint over it, and a start from the base that this leaves."""
-    steps = ("a start from the log", "a checkpoint over the log", "a start from the base")
+def measure_base(program, before, name, folder):
+    """A start from the log, a checkpoint over it, and a start from the base that this leaves; and OTHER's start from the log."""
+    steps = {
+        "a start from the log": (program, "session", ".log"),
+        "a checkpoint over the log": (program, "checkpoint", ".anew"),
+        "a start from the base": (program, "session", ".anew"),
+    }
+    if before:
+        steps["a start of OTHER from the log"] = (before, "session", ".other")
     best, memory = dict.fromkeys(steps, float("inf")), {}
     for _ in range(LOAD_ROUNDS):
-        log, anew = copied(folder, ".log"), copied(folder, ".anew")
-        for step, command, records in zip(steps, ("session", "checkpoint", "session"), (log, anew, anew)):
-            seconds, memory[step] = timed(program, command, records)
+        for ending in {ending for _, _, ending in steps.values()}:
+            copy_records(folder, ending)
+        for step, (it, command, ending) in steps.items():
+            seconds, memory[step] = timed(it, command, folder + ending)
             best[step] = min(best[step], seconds)
     for step in steps:
         show_run("%s: %s" % (name, step), best[step], memory[step])
-    for step in steps[1:]:
-        print("%-60s %8.2f" % ("%s: %s, times a start from the log" % (name, step), best[step] / best[steps[0]]), flush=True)
+    first, *others = steps
+    for step in others:
+        print("%-60s %8.4f" % ("%s: %s, times a start from the log" % (name, step), best[step] / best[first]), flush=True)
 
 
-def measure_bases(program):
+def measure_bases(program, before):
     with tempfile.TemporaryDirectory() as folder:
-        tasks, asked, moment = os.path.join(folder, "tasks"), os.path.join(folder, "polls"), int(time.time())
+        moment = int(time.time())
+        tasks, created, asked = (os.path.join(folder, name) for name in ("tasks", "created", "polls"))
         write_lines(tasks, runs(BASE_TASKS, BASE_BOTS, moment), outputs(BASE_TASKS))
-        measure_base(program, "%d tasks" % BASE_TASKS, tasks)
+        measure_base(program, before, "%d tasks" % BASE_TASKS, tasks)
+        write_lines(created, (new_line(task, moment, "true") for task in range(1, BASE_TASKS + 1)))
+        measure_base(program, before, "%d NewTasks" % BASE_TASKS, created)
         write_lines(asked, polls(BASE_POLLS + BASE_BOTS, BASE_BOTS, moment))
-        measure_base(program, "%d polls" % BASE_POLLS, asked)
+        measure_base(program, before, "%d polls" % BASE_POLLS, asked)
 
 
 def measure_files(program, rounds, count):
@@ -386,23 +396,25 @@ PARTS = ("appends", "loading", "bases", "files", "limits")
 
 
 def main():
-    usage = "bench/records.py [--lines N] [--part NAME].. [--rounds N] [--polls N] [PROGRAM]"
+    usage = "bench/records.py [--lines N] [--part NAME].. [--rounds N] [--polls N] [--before OTHER] [PROGRAM]"
     parser = argparse.ArgumentParser(usage=usage)
     parser.add_argument("--lines", type=int, default=1000000, metavar="N")
     parser.add_argument("--part", action="append", choices=PARTS, metavar="NAME")
     parser.add_argument("--rounds", type=int, default=10, metavar="N")
     parser.add_argument("--polls", type=int, default=100000, metavar="N")
+    parser.add_argument("--before", metavar="OTHER")
     parser.add_argument("program", nargs="?", default=os.path.join(HERE, "crates/swarm/out/swarm"))
     words = parser.parse_args()
-    if not os.access(words.program, os.X_OK):
-        sys.exit("%s is not there: build it by ./swarm session" % words.program)
+    for it in (words.program, words.before):
+        if it and not os.access(it, os.X_OK):
+            sys.exit("%s is not there: build it by ./swarm session" % it)
     parts = words.part or PARTS[:-1]
     if "appends" in parts:
         measure_appends(words.program)
     if "loading" in parts:
         measure_loading(words.program, (100000, words.lines))
     if "bases" in parts:
-        measure_bases(words.program)
+        measure_bases(words.program, words.before)
     if "files" in parts:
         measure_files(words.program, words.rounds, words.polls)
     if "limits" in parts:

@@ -1,7 +1,7 @@
 #!/usr/bin/env python3
 """Figures of `swarm session`: requests per second, and the greatest memory.
 
-Usage: bench/session.py [--before OTHER] [PROGRAM]
+Usage: bench/session.py [--before OTHER [--rounds N]] [PROGRAM]
 
 Each line is one run of the program over one connection of pipelined requests from a file: what is
 asked, how many requests, seconds, requests per second, microseconds a request, and the greatest
@@ -9,9 +9,9 @@ memory of the process in MiB, which is never less than the script's own, some 14
 counted; a run that answers otherwise is an error. The program is built by the first
 `./swarm session`.
 
-With --before OTHER, the program OTHER and PROGRAM serve a few of these connections in turn, five
-times each, and each line has the best of OTHER, the best of PROGRAM, and how many times as fast
-PROGRAM is.
+With --before OTHER, the program OTHER and PROGRAM serve a few of these connections in turn, in so
+many rounds (5 by default), and each line has the best of OTHER, the best of PROGRAM, and how many
+times as fast PROGRAM is.
 
 The lines on grants are about settings of four pools with so many grants each: reading them, with no
 request behind, and a caller who counts tasks and whom the last grant permits that. Each has the best
@@ -254,8 +254,8 @@ def measure_grants(program):
         print("%-42s 256 grants take %.1f times as long as 8" % (name, best[256, count] / best[8, count]), flush=True)
 
 
-def compare(before, program):
-    """Both programs in turn over each connection, five times: the best of each."""
+def compare(before, program, rounds):
+    """Both programs in turn over each connection, in so many rounds: the best of each."""
     count, new = request(b"CountTasks", COUNT), request(b"NewTask", NEW_TASK)
     long = request(b"NewTask", long_task(64, MOST_BODY - 1, False))
     # Few tasks are made in an instant, so that connection is served so many times, each on a new pool.
@@ -266,7 +266,7 @@ def compare(before, program):
         ("GetResult of the first of 500", 500, request(b"GetResult", b'{"task_id":"10"}'), 65000, 1),
     ):
         best = {before: None, program: None}
-        for _ in range(5):
+        for _ in range(rounds):
             for it in best:
                 seconds = 0
                 for _ in range(connections):
@@ -280,8 +280,9 @@ def compare(before, program):
 
 
 def main():
-    parser = argparse.ArgumentParser(usage="bench/session.py [--before OTHER] [PROGRAM]")
+    parser = argparse.ArgumentParser(usage="bench/session.py [--before OTHER [--rounds N]] [PROGRAM]")
     parser.add_argument("--before", metavar="OTHER")
+    parser.add_argument("--rounds", type=int, default=5, metavar="N")
     parser.add_argument("program", nargs="?", default=os.path.join(HERE, "crates/swarm/out/swarm"))
     words = parser.parse_args()
     program = words.program
@@ -289,7 +290,7 @@ def main():
         if it and not os.access(it, os.X_OK):
             sys.exit("%s is not there: run ./swarm session first" % it)
     if words.before:
-        return compare(words.before, program)
+        return compare(words.before, program, words.rounds)
     for count in (1000, 8125, 16250, 32500, 65000):
         measure(program, "CountTasks over 1 task", 1, request(b"CountTasks", COUNT), count)
     for count in (1000, 8125, 16250, 32500, 65000):
