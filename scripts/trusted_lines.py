@@ -10,6 +10,9 @@ that differs from the counts, each file that has no row, and each row that has n
 with status 1 if there is one. With --write it puts the counts into the page; with --names it prints
 the definitions that it counted, file by file.
 
+Of the files at the edge of the process it counts what no contract says: all but the items of TOLD, each
+of which has to have a contract or to tell its state.
+
 A line counts where it is neither blank nor an import. The kit is looked for where `rt doc` says.
 """
 import os
@@ -60,7 +63,7 @@ LAWS = [
     ("Rattle.wire_laws.specs.Fitting", "AreChecked"),
     ("Rattle.wire_laws.specs.Meant", "HandshakesAreMeant PollsAreMeant PoolsAreNamed ClaimsAreMeant ReportsAreMeant BlobGetsAreMeant BlobPutsAreMeant CallsAreFound BlobsAreFound RangesLieWithin"),
 ]
-# What runs at the edge of the process.
+# What runs at the edge of the process, but for the scripts that start and build it.
 EDGE = [
     "crates/swarm/src/main.rt",
     "crates/sqlite_keeper/src/sqlite_keeper.rt",
@@ -87,9 +90,61 @@ EDGE = [
     "crates/run_folders/src/caches.rt",
     "crates/run_folders/src/paths.rt",
     "crates/run_folders/src/tools.rt",
-    "swarm",
-    "scripts/build.py",
 ]
+SCRIPTS = ["swarm", "scripts/build.py"]
+# What of them is told: by each item's first line, from its `fn`, `struct` or `impl` on.
+TOLD = {
+    "crates/sw_base/src/console_link.rt": [
+        "struct ConsoleLink",
+        "impl<R: Read + Drop, W: Write + Drop> ConsoleLink<R, W>",
+        "impl<R: Read + Drop, W: Write + Drop> Link for ConsoleLink<R, W>",
+    ],
+    "crates/sw_base/src/disk_files.rt": ["fn read_up_to", "fn write_synced"],
+    "crates/program_log/src/logged_stream.rt": [
+        "struct LoggedStream",
+        "impl<'a, S: Drop, G: Log> LoggedStream<'a, S, G>",
+        "impl<'a, S: Read + Drop, G: Log> Read for LoggedStream<'a, S, G>",
+        "impl<'a, S: Write + Drop, G: Log> Write for LoggedStream<'a, S, G>",
+    ],
+    "crates/program_log/src/logged_files.rt": [
+        "struct LoggedFiles",
+        "impl<'a, F: Files + Drop, R: fs::Files, G: Log> LoggedFiles<'a, F, R, G>",
+        "impl<'a, F: Files + Drop, R: fs::Files, G: Log> Files for LoggedFiles<'a, F, R, G>",
+    ],
+    "crates/tcp_links/src/tcp_link.rt": [
+        "const TLS_HANDSHAKE",
+        "struct TcpLink",
+        "fn new",
+        "fn read_plain",
+        "fn read_again",
+        "fn is_hello",
+        "fn write_again",
+        "impl<R: Read + Drop, W: Write + Drop> Link for TcpLink<R, W>",
+    ],
+    "crates/tcp_links/src/deadline_link.rt": [
+        "struct DeadlineLink",
+        "fn new",
+        "impl<'a, L: LimitedReads + Drop, T: rt::Clock> Link for DeadlineLink<'a, L, T>",
+    ],
+    "crates/tcp_links/src/logged_link.rt": [
+        "struct LoggedLink",
+        "fn new",
+        "fn into_inner",
+        "impl<L: Link + Drop> Link for LoggedLink<L>",
+    ],
+    "crates/tcp_links/src/limits.rt": ["struct Limits", "fn of_server", "fn of_client", "fn idle_secs"],
+    "crates/run_folders/src/paths.rt": [
+        "fn is_slash",
+        "fn has_slash",
+        "fn names_nothing",
+        "fn is_name",
+        "fn has_nothing",
+        "fn is_below",
+        "fn is_env_byte",
+        "fn are_env_bytes",
+        "fn is_env_key",
+    ],
+}
 
 
 def kit_folder():
@@ -302,6 +357,36 @@ def size_of(file):
     return sum(1 for line in lines if line.strip() and not re.match(r"(pub |ghost )?use\b|pub mod\b", line))
 
 
+def told_lines(file, lines):
+    """The places of the lines of what is told of a file."""
+    found = set()
+    for name in TOLD.get(file, []):
+        begins = rf"( *)(pub |pub\(crate\) )?{re.escape(name)}(?!\w)"
+        places = [at for at, line in enumerate(lines) if re.match(begins, line)]
+        if len(places) != 1:
+            sys.exit("%s, of which TOLD names %s, has %d of it" % (file, name, len(places)))
+        begin = last = places[0]
+        first, indent = begin, re.match(begins, lines[begin])[1]
+        while first and re.match(rf"{indent}(//|#\[)", lines[first - 1]):
+            first -= 1
+        while not lines[begin].endswith(";") and lines[last] != indent + "}":
+            last += 1
+        text = "\n".join(lines[first : last + 1])
+        state = re.search(r"ghost (state|remaining|contents) = (.*?)};", text, re.S)
+        if not (re.search(r"struct|const", name) or "ensures" in text or state) or state and "None" in state[2]:
+            sys.exit("%s: %s is named by TOLD, and tells nothing" % (file, name))
+        found.update(range(first, last + 1))
+    return found
+
+
+def edge_size(file):
+    """How many lines of a file at the edge nothing tells, and how many it has."""
+    lines = open(os.path.join(HERE, file), encoding="utf-8").read().splitlines()
+    counted = [at for at, line in enumerate(lines) if line.strip() and not re.match(r" *(pub |ghost )?use\b|pub mod\b", line)]
+    told = told_lines(file, lines)
+    return [sum(1 for at in counted if at not in told), len(counted)]
+
+
 def specs_of(crate):
     folder = os.path.join(HERE, "crates", crate, "specs")
     names = os.listdir(folder) if os.path.isdir(folder) else []
@@ -343,8 +428,9 @@ def count():
     for crate in named_in_kit() + [file.split(os.sep)[0] for file in kit]:
         cited = sum(sum(names.values()) for file, names in kit.items() if file.startswith(crate + os.sep))
         outside[crate] = [cited, source_size(crate)]
-    edge = {file: [sum(1 for _ in open(os.path.join(HERE, file), encoding="utf-8"))] for file in EDGE}
-    rows = {"crates": crates, "kit": outside, "edge": edge}
+    edge = {file: edge_size(file) for file in EDGE}
+    scripts = {file: [size_of(file)] for file in SCRIPTS}
+    rows = {"crates": crates, "kit": outside, "edge": edge, "scripts": scripts}
     for title, files in (("headline", own), ("laws", laws)):
         rows[title] = {file: [sum(names.values()), size_of(file)] for file, names in files.items()}
     return {"headline": own, "laws": laws, "kit": kit}, rows

@@ -68,7 +68,7 @@ impl<R: Read + Drop, W: Write + Drop> TcpLink<R, W> {
         ensures same { length into.new ≡ length into.old }
         ensures bytes { ReadConsumes (R.remaining self.old.reader) (R.remaining self.new.reader) result into.new }
         ensures seen { IsFalse self.old.has_begun → IfOk result (λ n. IsTrue self.new.speaks_tls ↔ (take 1 (take n into.new) ≡ 0x16 ∷ [])) }
-        ensures plain { IsTrue self.old.speaks_tls → IsErr result }
+        ensures plain { IsTrue self.old.speaks_tls → IsErr result × IsTrue self.new.speaks_tls }
         ensures writer { self.new.writer ≡ self.old.writer }
         ensures reads { self.new.read_faults ≡ self.old.read_faults }
         ensures writes { self.new.write_faults ≡ self.old.write_faults }
