@@ -1,5 +1,5 @@
 -- What a door tells, and what a call does to it.
-use Rattle.std.specs.Prelude.{◌≡◌, ◌≢◌, ⊤, ℕ, Bool, true, false, ◌+◌, ◌≤◌, List, [], ◌∷◌, length, slice_get, Option, None, is_some, Result, Ok, Err, IfSome, IsSomeAnd, IsTrue}
+use Rattle.std.specs.Prelude.{◌≡◌, ◌≢◌, ⊤, ℕ, Bool, true, false, ◌+◌, ◌≤◌, List, [], ◌∷◌, length, map, slice_get, Option, Some, None, option_map, is_some, Result, Ok, Err, IfSome, IsSomeAnd, IsTrue}
 use Rattle.std.specs.List.{All, AllZip}
 use Rattle.sha2.specs.Sha256.{sha256}
 use Rattle.sw_base.specs.Faults.{Rose}
@@ -16,6 +16,7 @@ use Rattle.swarm_model.specs.Bases.{Base, front}
 use Rattle.swarm_model.specs.Finding.{blob_of}
 use Rattle.swarm_model.specs.History.{replay}
 use Rattle.swarm_model.specs.Points.{Call, Growth, IsPoint, IsStopped}
+use Rattle.entry_lines.specs.Lines.{entry_of_line}
 use Rattle.pool_doors.specs.declared.door.CallFault.{CallFault}
 use Rattle.pool_doors.specs.declared.door.CallFault.TheVariants as fault
 use Rattle.pool_doors.specs.declared.door.Answered.{Answered}
@@ -65,6 +66,24 @@ abbrev pub AddsNoOthers : DoorState → DoorState → Type 0
 AddsNoOthers old new =
     (p : ℕ) → HasNoOthersAt old.settings.pools old.writer.starts old.records old.seen p → HasNoOthersAt new.settings.pools new.writer.starts new.records new.seen p
 
+-- where the records of a pool are told, their lines are those of the log's entries, in order
+abbrev pub HasLines : Option Tables → List Entry → Type 0
+HasLines told log = IfSome told (λ t. map entry_of_line t.lines ≡ map Some log)
+
+-- this holds of the pool at a place
+abbrev pub HasLinesAt : List (Option Tables) → Logs → ℕ → Type 0
+HasLinesAt records logs place = IfSome (slice_get records place) (λ told. HasLines told (logs place))
+
+-- what records tell of where a log begins: the lines of the base, and how many entries led to it
+abbrev pub base_told : Option Tables → Option (List (List ℕ) × ℕ)
+base_told told = option_map (λ t. (t.base, t.count)) told
+
+-- wherever the records had the lines of what was seen of the log, and no others, they have those of what is seen of it then;
+-- and what they tell of where it begins stays
+pub record KeepsRecords (old new : DoorState) : Type 0 where
+  pub lines : (p : ℕ) → HasLinesAt old.records old.seen p → HasLinesAt new.records new.seen p
+  pub bases : map base_told new.records ≡ map base_told old.records
+
 -- bytes of the part's digest, as many as the part needs
 abbrev pub IsPieceOf : Part → List ℕ → Type 0
 IsPieceOf part piece = (sha256 piece ≡ part.digest) × (part.to ≤ length piece)
@@ -111,6 +130,7 @@ pub record IsCall (old new : DoorState) (place : ℕ) (call : Call) (result : Re
   pub growth : Growth
   pub done : IsSomeAnd (slice_get old.settings.pools place) (λ pool. IsPoolCall (old.writer.starts place) old.writer.alone call (old.seen place) (new.seen place) growth result)
   pub elsewhere : Elsewhere place old.seen new.seen
+  pub kept : KeepsRecords old new
   pub no_other_blobs : AddsNoOthers old new
   pub settings : new.settings ≡ old.settings
   pub writer : new.writer ≡ old.writer

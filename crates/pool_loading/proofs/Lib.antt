@@ -4,3 +4,4 @@ pub mod Refusing
 pub mod Bases
 pub mod Replays
 pub mod Loads
+pub mod Restoring

@@ -1,11 +1,12 @@
 -- How the blobs of a machine get their bytes.
 use Rattle.std.specs.Prelude.{◌≡◌, ◌<◌, ℕ, List, Option, Some, IfSome, IsTrue, is_some, slice_get}
 use Rattle.blob_rows.specs.declared.blob_row.BlobRow.{BlobRow}
+use Rattle.blob_rows.specs.declared.filled.Filled.TheVariants.{Done}
 use Rattle.swarm_keeper.specs.Tables.{Tables, bytes_of}
 use Rattle.swarm_model.specs.declared.pool_state.PoolState.{PoolState}
-use Rattle.swarm_model.specs.Bytes.{HeldBytes, with_bytes}
+use Rattle.swarm_model.specs.Bytes.{HeldBytes, filled, with_bytes}
 use Rattle.swarm_model.specs.MachineState.{MachineState}
-use Rattle.pool_loading.specs.Records.{HasBytes}
+use Rattle.pool_loading.specs.Records.{HasBytes, IsFilled}
 
 -- rows and log stay, and where the log begins
 pub record KeepsLog (old new : MachineState) : Type 0 where
@@ -17,15 +18,16 @@ pub record KeepsLog (old new : MachineState) : Type 0 where
 abbrev pub HoldsKept : HeldBytes → Tables → Type 0
 HoldsKept held t = (digest : List ℕ) → IsTrue (is_some (held digest)) → bytes_of t.blobs digest ≡ held digest
 
--- the bytes of one digest are held beside what was held, and they are those in the tables
-pub record HoldsMore (tables : Option Tables) (digest : List ℕ) (old new : HeldBytes) : Type 0 where
+-- the bytes of a blob are held beside what was held, and they are those in the tables
+pub record HoldsMore (tables : Option Tables) (s : PoolState) (digest : List ℕ) (old new : HeldBytes) : Type 0 where
   pub bytes : List ℕ
+  pub own : filled s digest bytes ≡ Done
   pub held : new ≡ with_bytes digest bytes old
   pub kept : IfSome tables (λ t. bytes_of t.blobs digest ≡ Some bytes)
 
--- the bytes of the blobs before this place are held, and what is held is in the tables
+-- the blobs before this place have their bytes, and what is held is in the tables
 pub record IsFilledTo (tables : Option Tables) (at : ℕ) (kept : MachineState) : Type 0 where
-  pub rows : (k : ℕ) (row : BlobRow) → k < at → slice_get kept.pool.blobs k ≡ Some row → IsTrue (is_some (kept.held row.digest))
+  pub rows : (k : ℕ) (row : BlobRow) → k < at → slice_get kept.pool.blobs k ≡ Some row → IsFilled kept row
   pub held : IfSome tables (HoldsKept kept.held)
 
 -- some blob of the pool has not its bytes in the tables

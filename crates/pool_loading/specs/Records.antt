@@ -1,5 +1,6 @@
 -- Kept records, and the machine that they are loaded into.
-use Rattle.std.specs.Prelude.{◌≡◌, ◌⊎◌, ℕ, List, [], ◌∷◌, ◌++◌, length, map, take, slice_get, Option, Some, None, IfSome, IsSomeAnd, IsTrue, is_some, Result, Ok, Err}
+use Rattle.std.specs.Prelude.{◌≡◌, ◌⊎◌, ℕ, List, [], ◌∷◌, ◌++◌, length, map, take, slice_get, Option, Some, None, option_map, IfSome, IsSomeAnd, IsTrue, is_some, Result, Ok, Err}
+use Rattle.std.specs.List.{All}
 use Rattle.dimensions.specs.declared.text.Text.{Text}
 use Rattle.blob_rows.specs.declared.filled.Filled.TheVariants.{Done}
 use Rattle.blob_rows.specs.declared.blob_row.BlobRow.{BlobRow}
@@ -8,9 +9,10 @@ use Rattle.swarm_model.specs.declared.pool_settings.PoolSettings.{PoolSettings}
 use Rattle.swarm_model.specs.declared.pool_state.PoolState.{PoolState}
 use Rattle.swarm_model.specs.declared.entry.Entry.{Entry}
 use Rattle.swarm_model.specs.BaseRules.{IsBase}
+use Rattle.swarm_model.specs.Bases.{Base}
 use Rattle.swarm_model.specs.Bytes.{filled}
 use Rattle.swarm_model.specs.History.{replay, IsLegal}
-use Rattle.swarm_model.specs.MachineState.{MachineState, IsHistory, AreHeld}
+use Rattle.swarm_model.specs.MachineState.{MachineState, IsHistory}
 use Rattle.entry_lines.specs.Lines.{entry_of_line}
 use Rattle.base_lines.specs.declared.base_rows.BaseRows.{BaseRows}
 use Rattle.base_lines.specs.Reading.{read_lines, base_of}
@@ -52,11 +54,19 @@ pub record AreRecords (kept : MachineState) (t : Tables) : Type 0 where
   pub lines : AreLinesOf t.lines kept.log
   pub blobs : (digest : List ℕ) → IsTrue (is_some (kept.held digest)) → bytes_of t.blobs digest ≡ kept.held digest
 
+-- the bytes that are held of a blob are its own: those of its digest and size
+abbrev pub IsFilled : MachineState → BlobRow → Type 0
+IsFilled kept row = option_map (filled kept.pool row.digest) (kept.held row.digest) ≡ Some Done
+
+-- so it is with each blob
+abbrev pub AreFilled : MachineState → Type 0
+AreFilled kept = All (IsFilled kept) kept.pool.blobs
+
 -- a machine of these settings was made of the records
 pub record IsLoaded (settings : PoolSettings) (tables : Option Tables) (kept : MachineState) : Type 0 where
   pub settings_are : kept.pool.settings ≡ settings
   pub history : IsHistory kept
-  pub held : AreHeld kept
+  pub held : AreFilled kept
   pub records : IfSome tables (AreRecords kept)
 
 -- the line is of no entry that is legal at the end of the log
@@ -95,3 +105,18 @@ abbrev pub AreRefusedAt : PoolSettings → Tables → StorePart → ℕ → Type
 AreRefusedAt settings t part.Base at = (read_lines t.base ≡ Err at) ⊎ ((at ≡ length t.base) × HasNoBase settings t)
 AreRefusedAt settings t part.Lines at =
     (base : PoolState) × HasBase settings t base × (IsFirstRefused base t.lines at ⊎ ((at ≡ length t.lines) × LacksBytes base t))
+
+-- ---- what the next start finds
+
+-- the machine's log begins there and is this one, and its rows are those to which they lead
+pub record HasHistory (start : Base) (log : List Entry) (kept : MachineState) : Type 0 where
+  pub begins : kept.start ≡ start
+  pub log_is : kept.log ≡ log
+  pub rows : kept.pool ≡ replay start.rows log
+
+-- The records are refused at no place; each machine that is made of them has this history; and each blob that it leaves
+-- has its bytes in them.
+pub record Restores (settings : PoolSettings) (start : Base) (log : List Entry) (t : Tables) : Type 0 where
+  pub accepted : (which : StorePart) (at : ℕ) → AreRefusedAt settings t which at → ⊥
+  pub same : (kept : MachineState) → IsLoaded settings (Some t) kept → HasHistory start log kept
+  pub bytes : All (λ row. HasBytes t (replay start.rows log) row.digest) (replay start.rows log).blobs

@@ -4,9 +4,8 @@ ghost use Rattle.blob_rows.specs.declared.filled.Filled.TheVariants.{Done};
 ghost use Rattle.sw_base.specs.Faults.{Rose};
 ghost use Rattle.swarm_keeper.specs.Tables.{bytes_of};
 ghost use Rattle.swarm_model.specs.Bytes.{filled, with_bytes};
-ghost use Rattle.swarm_model.specs.MachineState.{AreHeld};
 ghost use Rattle.pool_loading.specs.declared.store_part.StorePart.{StorePart};
-ghost use Rattle.pool_loading.specs.Records.{HasBytes};
+ghost use Rattle.pool_loading.specs.Records.{AreFilled, HasBytes};
 ghost use Rattle.pool_loading.specs.Filling.{KeepsLog, HoldsKept, HoldsMore, IsFilledTo, LacksBlob};
 
 use crate::StorePart;
@@ -39,7 +38,7 @@ fn bytes_at<K: Keeper>(keeper: &mut K, digest: &Digest) -> Result<Option<Seq<u8>
 fn is_filled<M: Machine>(machine: &mut M, digest: &Digest, bytes: &Option<Seq<u8>>) -> bool
     ensures keeps { KeepsLog (M.kept machine.old) (M.kept machine.new) }
     ensures decides { Decides result (IsSomeAnd bytes.now (λ b. filled (M.kept machine.old).pool digest.now b ≡ Done)) }
-    ensures held { result ≡ true → IsSomeAnd bytes.now (λ b. (M.kept machine.new).held ≡ with_bytes digest.now b (M.kept machine.old).held) }
+    ensures held { result ≡ true → IsSomeAnd bytes.now (λ b. (filled (M.kept machine.old).pool digest.now b ≡ Done) × ((M.kept machine.new).held ≡ with_bytes digest.now b (M.kept machine.old).held)) }
 {
     match bytes {
         Some(bytes) => machine.fill(digest, bytes.as_slice()) == Filled::Done,
@@ -55,7 +54,7 @@ fn fill_one<M: Machine, K: Keeper>(
 ) -> Result<bool, LoadStop>
     ensures keeps { KeepsLog (M.kept machine.old) (M.kept machine.new) }
     ensures decides { IfOk result (λ b. IfSome (K.tables keeper.old) (λ t. Decides b (HasBytes t (M.kept machine.old).pool digest.now))) }
-    ensures held { IfOk result (λ b. b ≡ true → HoldsMore (K.tables keeper.old) digest.now (M.kept machine.old).held (M.kept machine.new).held) }
+    ensures held { IfOk result (λ b. b ≡ true → HoldsMore (K.tables keeper.old) (M.kept machine.old).pool digest.now (M.kept machine.old).held (M.kept machine.new).held) }
     ensures stays { K.tables keeper.new ≡ K.tables keeper.old }
     ensures grows { K.faults keeper.old ≤ K.faults keeper.new }
     ensures failed { IsErrOf result LoadStop.Failed → Rose (K.faults keeper.old) (K.faults keeper.new) }
@@ -113,7 +112,7 @@ pub(crate) fn fill_blobs<M: Machine, K: Keeper>(
     requires filled { IsFilledTo (K.tables keeper.old) 0 (M.kept machine.old) }
     requires few { length (M.kept machine.old).pool.blobs ≤ 262144 }
     ensures keeps { KeepsLog (M.kept machine.old) (M.kept machine.new) }
-    ensures held { OnOk result (AreHeld (M.kept machine.new)) }
+    ensures held { OnOk result (AreFilled (M.kept machine.new)) }
     ensures kept { OnOk result (IfSome (K.tables keeper.old) (HoldsKept (M.kept machine.new).held)) }
     ensures none { (M.kept machine.old).pool.blobs ≡ [] → result ≡ Ok tt }
     ensures refused { IfErr result (λ stop. (part : StorePart) (at : ℕ) → stop ≡ LoadStop.Refused part at → (part ≡ StorePart.Lines) × (at ≡ length (M.kept machine.old).log) × IfSome (K.tables keeper.old) (λ t. LacksBlob t (M.kept machine.old).pool)) }

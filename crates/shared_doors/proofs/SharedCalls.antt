@@ -14,7 +14,7 @@ use Rattle.swarm_model.specs.Points.{Call, Growth}
 use Rattle.pool_doors.specs.declared.door.Answered.{Answered}
 use Rattle.pool_doors.specs.declared.door.CallFault.{CallFault}
 use Rattle.pool_doors.specs.declared.door.CallFault.TheVariants as fault
-use Rattle.pool_doors.specs.Doors.{CountsKeeper, HasNoOthers, HasNoOthersAt, IsPoolCall, IsCall, Logs, Writer}
+use Rattle.pool_doors.specs.Doors.{CountsKeeper, HasLines, HasNoOthers, HasNoOthersAt, IsPoolCall, IsCall, Logs, Writer}
 use Rattle.swarm_history.specs.Machines.{no_pool}
 use Rattle.turnstile.specs.declared.pass.Pass.{Pass}
 use Rattle.turnstile.specs.declared.turnstile.Turnstile.{Turnstile}
@@ -116,6 +116,7 @@ called store pools logs vs place call result pool w low low_view at next never g
   done = call_at pools place pool call (view_at vs place).seen (view_at (set vs place w) place).seen growth result low at
       (subst (λ (v : PoolView). IsPoolCall (empty_base pool) false call (view_at vs place).seen v.seen growth result) (sym (changed_at vs (set vs place w) place w low_view refl)) did);
   elsewhere = λ p other. ap (λ (v : PoolView). v.seen) (stays_at vs (set vs place w) place w refl p other);
+  kept = record { lines = λ p has. none_at (λ told. HasLines told (view_at (set vs place w) p).seen) pools p tt; bases = refl };
   no_other_blobs = λ p has. none_told pools (start_of pools) (λ q. (view_at (set vs place w) q).seen) p;
   settings = refl;
   writer = same_writer store pools logs vs place w (ap (λ (v : PoolView). v.number) next) (ap (λ (v : PoolView). v.numbers) next) (ap (λ (v : PoolView). v.made) next);

@@ -34,7 +34,7 @@ is_out None after adds = subst IsOut (sym adds) tt
 is_out (Some n) after adds = subst IsOut (sym adds) (let more : 0 < n + 1 = omega arith in more)
 
 pub keeps_within : {m n : ℕ} {d e : DoorState} → KeepsDoor m d e → m ≤ n → KeepsDoor n d e
-keeps_within k within = record { settings = k.settings; writer = k.writer; no_other_blobs = k.no_other_blobs; faults = k.faults; calls = omega (arith, k.calls, within) }
+keeps_within k within = record { settings = k.settings; writer = k.writer; kept = k.kept; no_other_blobs = k.no_other_blobs; faults = k.faults; calls = omega (arith, k.calls, within) }
 
 -- after the door was used, the rest is printed
 pub does_all : (what : DoorCommand) (before after : DoorState) (o m : Streams) (t : LinkState) (result : DoorResult) (status : ℕ) (text : List ℕ)

@@ -1,11 +1,12 @@
 -- What a commit adds to what was made ready.
-use Rattle.std.proofs.Common.{◌≡◌, ◌++◌, ◌-◌, ◌<◌, ◌≤◌, ℕ, List, [], ◌∷◌, Option, None, Some, IsTrue, is_some, length, arith, ap, sym, subst, ◌∙◌}
+use Rattle.std.proofs.Common.{◌≡◌, ◌++◌, ◌-◌, ◌<◌, ◌≤◌, ℕ, List, [], ◌∷◌, Option, None, Some, IsTrue, is_some, length, arith, ap, sym, subst, ◌∙◌, IfSome}
 use Rattle.std.specs.List.{AllByRecursion}
 use Rattle.std.proofs.lemmas.List.{append_assoc, length_push}
 use Rattle.swarm_keeper.specs.Tables.{Tables}
 use Rattle.swarm_model.specs.declared.entry.Entry.{Entry}
 use Rattle.swarm_model.specs.declared.pool_settings.PoolSettings.{PoolSettings}
-use Rattle.swarm_model.specs.Bytes.{HeldBytes, new_digest}
+use Rattle.sha2.specs.Sha256.{sha256}
+use Rattle.swarm_model.specs.Bytes.{HeldBytes, brings, new_digest}
 use Rattle.swarm_model.specs.Effects.{after}
 use Rattle.swarm_model.specs.History.{MayFollow}
 use Rattle.swarm_model.specs.MachineState.{MachineState, IsHistory, AreHeld}
@@ -13,8 +14,12 @@ use Rattle.swarm_model.specs.Points.{IsSettled}
 use Rattle.swarm_model.specs.Soundness.{IsSound}
 use Rattle.pool_laws.proofs.BlobLaws.{keeps_held}
 use Rattle.pool_laws.proofs.Bots.{settings_same}
+use Rattle.pool_laws.proofs.MachineLaws.{is_sound}
+use Rattle.pool_doors.specs.Doors.{base_told}
+use Rattle.pool_loading.specs.Records.{AreFilled}
 use Rattle.swarm_history.specs.Records.{AreMachineRecords, KeepsEntry, HoldsNoOthers}
 use Rattle.swarm_history.specs.Settling.{Adds, Settles, with_entry}
+use Rattle.swarm_history.proofs.Filled.{keeps_filled}
 use Rattle.swarm_history.proofs.KeptMachines.{told_after}
 use Rattle.swarm_history.proofs.Others.{keeps_no_others}
 use Rattle.swarm_history.proofs.OwnPoints.{few_history}
@@ -63,6 +68,20 @@ pub adds_held : (old ready new : MachineState) (entry : Entry) (bytes : Option (
     → IsSound old.pool → AreHeld old → (IsTrue (is_some (new_digest old.pool entry.kind)) → IsTrue (is_some bytes)) → AreHeld new
 adds_held old ready new entry bytes r e sound held whole =
     subst AreHeld (sym (e ∙ ap (λ k. with_entry k entry bytes) r)) (keeps_held old entry bytes sound held whole)
+
+-- and it is its own
+pub adds_filled : (old ready new : MachineState) (entry : Entry) (bytes : Option (List ℕ))
+    → ready ≡ record old { ready = Some entry } → new ≡ with_entry ready entry bytes → IsSound old.pool → IsHistory new
+    → (IsTrue (is_some (new_digest old.pool entry.kind)) → IsTrue (is_some bytes)) → IfSome bytes (λ b. brings entry.kind ≡ Some (sha256 b, length b))
+    → AreFilled old → AreFilled new
+adds_filled old ready new entry bytes r e sound history whole brought are =
+    let is : new ≡ with_entry old entry bytes = e ∙ ap (λ k. with_entry k entry bytes) r in
+    subst AreFilled (sym is) (keeps_filled old entry bytes sound (subst (λ (k : MachineState). IsSound k.pool) is (is_sound new history)) are whole brought)
+
+-- the line of an entry leaves what is told of where the log begins
+pub base_kept : (kept : MachineState) (entry : Entry) (bytes : Option (List ℕ)) (told now : Option Tables) → KeepsEntry kept entry bytes told now → base_told now ≡ base_told told
+base_kept kept entry bytes None now keeps = ap base_told keeps
+base_kept kept entry bytes (Some t) now keeps = ap base_told keeps.tables
 
 -- records say nothing of what is ready
 pub told_ready : (told : Option Tables) (old ready : MachineState) (next : Option Entry) → ready ≡ record old { ready = next } → AreMachineRecords told old → AreMachineRecords told ready

@@ -17,6 +17,11 @@ pub still_some : {A B : Type 0} (f : A → B) (o : Option A) → IsTrue (is_some
 still_some f None there = there
 still_some f (Some a) there = refl
 
+-- and what held of it then holds of it
+pub still_such : {A B : Type 0} (f : A → B) (P : B → Type 0) (o : Option A) → IfSome o (λ a. P (f a)) → IfSome (option_map f o) P
+still_such f P None such = tt
+still_such f P (Some a) such = such
+
 -- the bytes are those that an entry brings
 abbrev AreBrought : List ℕ → Entry → Type 0
 AreBrought bytes entry = IfSome (brings entry.kind) (λ b. b ≡ (sha256 bytes, length bytes))

@@ -1,6 +1,7 @@
 mod Additions
 mod Bringing
 mod Checkpoints
+mod Filled
 mod Held
 mod Keepers
 mod KeptMachines
@@ -9,3 +10,4 @@ mod Others
 pub mod OwnPoints
 pub mod Machines
 mod Refusals
+mod Restoring

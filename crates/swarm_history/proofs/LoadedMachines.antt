@@ -11,13 +11,13 @@ use Rattle.swarm_model.specs.declared.pool_settings.Settings.{Settings}
 use Rattle.swarm_model.specs.declared.pool_settings.PoolSettings.{PoolSettings}
 use Rattle.swarm_model.specs.BaseRules.{IsBase}
 use Rattle.swarm_model.specs.Bases.{empty_base}
-use Rattle.swarm_model.specs.MachineState.{MachineState, AreHeld}
+use Rattle.swarm_model.specs.MachineState.{MachineState}
 use Rattle.swarm_model.specs.Settings.{are_settings}
 use Rattle.swarm_model.specs.Words.{is_between}
 use Rattle.pool_loading.specs.declared.store_part.StorePart.{StorePart}
 use Rattle.pool_loading.specs.declared.loading.LoadStop.{LoadStop}
 use Rattle.pool_loading.specs.declared.loading.LoadStop.TheVariants as stop
-use Rattle.pool_loading.specs.Records.{IsLoaded, AreRefusedAt}
+use Rattle.pool_loading.specs.Records.{IsLoaded, AreFilled, AreRefusedAt}
 use Rattle.pool_doors.specs.Doors.{IsFreshDoor}
 use Rattle.swarm_history.specs.Machines.{pools_of, logs_of, start_at, starts_of, own_door}
 use Rattle.swarm_history.specs.Records.{AreBasesOf, AreRecordsOf, AreLoaded, AreLoadable, IsBadStore, IsFirstBadRecord, IsNew, fault_of}
@@ -124,13 +124,13 @@ loaded_starts (pool ∷ pools) [] (m ∷ machines) all are p = absurd are
 loaded_starts (pool ∷ pools) (told ∷ tables) (m ∷ machines) all are zero = subst (λ (s : PoolSettings). IsBase s m.start.count m.start.rows) are.0.settings_are are.0.history.base
 loaded_starts (pool ∷ pools) (told ∷ tables) (m ∷ machines) all are (suc p) = loaded_starts pools tables machines (omega arith) are.1 p
 
-pub loaded_held : (pools : List PoolSettings) (tables : List (Option Tables)) (machines : List MachineState) → AreLoaded pools tables machines → All AreHeld machines
+pub loaded_held : (pools : List PoolSettings) (tables : List (Option Tables)) (machines : List MachineState) → AreLoaded pools tables machines → All AreFilled machines
 loaded_held pools tables [] are = λ place m low. absurd (omega arith)
 loaded_held [] tables (m ∷ machines) are = absurd are
 loaded_held (pool ∷ pools) [] (m ∷ machines) are = absurd are
 loaded_held (pool ∷ pools) (told ∷ tables) (m ∷ machines) are = by_place (loaded_held pools tables machines are.1)
   where
-    by_place : All AreHeld machines → All AreHeld (m ∷ machines)
+    by_place : All AreFilled machines → All AreFilled (m ∷ machines)
     by_place rest zero d low = are.0.held
     by_place rest (suc place) d low = rest place d (omega arith)
 

@@ -9,13 +9,14 @@ use Rattle.swarm_model.specs.declared.pool_settings.Settings.{Settings}
 use Rattle.swarm_model.specs.declared.pool_settings.PoolSettings.{PoolSettings}
 use Rattle.swarm_model.specs.declared.entry.Entry.{Entry}
 use Rattle.swarm_model.specs.Bases.{Base}
-use Rattle.swarm_model.specs.MachineState.{MachineState, AreHeld}
+use Rattle.swarm_model.specs.MachineState.{MachineState}
 use Rattle.swarm_model.specs.Points.{Call, Growth}
 use Rattle.pool_doors.specs.declared.door.Answered.{Answered}
 use Rattle.pool_doors.specs.declared.door.CallFault.{CallFault}
-use Rattle.pool_doors.specs.Doors.{IsPoolCall, IsCall, CountsKeeper, Elsewhere, HasNoOthersAt}
+use Rattle.pool_doors.specs.Doors.{base_told, IsPoolCall, IsCall, CountsKeeper, Elsewhere, HasNoOthersAt}
+use Rattle.pool_loading.specs.Records.{AreFilled}
 use Rattle.swarm_history.specs.Machines.{pools_of, logs_of, start_at, starts_of, own_writer, own_door}
-use Rattle.swarm_history.specs.Records.{HoldsNoOthers}
+use Rattle.swarm_history.specs.Records.{AreKept, HoldsNoOthers}
 
 -- what holds of the pool at a place holds of its machine's settings
 of_machine : (Q : PoolSettings → Type 0) (machines : List MachineState) (place : ℕ) (old : MachineState) → old ≡ get_or machines place old
@@ -73,16 +74,25 @@ no_others_set (m ∷ machines) (t ∷ tables) (suc place) old new told now low i
 no_others_set (m ∷ machines) (t ∷ tables) (suc place) old new told now low inside is at adds (suc p) has =
     no_others_set machines tables place old new told now (omega arith) (omega arith) is at adds p has
 
+-- and where those at one place tell what they did of where the log begins, all do
+bases_stay : (tables : List (Option Tables)) (place : ℕ) (told now : Option Tables) → told ≡ get_or tables place told → base_told now ≡ base_told told
+    → map base_told (set tables place now) ≡ map base_told tables
+bases_stay [] place told now is same = refl
+bases_stay (t ∷ tables) zero told now is same = ap (λ (b : Option (List (List ℕ) × ℕ)). b ∷ map base_told tables) (same ∙ ap base_told is)
+bases_stay (t ∷ tables) (suc place) told now is same = ap (λ (rest : List (Option (List (List ℕ) × ℕ))). base_told t ∷ rest) (bases_stay tables place told now is same)
+
 called : (store : Option (List ℕ)) (machines : List MachineState) (tables : List (Option Tables)) (before now calls place : ℕ) (call : Call) (result : Result Answered CallFault)
     (old new : MachineState) (told_old told_new : Option Tables)
     → place < length machines → place < length tables → old ≡ get_or machines place old → told_old ≡ get_or tables place told_old → new.start ≡ old.start → new.pool.settings ≡ old.pool.settings
     → before ≤ now → CountsKeeper result before now → (HoldsNoOthers told_old old → HoldsNoOthers told_new new)
+    → AreKept (set tables place told_new) (logs_of (set machines place new)) → base_told told_new ≡ base_told told_old
     → (growth : Growth) × IsPoolCall old.start true call old.log new.log growth result
     → IsCall (own_door store machines tables before calls) (own_door store (set machines place new) (set tables place told_new) now (calls + 1)) place call result
-called store machines tables before now calls place call result old new told_old told_new low inside is at start same grows failed adds did = record {
+called store machines tables before now calls place call result old new told_old told_new low inside is at start same grows failed adds lines base did = record {
   growth = did.0;
   done = of_pool (λ (start : Base) (before after : List Entry). IsPoolCall start true call before after did.0 result) machines place old new low is did.1;
   elsewhere = elsewhere machines place new;
+  kept = record { lines = λ p had. lines p; bases = bases_stay tables place told_old told_new at base };
   no_other_blobs = no_others_set machines tables place old new told_old told_new low inside is at adds;
   settings = ap (λ (pools : List PoolSettings). with_pools store pools) (pools_stay machines place old new is same);
   writer = ap own_writer (starts_stay machines place old new is start);
@@ -108,16 +118,16 @@ module _ {M : Type 0} (kept : M → MachineState) where
 
   -- where the blobs of each machine have their bytes, those of the one at a place have theirs
   pub held_at : (machines : List M) (place : ℕ) (old : M) → place < length (pools_of (map kept machines)) → old ≡ get_or machines place old
-      → All AreHeld (map kept machines) → AreHeld (kept old)
+      → All AreFilled (map kept machines) → AreFilled (kept old)
   held_at machines place old low is held =
       let inside = within machines place low in
-      subst AreHeld (sym (at machines place old inside is)) (held place (kept old) (omega (arith, inside, length-map machines kept)))
+      subst AreFilled (sym (at machines place old inside is)) (held place (kept old) (omega (arith, inside, length-map machines kept)))
 
   -- and where those of a changed machine have theirs, so have those of each
-  pub all_held : (machines : List M) (place : ℕ) (new : M) → All AreHeld (map kept machines) → AreHeld (kept new)
-      → All AreHeld (map kept (set machines place new))
+  pub all_held : (machines : List M) (place : ℕ) (new : M) → All AreFilled (map kept machines) → AreFilled (kept new)
+      → All AreFilled (map kept (set machines place new))
   all_held machines place new held one =
-      subst (All AreHeld) (sym (map-set kept machines place new)) (All-set AreHeld (map kept machines) place (kept new) one held)
+      subst (All AreFilled) (sym (map-set kept machines place new)) (All-set AreFilled (map kept machines) place (kept new) one held)
 
   -- a call of the machine at the place, over the keeper there, is a call of the door
   pub own_call : {K : Type 0} (tables : K → Option Tables) (store : Option (List ℕ)) (machines : List M) (keepers : List K) (before now calls place : ℕ) (call : Call) (result : Result Answered CallFault)
@@ -125,16 +135,20 @@ module _ {M : Type 0} (kept : M → MachineState) where
       → place < length (pools_of (map kept machines)) → place < length keepers → old ≡ get_or machines place old → keeper ≡ get_or keepers place keeper
       → (kept new).start ≡ (kept old).start → (kept new).pool.settings ≡ (kept old).pool.settings
       → before ≤ now → CountsKeeper result before now → (HoldsNoOthers (tables keeper) (kept old) → HoldsNoOthers (tables next) (kept new))
+      → AreKept (map tables (set keepers place next)) (logs_of (map kept (set machines place new))) → base_told (tables next) ≡ base_told (tables keeper)
       → (growth : Growth) × IsPoolCall (kept old).start true call (kept old).log (kept new).log growth result
       → IsCall (own_door store (map kept machines) (map tables keepers) before calls)
       (own_door store (map kept (set machines place new)) (map tables (set keepers place next)) now (calls + 1)) place call result
-  own_call tables store machines keepers before now calls place call result old new keeper next low inside is at_keeper start same grows failed adds did =
+  own_call tables store machines keepers before now calls place call result old new keeper next low inside is at_keeper start same grows failed adds lines base did =
       let low_state : place < length (map kept machines) = omega (arith, low, length-map (map kept machines) (λ (m : MachineState). m.pool.settings)) in
       let is_state = at machines place old (within machines place low) is in
+      let lines_state : AreKept (set (map tables keepers) place (tables next)) (logs_of (set (map kept machines) place (kept new))) =
+      subst (λ (told : List (Option Tables)). AreKept told (logs_of (set (map kept machines) place (kept new)))) (map-set tables keepers place next)
+      (subst (λ (after : List MachineState). AreKept (map tables (set keepers place next)) (logs_of after)) (map-set kept machines place new) lines) in
       let is_told : tables keeper ≡ get_or (map tables keepers) place (tables keeper) = ap tables at_keeper ∙ sym (get_or-map tables keepers place keeper (tables keeper) inside) in
       subst (λ (after : List MachineState). IsCall (own_door store (map kept machines) (map tables keepers) before calls) (own_door store after (map tables (set keepers place next)) now (calls + 1)) place call result)
       (sym (map-set kept machines place new))
       (subst (λ (told : List (Option Tables)). IsCall (own_door store (map kept machines) (map tables keepers) before calls) (own_door store (set (map kept machines) place (kept new)) told now (calls + 1)) place call result)
       (sym (map-set tables keepers place next))
       (called store (map kept machines) (map tables keepers) before now calls place call result (kept old) (kept new) (tables keeper) (tables next) low_state
-      (omega (arith, inside, length-map keepers tables)) is_state is_told start same grows failed adds did))
+      (omega (arith, inside, length-map keepers tables)) is_state is_told start same grows failed adds lines_state base did))

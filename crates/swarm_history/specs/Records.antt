@@ -7,9 +7,9 @@ use Rattle.swarm_model.specs.declared.pool_settings.PoolSettings.{PoolSettings}
 use Rattle.swarm_model.specs.Bases.{Base, empty_base}
 use Rattle.swarm_model.specs.Bytes.{new_digest, removed_digest}
 use Rattle.swarm_model.specs.MachineState.{MachineState}
-use Rattle.pool_doors.specs.Doors.{Logs, HasNoOthers}
+use Rattle.pool_doors.specs.Doors.{Logs, HasLinesAt, HasNoOthers}
 use Rattle.entry_lines.specs.Lines.{entry_of_line}
-use Rattle.pool_loading.specs.Records.{base_in, AreLinesOf, AreRecords, IsLoaded, AreRefusedAt}
+use Rattle.pool_loading.specs.Records.{base_in, AreRecords, IsLoaded, AreRefusedAt, Restores}
 use Rattle.pool_loading.specs.declared.store_part.StorePart.{StorePart}
 use Rattle.pool_loading.specs.declared.loading.LoadStop.{LoadStop}
 use Rattle.pool_loading.specs.declared.loading.LoadStop.TheVariants as stop
@@ -18,7 +18,7 @@ use Rattle.swarm_history.specs.declared.load_fault.LoadFault.TheVariants as load
 
 -- where the keeper at a place tells its records, their lines are those of the log at that place
 abbrev pub AreKept : List (Option Tables) → Logs → Type 0
-AreKept tables logs = (p : ℕ) → IfSome (slice_get tables p) (λ told. IfSome told (λ t. AreLinesOf t.lines (logs p)))
+AreKept tables logs = (p : ℕ) → HasLinesAt tables logs p
 
 -- the records tell where a log of the pool begins: the rows, and how many entries led to them
 pub record TellsStart (pool : PoolSettings) (t : Tables) (start : Base) : Type 0 where
@@ -29,6 +29,11 @@ pub record TellsStart (pool : PoolSettings) (t : Tables) (start : Base) : Type 0
 abbrev pub AreBasesOf : List PoolSettings → List (Option Tables) → (ℕ → Base) → Type 0
 AreBasesOf pools tables starts =
     (p : ℕ) → IfSome (slice_get pools p) (λ pool. IfSome (slice_get tables p) (λ told. IfSome told (λ t. TellsStart pool t (starts p))))
+
+-- where the keeper at a place tells its records, the next start finds in them what began there and has the log at that place
+abbrev pub AreRestorable : List PoolSettings → List (Option Tables) → (ℕ → Base) → Logs → Type 0
+AreRestorable pools tables starts logs =
+    (p : ℕ) → IfSome (slice_get pools p) (λ pool. IfSome (slice_get tables p) (λ told. IfSome told (Restores pool (starts p) (logs p))))
 
 -- where they are told, the records at each place are those of the machine there
 abbrev pub AreRecordsOf : List (Option Tables) → List MachineState → Type 0

@@ -7,7 +7,8 @@ ghost use Rattle.swarm_model.specs.Effects.{fresh_chunk, attempt_of};
 ghost use Rattle.swarm_model.specs.Finding.{blob_of};
 ghost use Rattle.swarm_model.specs.History.{MayFollow, has_room};
 ghost use Rattle.swarm_model.specs.MachineState.{IsHistory, AreHeld};
-ghost use Rattle.pool_doors.specs.Doors.{is_log_full};
+ghost use Rattle.pool_doors.specs.Doors.{base_told, is_log_full};
+ghost use Rattle.pool_loading.specs.Records.{AreFilled};
 ghost use Rattle.swarm_history.specs.Records.{AreMachineRecords, KeepsEntry, HoldsNoOthers};
 ghost use Rattle.swarm_history.specs.Settling.{IsUnchanged, Adds};
 
@@ -133,6 +134,8 @@ pub fn add_entry<M: Machine, K: Keeper>(
     ensures held { AreHeld (M.kept machine.new) }
     ensures records { AreMachineRecords (K.tables keeper.new) (M.kept machine.new) }
     ensures no_other_blobs { HoldsNoOthers (K.tables keeper.old) (M.kept machine.old) → HoldsNoOthers (K.tables keeper.new) (M.kept machine.new) }
+    ensures filled { AreFilled (M.kept machine.old) → AreFilled (M.kept machine.new) }
+    ensures base { base_told (K.tables keeper.new) ≡ base_told (K.tables keeper.old) }
 
     ensures added { OnOk result (Adds (M.kept machine.old) (M.kept machine.new) entry) }
     ensures stays { OnErr result (IsUnchanged (M.kept machine.old) (M.kept machine.new)) }

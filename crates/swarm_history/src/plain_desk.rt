@@ -14,13 +14,14 @@ pub(crate) struct PlainDesk<'a, M: Machine, K: Keeper> {
 }
 
 impl<'a, M: Machine, K: Keeper> Desk for PlainDesk<'a, M, K> {
-    ghost use Rattle.swarm_model.specs.MachineState.{AreHeld};
+    ghost use Rattle.pool_doors.specs.Doors.{base_told};
+    ghost use Rattle.pool_loading.specs.Records.{AreFilled};
     ghost use Rattle.swarm_history.specs.Records.{AreMachineRecords};
 
-    /// The names of the two references.
-    type Rest = (u64, u64);
+    /// The names of the two references, and what the keeper tells of where the log begins.
+    type Rest = (u64, u64, Option<(Seq<Text>, u64)>);
 
-    ghost ready = { λ d. AreHeld (M.kept d.machine.now) × AreMachineRecords (K.tables d.keeper.now) (M.kept d.machine.now) };
+    ghost ready = { λ d. AreFilled (M.kept d.machine.now) × AreMachineRecords (K.tables d.keeper.now) (M.kept d.machine.now) };
 
     ghost kept = { λ d. M.kept d.machine.now };
 
@@ -30,7 +31,7 @@ impl<'a, M: Machine, K: Keeper> Desk for PlainDesk<'a, M, K> {
 
     ghost number = { λ d. 0 };
 
-    ghost rest = { λ d. (d.machine.ghost_name, d.keeper.ghost_name) };
+    ghost rest = { λ d. (d.machine.ghost_name, d.keeper.ghost_name, base_told (K.tables d.keeper.now)) };
 
     fn length(&mut self) -> u64 {
         self.machine.length()

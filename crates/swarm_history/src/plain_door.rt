@@ -4,14 +4,15 @@ ghost use Rattle.sw_base.specs.Faults.{Rose};
 ghost use Rattle.swarm_model.specs.Bases.{empty_base};
 ghost use Rattle.swarm_model.specs.Bytes.{Carries};
 ghost use Rattle.swarm_model.specs.Fits.{fits};
-ghost use Rattle.swarm_model.specs.MachineState.{AreHeld};
+ghost use Rattle.swarm_model.specs.MachineState.{IsHistory};
 ghost use Rattle.swarm_model.specs.Points.{Growth};
 ghost use Rattle.swarm_model.specs.Settings.{are_settings};
-ghost use Rattle.pool_doors.specs.Doors.{IsPoolCall, IsFreshDoor, CountsKeeper};
+ghost use Rattle.pool_doors.specs.Doors.{base_told, IsPoolCall, IsFreshDoor, CountsKeeper};
+ghost use Rattle.pool_loading.specs.Records.{AreFilled};
 ghost use Rattle.swarm_history.specs.Calls.{call_of};
 ghost use Rattle.swarm_history.specs.Checkpoints.{IsCheckpointed, IsCountFull};
 ghost use Rattle.swarm_history.specs.Machines.{logs_of, own_door, pools_of, start_at, starts_of};
-ghost use Rattle.swarm_history.specs.Records.{AreBasesOf, AreKept, AreRecordsOf, AreMachineRecords, HoldsNoOthers, IsFirstBadRecord};
+ghost use Rattle.swarm_history.specs.Records.{AreBasesOf, AreKept, AreRecordsOf, AreMachineRecords, AreRestorable, HoldsNoOthers, IsFirstBadRecord};
 ghost use Rattle.swarm_history.specs.OneProof.{are_records_one};
 
 use crate::checkpoint_fault::{CheckpointFault, CheckpointWhy};
@@ -40,7 +41,7 @@ pub struct PlainDoor<M: Machine + Drop, K: Keeper + Drop> {
     calls: u64,
     ghost few: { length machines.items ≤ 4 },
     ghost paired: { length keepers.items ≡ length machines.items },
-    ghost held: { All AreHeld (map M.kept machines.items) },
+    ghost held: { All AreFilled (map M.kept machines.items) },
     ghost records: { AreRecordsOf (map K.tables keepers.items) (map M.kept machines.items) } by { are_records_one _ _ },
 }
 
@@ -53,12 +54,13 @@ fn call_machine<M: Machine, K: Keeper>(
 ) -> Result<Answered, CallFault>
     requires fits { IsTrue (fits (M.kept machine.old).pool.settings call.now.request.now) }
     requires carries { Carries call.now.request.now call.now.bytes.now }
-    requires held { AreHeld (M.kept machine.old) }
+    requires held { AreFilled (M.kept machine.old) }
     requires records { AreMachineRecords (K.tables keeper.old) (M.kept machine.old) }
 
-    ensures held { AreHeld (M.kept machine.new) }
+    ensures held { AreFilled (M.kept machine.new) }
     ensures records { AreMachineRecords (K.tables keeper.new) (M.kept machine.new) }
     ensures no_other_blobs { HoldsNoOthers (K.tables keeper.old) (M.kept machine.old) → HoldsNoOthers (K.tables keeper.new) (M.kept machine.new) }
+    ensures base { base_told (K.tables keeper.new) ≡ base_told (K.tables keeper.old) }
 
     ensures start { (M.kept machine.new).start ≡ (M.kept machine.old).start }
     ensures settings { (M.kept machine.new).pool.settings ≡ (M.kept machine.old).pool.settings }
@@ -75,6 +77,15 @@ fn call_machine<M: Machine, K: Keeper>(
         keeper: _,
     } = desk;
     result
+}
+
+/// The log that each machine keeps is legal.
+fn see_histories<M: Machine>(machines: &[M])
+    ensures { All IsHistory (map M.kept machines.now) }
+{
+    for place in 0..machines.len() {
+        let _length = machines[place].length();
+    }
 }
 
 impl<M: Machine + Drop, K: Keeper + Drop> PlainDoor<M, K> {
@@ -135,11 +146,13 @@ impl<M: Machine + Drop, K: Keeper + Drop> PlainDoor<M, K> {
         self.machines.as_slice()
     }
 
-    /// The machines and the keepers, in the order of the pools. It takes no memory.
+    /// The machines and the keepers, in the order of the pools. It takes no memory. What the keepers
+    /// have is what a door of the same pools is made of again.
     pub fn end(self) -> (Vec<M>, Vec<K>)
         ensures logs { (p : ℕ) → logs_of (map M.kept result.0.items) p ≡ (⟦<PlainDoor<M, K> as Door>⟧.state self).seen p }
         ensures starts { (p : ℕ) → start_at (starts_of (map M.kept result.0.items)) p ≡ (⟦<PlainDoor<M, K> as Door>⟧.state self).writer.starts p }
         ensures records { AreRecordsOf (map K.tables result.1.items) (map M.kept result.0.items) }
+        ensures restores { AreRestorable (⟦<PlainDoor<M, K> as Door>⟧.state self).settings.pools (map K.tables result.1.items) (⟦<PlainDoor<M, K> as Door>⟧.state self).writer.starts (⟦<PlainDoor<M, K> as Door>⟧.state self).seen }
         ensures lines { AreKept (map K.tables result.1.items) (⟦<PlainDoor<M, K> as Door>⟧.state self).seen }
         ensures bases { AreBasesOf (⟦<PlainDoor<M, K> as Door>⟧.state self).settings.pools (map K.tables result.1.items) (⟦<PlainDoor<M, K> as Door>⟧.state self).writer.starts }
 
@@ -149,6 +162,8 @@ impl<M: Machine + Drop, K: Keeper + Drop> PlainDoor<M, K> {
         ensures machines { pools_of (map M.kept result.0.items) ≡ (⟦<PlainDoor<M, K> as Door>⟧.state self).settings.pools }
         ensures keepers { length result.1.items ≡ length (⟦<PlainDoor<M, K> as Door>⟧.state self).settings.pools }
     {
+        // For the proof: the log that each machine keeps is legal.
+        see_histories(self.machines.as_slice());
         (self.machines, self.keepers)
     }
 

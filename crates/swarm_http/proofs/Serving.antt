@@ -275,6 +275,7 @@ keeps_on : {most : ℕ} {d e f : DoorState} → KeepsDoor most d e → KeepsDoor
 keeps_on x k = record {
   settings = k.settings ∙ x.settings;
   writer = k.writer ∙ x.writer;
+  kept = record { lines = λ p has. k.kept.lines p (x.kept.lines p has); bases = k.kept.bases ∙ x.kept.bases };
   no_other_blobs = λ p none. k.no_other_blobs p (x.no_other_blobs p none);
   faults = omega (arith, x.faults, k.faults);
   calls = omega (arith, x.calls, k.calls);
@@ -364,7 +365,7 @@ begun v clean = record {
   open_still = tt;
   no_fault = NoFault-refl v.link;
   clean = clean;
-  keeps = record { settings = refl; writer = refl; no_other_blobs = λ p none. none; faults = omega arith; calls = omega arith };
+  keeps = record { settings = refl; writer = refl; kept = record { lines = λ p has. has; bases = refl }; no_other_blobs = λ p none. none; faults = omega arith; calls = omega arith };
 }
 
 pub one_on : {count good : ℕ} {accepted : Bool} {pending more : List ℕ} {u v w : ConnectionState}

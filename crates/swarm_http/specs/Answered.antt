@@ -11,7 +11,7 @@ use Rattle.request_head.specs.Heads.{IsHead, IsNoHead}
 use Rattle.request_head.specs.HeadFields.{HeadRefusal, bad, length_required, too_large, head_refusal, size_of}
 use Rattle.swarm_model.specs.declared.rule.Rule.{Rule}
 use Rattle.swarm_model.specs.declared.rule.Rule.TheVariants as rule
-use Rattle.pool_doors.specs.Doors.{DoorState, AddsNoOthers}
+use Rattle.pool_doors.specs.Doors.{DoorState, AddsNoOthers, KeepsRecords}
 use Rattle.swarm_http.specs.declared.ended.Ended.{Ended}
 use Rattle.swarm_http.specs.declared.ended.Ended.TheVariants.{Closed, LastAsked, CutShort, BadHead, Retired, ReadFault, WriteFault, Memory}
 use Rattle.swarm_http.specs.Replies.{refusal}
@@ -117,6 +117,7 @@ pub record IsAnswered (old new : ConnectionState) (ended : Ended) : Type 0 where
 pub record KeepsDoor (most : ℕ) (old new : DoorState) : Type 0 where
   pub settings : new.settings ≡ old.settings
   pub writer : new.writer ≡ old.writer
+  pub kept : KeepsRecords old new
   pub no_other_blobs : AddsNoOthers old new
   pub faults : old.faults ≤ new.faults
   pub calls : new.calls ≤ old.calls + most

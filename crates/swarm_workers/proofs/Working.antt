@@ -75,12 +75,13 @@ sessions_more a b c old new newer (v ∷ visits) first last ending so x keeps =
     (so.0, so.1, sessions_more v.ahead b c v.door new newer visits first last ending so.2 x keeps)
 
 keeps_all : (d : DoorState) → KeepsDoor (65536 * 0) d d
-keeps_all d = record { settings = refl; writer = refl; no_other_blobs = λ p none. none; faults = omega arith; calls = omega arith }
+keeps_all d = record { settings = refl; writer = refl; kept = record { lines = λ p has. has; bases = refl }; no_other_blobs = λ p none. none; faults = omega arith; calls = omega arith }
 
 keeps_more : (n : ℕ) {d e f : DoorState} → KeepsDoor (65536 * n) d e → KeepsDoor 65536 e f → KeepsDoor (65536 * (n + 1)) d f
 keeps_more n x k = record {
   settings = k.settings ∙ x.settings;
   writer = k.writer ∙ x.writer;
+  kept = record { lines = λ p has. k.kept.lines p (x.kept.lines p has); bases = k.kept.bases ∙ x.kept.bases };
   no_other_blobs = λ p none. k.no_other_blobs p (x.no_other_blobs p none);
   faults = omega (arith, x.faults, k.faults);
   calls = omega (arith, x.calls, k.calls);

@@ -1,11 +1,11 @@
 -- The machine at the place answers, over its keeper.
-use Rattle.std.proofs.Common.{arith, sym, ◌∙◌, set}
+use Rattle.std.proofs.Common.{arith, map, length, sym, ◌∙◌, set}
 use Rattle.std.specs.Prelude.{IsTrue}
 use Rattle.std.specs.List.{sum_by}
-use Rattle.std.proofs.lemmas.List.{length-set}
+use Rattle.std.proofs.lemmas.List.{length-map, length-set}
 use Rattle.swarm_model.specs.declared.pool_settings.PoolSettings.{PoolSettings}
 use Rattle.swarm_model.specs.Fits.{fits}
-use Rattle.swarm_history.proofs.Keepers.{records_at, records_set, sum_grows, sum_counts}
+use Rattle.swarm_history.proofs.Keepers.{lines_kept, records_at, records_set, sum_grows, sum_counts}
 use Rattle.swarm_history.proofs.Machines.{within, machine_of, held_at, all_held, own_call}
 use Rattle.swarm_history.proofs.plain_door.PlainDoorDoor.call.Goals as goal
 
@@ -50,12 +50,24 @@ returns g c =
     let low = within g.M.Machine.kept c.args.self.now.machines.items c.args.place c.requires.place in
     let paired = c.args.self.now.paired in
     let faults = g.K.Keeper.faults in
+    let machines = c.args.self.now.machines.items in
     let keepers = c.args.self.now.keepers.items in
-    own_call g.M.Machine.kept g.K.Keeper.tables c.args.self.now.store c.args.self.now.machines.items keepers
+    own_call g.M.Machine.kept g.K.Keeper.tables c.args.self.now.store machines keepers
     (sum_by faults keepers) (sum_by faults (set keepers c.args.place c.call_machine.new.keeper)) c.args.self.now.calls c.args.place
     (record { pass = 0; caller = c.args.who.now; moment = c.args.moment; after = c.args.after; request = c.args.request.now })
     c.call_machine.result c.index_mut-machine.result.now c.call_machine.new.machine c.index_mut-keeper.result.now c.call_machine.new.keeper
     c.requires.place (omega (arith, low, paired)) c.index_mut-machine.ensures.value c.index_mut-keeper.ensures.value c.call_machine.ensures.start c.call_machine.ensures.settings
     (sum_grows faults keepers c.args.place c.index_mut-keeper.result.now c.call_machine.new.keeper (omega (arith, low, paired)) c.index_mut-keeper.ensures.value c.call_machine.ensures.grows)
     (sum_counts faults keepers c.args.place c.index_mut-keeper.result.now c.call_machine.new.keeper (omega (arith, low, paired)) c.index_mut-keeper.ensures.value c.call_machine.result c.call_machine.ensures.failed)
-    c.call_machine.ensures.no_other_blobs c.call_machine.ensures.done
+    c.call_machine.ensures.no_other_blobs
+    (lines_kept (map g.K.Keeper.tables (set keepers c.args.place c.call_machine.new.keeper)) (map g.M.Machine.kept (set machines c.args.place c.call_machine.new.machine))
+    (omega (
+      arith,
+      paired,
+      length-set keepers c.args.place c.call_machine.new.keeper,
+      length-set machines c.args.place c.call_machine.new.machine,
+      length-map (set keepers c.args.place c.call_machine.new.keeper) g.K.Keeper.tables,
+      length-map (set machines c.args.place c.call_machine.new.machine) g.M.Machine.kept,
+    ))
+    (records_set g.M.Machine.kept g.K.Keeper.tables machines keepers c.args.place c.call_machine.new.machine c.call_machine.new.keeper c.call_machine.ensures.records c.args.self.now.records))
+    c.call_machine.ensures.base c.call_machine.ensures.done
