@@ -159,7 +159,7 @@ told_there kept folder [] place pool is = absurd (cc)
 told_there kept folder (q ∷ pools) zero pool is = let same : q ≡ pool = cc in ap (λ (r : PoolSettings). Some (kept folder r.name)) same
 told_there kept folder (q ∷ pools) (suc place) pool is = told_there kept folder pools place pool is
 
-got_there : (kept : Kept) (folder : List ℕ) (pools : List PoolSettings) (place : ℕ) (pool : PoolSettings) → slice_get pools place ≡ Some pool
+pub got_there : (kept : Kept) (folder : List ℕ) (pools : List PoolSettings) (place : ℕ) (pool : PoolSettings) → slice_get pools place ≡ Some pool
     → slice_get (told_records (Some kept) folder pools) place ≡ Some (Some (kept folder pool.name))
 got_there kept folder [] place pool is = absurd (cc)
 got_there kept folder (q ∷ pools) zero pool is = let same : q ≡ pool = cc in ap (λ (r : PoolSettings). Some (Some (kept folder r.name))) same
@@ -171,14 +171,14 @@ low_place (y ∷ xs) zero x is = omega arith
 low_place (y ∷ xs) (suc place) x is = let low = low_place xs place x is in omega arith
 
 -- the pool's records stood for a base
-stood_there : (kept : Kept) (folder : List ℕ) (pools : List PoolSettings) (place : ℕ) (pool : PoolSettings) (starts : ℕ → Base) → slice_get pools place ≡ Some pool
+pub stood_there : (kept : Kept) (folder : List ℕ) (pools : List PoolSettings) (place : ℕ) (pool : PoolSettings) (starts : ℕ → Base) → slice_get pools place ≡ Some pool
     → AreBasesOf pools (told_records (Some kept) folder pools) starts → TellsStart pool (kept folder pool.name) (starts place)
 stood_there kept folder pools place pool starts is are =
     subst (λ (told : Option (Option Tables)). IfSome told (λ it. IfSome it (λ t. TellsStart pool t (starts place)))) (got_there kept folder pools place pool is)
     (subst (λ (found : Option PoolSettings). IfSome found (λ it. IfSome (slice_get (told_records (Some kept) folder pools) place) (λ told. IfSome told (λ t. TellsStart it t (starts place))))) is (are place))
 
 -- and for a log
-lines_there : (kept : Kept) (folder : List ℕ) (pools : List PoolSettings) (place : ℕ) (pool : PoolSettings) (logs : Logs) → slice_get pools place ≡ Some pool
+pub lines_there : (kept : Kept) (folder : List ℕ) (pools : List PoolSettings) (place : ℕ) (pool : PoolSettings) (logs : Logs) → slice_get pools place ≡ Some pool
     → AreKept (told_records (Some kept) folder pools) logs → AreLinesOf (kept folder pool.name).lines (logs place)
 lines_there kept folder pools place pool logs is are =
     subst (λ (told : Option (Option Tables)). IfSome told (λ it. IfSome it (λ t. AreLinesOf t.lines (logs place)))) (got_there kept folder pools place pool is) (are place)

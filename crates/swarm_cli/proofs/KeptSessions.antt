@@ -16,7 +16,7 @@ use Rattle.swarm_model.specs.MachineState.{MachineState}
 use Rattle.pool_doors.specs.Doors.{DoorState, Writer, IsFreshDoor, HasNoOthersAt, AddsNoOthers}
 use Rattle.swarm_http.specs.Answered.{KeepsDoor}
 use Rattle.swarm_history.specs.Machines.{logs_of, start_at, starts_of}
-use Rattle.swarm_history.specs.Records.{AreBasesOf, AreKept, IsFirstBadRecord}
+use Rattle.swarm_history.specs.Records.{AreBasesOf, AreKept, AreRestorable, IsFirstBadRecord}
 use Rattle.pool_summaries.specs.Summaries.{summary_of}
 use Rattle.swarm_cli.specs.declared.door_command.DoorCommand.{DoorCommand}
 use Rattle.swarm_cli.specs.declared.serving.DoorResult.{DoorResult}
@@ -50,10 +50,10 @@ pub kept_ran : {M : Type 0} (kept : M → MachineState) (machines items : List M
     (result : DoorResult) (status : ℕ) (pools : List PoolSettings) {n : ℕ} {before after : DoorState}
     → KeepsDoor n before after → IsFreshDoor settings before.seen before → AreBasesOf settings.pools records_before before.writer.starts → AreKept records_before before.seen → before.records ≡ records_before
     → IsUsed what before after o m result → machines ≡ items → ((p : ℕ) → start_at (starts_of (map kept items)) p ≡ after.writer.starts p) → ((p : ℕ) → logs_of (map kept items) p ≡ after.seen p)
-    → AreBasesOf after.settings.pools records_after after.writer.starts → AreKept records_after after.seen → records_after ≡ after.records → faults ≡ after.faults
+    → AreBasesOf after.settings.pools records_after after.writer.starts → AreKept records_after after.seen → AreRestorable after.settings.pools records_after after.writer.starts after.seen → records_after ≡ after.records → faults ≡ after.faults
     → pools ≡ settings.pools → IsFinished result (summary_of pools (start_at (starts_of (map kept machines))) (logs_of (map kept machines))) m.console t status
     → DoesOver (work_of what) settings records_before records_after faults o (with_console m t) status
-kept_ran {M = M} kept machines items what settings records_before records_after faults o m t result status pools {before = before} {after = after} keeps fresh bases lines records used_so are starts logs bases_then lines_then told counted pools_are concluded = record {
+kept_ran {M = M} kept machines items what settings records_before records_after faults o m t result status pools {before = before} {after = after} keeps fresh bases lines records used_so are starts logs bases_then lines_then restorable_then told counted pools_are concluded = record {
   before = before;
   after = after;
   fresh_door = fresh;
@@ -66,6 +66,8 @@ kept_ran {M = M} kept machines items what settings records_before records_after 
   bases_after = subst (λ (w : Writer). AreBasesOf settings.pools records_after w.starts) keeps.writer
       (subst (λ (s : Settings). AreBasesOf s.pools records_after after.writer.starts) (keeps.settings ∙ fresh.settings_are) bases_then);
   lines_after = lines_then;
+  restorable_after = subst (λ (w : Writer). AreRestorable settings.pools records_after w.starts after.seen) keeps.writer
+      (subst (λ (s : Settings). AreRestorable s.pools records_after after.writer.starts after.seen) (keeps.settings ∙ fresh.settings_are) restorable_then);
   no_other_blobs = others_kept before after fresh.settings_are keeps.settings keeps.writer records told keeps.no_other_blobs;
   faults_are = sym counted;
 }

@@ -8,3 +8,4 @@ pub mod Doing
 pub mod KeptSessions
 pub mod Drilling
 pub mod Checkpoints
+pub mod NextStarts

@@ -9,7 +9,7 @@ use Rattle.swarm_model.specs.declared.pool_settings.Settings.{Settings}
 use Rattle.pool_doors.specs.Doors.{DoorState, IsFreshDoor, HasNoOthersAt}
 use Rattle.pool_loading.specs.declared.store_part.StorePart.{StorePart}
 use Rattle.pool_loading.specs.declared.store_part.StorePart.TheVariants as part
-use Rattle.swarm_history.specs.Records.{AreKept, AreBasesOf, IsBadStore}
+use Rattle.swarm_history.specs.Records.{AreKept, AreBasesOf, AreRestorable, IsBadStore}
 use Rattle.swarm_history.specs.declared.load_fault.LoadFault.{LoadFault}
 use Rattle.swarm_history.specs.declared.load_fault.LoadFault.TheVariants as load
 use Rattle.remote_commands.specs.Streams.{Streams, SameButConsole}
@@ -17,9 +17,9 @@ use Rattle.swarm_cli.specs.ServerWork.{ServerWork, CarriesOutWork}
 use Rattle.swarm_cli.specs.Attaching.{told_records, KeepsOthers, CountsKeepers}
 
 -- What is done over a fresh door that was made of the pools' records. The records tell where the door's logs begin, and
--- are the lines of the logs that it had seen, and in the end of those that it has seen by then. Where the records of a pool
--- had no other blobs than those that its log left, they have none in the end. `faults` is how often the door's keepers have
--- failed.
+-- are the lines of the logs that it had seen, and in the end of those that it has seen by then. The next start then finds
+-- in them the same tasks, bots and blobs, with the bytes of each blob. Where the records of a pool had no other blobs than
+-- those that its log left, they have none in the end. `faults` is how often the door's keepers have failed.
 pub record DoesOver (work : ServerWork) (settings : Settings) (records_before records_after : List (Option Tables)) (faults : ℕ) (o u : Streams) (status : ℕ) : Type 0 where
   pub before : DoorState
   pub after : DoorState
@@ -29,6 +29,7 @@ pub record DoesOver (work : ServerWork) (settings : Settings) (records_before re
   pub does : CarriesOutWork work before after o u status
   pub bases_after : AreBasesOf settings.pools records_after before.writer.starts
   pub lines_after : AreKept records_after after.seen
+  pub restorable_after : AreRestorable settings.pools records_after before.writer.starts after.seen
   pub no_other_blobs : (p : ℕ) → HasNoOthersAt settings.pools before.writer.starts records_before before.seen p
       → HasNoOthersAt settings.pools before.writer.starts records_after after.seen p
   pub faults_are : after.faults ≡ faults

@@ -5,6 +5,7 @@ ghost use Rattle.swarm_model.specs.Settings.{are_settings};
 ghost use Rattle.swarm_policy.specs.Pools.{have_own_names};
 ghost use Rattle.swarm_cli.specs.Handling.{work_of, HasRange};
 ghost use Rattle.swarm_cli.specs.KeptRecords.{RunsKept};
+ghost use Rattle.swarm_cli.specs.NextStarts.{NextStartsGoOn};
 
 use crate::attaching::{attach_all, detach_all};
 use crate::door_command::DoorCommand;
@@ -46,3 +47,10 @@ pub(crate) fn run_kept<L: Link, C: Clock, P: Store, N: Listener>(
         Err(fault) => start_status(fault),
     }
 }
+
+/// The next command finds what the last one left: where a store tells what it keeps, a command over
+/// the records of the same pools begins with the rows from which each log began, and with the log,
+/// and each blob of a pool has its bytes in the records. Else there was no memory, or a keeper failed.
+pub fn the_next_start_goes_on()
+    ensures { NextStartsGoOn }
+{}

@@ -10,7 +10,8 @@
 //! `--settings FILE` those of a file; `RunsFile` of `specs/SettingsFile.antt` says what a file comes
 //! to. Where the settings name a folder, the door is made of the records that the store has of each
 //! pool there, and the records grow with the logs; `RunsKept` of `specs/KeptRecords.antt` is that
-//! contract, and `RunsBy` of `specs/Run.antt` holds them together. The word `checkpoint` makes such
+//! contract, [`the_next_start_goes_on`] what it says of two commands in a row, and `RunsBy` of
+//! `specs/Run.antt` holds them together. The word `checkpoint` makes such
 //! records begin anew from the rows for which they stand; `RunsCheckpoint` of `specs/Checkpoints.antt`
 //! says what comes of it, and [`all_records_begin_anew`] what status 0 tells. The word `drill` serves a
 //! session that is made from a number over a link in memory; `Drills` of `specs/Drills.antt` is its
@@ -32,4 +33,5 @@ mod sharing;
 mod telling;
 
 pub use checkpoint::all_records_begin_anew;
+pub use kept_records::the_next_start_goes_on;
 pub use program::run;

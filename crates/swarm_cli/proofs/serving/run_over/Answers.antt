@@ -14,7 +14,7 @@ returns-in-Ok-clause-runs g c =
     (record { console = g.L.Link.state c.use_door-used.new.console; clock = g.C.Clock.ahead c.use_door-used.new.clock; listener = g.N.Listener.state c.use_door-used.new.listener })
     (g.L.Link.state c.finish.new.console) c.use_door-used.result c.finish.result c.as_slice-pools.result.now
     c.use_door-used.ensures.door c.in-Ok.ensures.fresh c.in-Ok.ensures.bases c.in-Ok.ensures.lines c.in-Ok.ensures.records c.use_door-used.ensures.used c.deref.ensures.value
-    c.end-machines.ensures.starts c.end-machines.ensures.logs c.end-machines.ensures.bases c.end-machines.ensures.lines c.end-machines.ensures.told c.end-machines.ensures.faults c.as_slice-pools.ensures c.finish.ensures)
+    c.end-machines.ensures.starts c.end-machines.ensures.logs c.end-machines.ensures.bases c.end-machines.ensures.lines c.end-machines.ensures.restores c.end-machines.ensures.told c.end-machines.ensures.faults c.as_slice-pools.ensures c.finish.ensures)
 
 pub returns-in-Ok-clause-new : goal.returns-in-Ok-clause-new
 returns-in-Ok-clause-new g c = λ sure.
