@@ -7,3 +7,5 @@ pub mod SignalLemmas
 pub mod OpenRunLemmas
 pub mod RepeatLemmas
 pub mod IdLemmas
+pub mod HistoryRows
+pub mod HistoryLemmas
