@@ -56,6 +56,7 @@ LAWS = [
     ("Rattle.bot_core.specs.OpenRuns", "CleansUpEachRun"),
     ("Rattle.bot_core.specs.Repeats", "RepeatsRequests"),
     ("Rattle.bot_core.specs.Ids", "IdsGrow"),
+    ("Rattle.bot_core.specs.RunLaws", "StopsWhereAsked ReportsInTime TellsTimeouts ReportsFit"),
 ]
 # What runs at the edge of the process.
 EDGE = [

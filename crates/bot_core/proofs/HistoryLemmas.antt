@@ -167,7 +167,7 @@ chosen : (P : Action → Type 0) (s t u : BotState) (e : BotEvent) (m : ℕ) →
     P (action_of u) ⊎ StopsAtSteps (record { before = s; event = e; moment = m; after = u })
 chosen P s t u e m (goes_on a b c) f g = inl (subst P (sym a) g.0)
 chosen P s t u e m (at_steps a b c) f g =
-    let k : Stays s t = g.1 in inr (record { stops = a ∙ ap (λ n. action.Stop why.Steps n) k.tasks; reached = omega (arith, b, k.limit, k.steps) })
+    let k : Stays s t = g.1 in inr (record { stops = a ∙ ap (λ n. action.Stop why.Steps n) k.tasks; reached = omega (arith, b, ap (λ l. l.steps) k.limits, k.steps) })
 chosen P s t u e m (at_polls a b) f g = absurd (f (action_of t) g.0 a)
 
 lawful : (s t : BotState) (e : BotEvent) (m : ℕ) (h : History) → Row s (action_of s) e m h t → Lawful (record { history = h; step = record { before = s; event = e; moment = m; after = issue_action m t } })
@@ -191,9 +191,9 @@ lawful s t e m h row =
 
 -- ---- over all steps
 
-record Stands (s : BotState) (h : History) : Type 0 where
-  quiet : Quiet s.phase s.awaited
-  agrees : is_stop s.phase ≡ false → Agrees s.run h
+pub record Stands (s : BotState) (h : History) : Type 0 where
+  pub quiet : Quiet s.phase s.awaited
+  pub agrees : is_stop s.phase ≡ false → Agrees s.run h
 
 agrees_next : (t u : BotState) (m : ℕ) (h : History) → Issued t u (action_of t) m → (is_stop t.phase ≡ false → Agrees t.run (logged (action_of t) m h)) → is_stop u.phase ≡ false → Agrees u.run (done (action_of u) m h)
 agrees_next t u m h (goes_on a b c) g n =
@@ -201,6 +201,14 @@ agrees_next t u m h (goes_on a b c) g n =
     subst (λ (r : Run). Agrees r (done (action_of u) m h)) (sym c) (subst (λ (x : Action). Agrees (run_done (action_of t) m t.run) (done x m h)) (sym a) k)
 agrees_next t u m h (at_steps a b c) g n = absurd (cc)
 agrees_next t u m h (at_polls a b) g n = absurd (cc)
+
+pub stands_next : (s t : BotState) (e : BotEvent) (m : ℕ) (h : History) → Row s (action_of s) e m (heard (action_of s) e m h) t → rows.Row s s.phase s.awaited e m (issue_action m t) → Stands s h →
+    Stands (issue_action m t) (done (action_of (issue_action m t)) m (heard (action_of s) e m h))
+stands_next s t e m h row old stands =
+    record { quiet = old.quiet stands.quiet; agrees = agrees_next t (issue_action m t) m (heard (action_of s) e m h) (issued t (action_of t) m) row.kept }
+
+pub stands_first : (limits : BotLimits) → Stands (opening limits) (claimed 0 0 0)
+stands_first limits = record { quiet = λ h. refl; agrees = λ h. refl }
 
 -- the choices behind a step, where the next state is this one
 lawful_after : (s : BotState) (e : BotEvent) (m : ℕ) (h : History) (es : List (BotEvent × ℕ)) (o : Option BotState) →
@@ -214,14 +222,14 @@ lawful_after s e m h es (Some t) row old stands all =
     let u : BotState = issue_action m t in
     All-cons Lawful (record { history = now; step = record { before = s; event = e; moment = m; after = u } }) (choices (done (action_of u) m now) (steps_of u es))
     (lawful s t e m now row)
-    (all u (done (action_of u) m now) (record { quiet = old.quiet stands.quiet; agrees = agrees_next t u m now (issued t (action_of t) m) row.kept }))
+    (all u (done (action_of u) m now) (stands_next s t e m h row old stands))
 
 all_lawful : (es : List (BotEvent × ℕ)) (s : BotState) (h : History) → Stands s h → All Lawful (choices h (steps_of s es))
 all_lawful [] s h stands = All-nil Lawful
 all_lawful (e ∷ es) s h stands = lawful_after s e.0 e.1 h es (next_state s e.0 e.1) (next_row s e.0 e.1 h stands.quiet stands.agrees) (rows.stepped_row s e.0 e.1) stands (all_lawful es)
 
 lawful_from_begin : (limits : BotLimits) (events : List (BotEvent × ℕ)) → All Lawful (choices_of limits events)
-lawful_from_begin limits events = all_lawful events (opening limits) (claimed 0 0 0) (record { quiet = λ h. refl; agrees = λ h. refl })
+lawful_from_begin limits events = all_lawful events (opening limits) (claimed 0 0 0) (stands_first limits)
 
 pub all_stop : (limits : BotLimits) (events : List (BotEvent × ℕ)) → All StopsRun (choices_of limits events)
 all_stop limits events = All-weaker Lawful StopsRun (λ c l. l.stops) (choices_of limits events) (lawful_from_begin limits events)

@@ -93,10 +93,11 @@ Kept m h t = Agrees t.run (logged (action_of t) m h)
 pub record Stays (s t : BotState) : Type 0 where
   pub tasks : t.tasks ≡ s.tasks
   pub steps : t.steps ≡ s.steps
-  pub limit : t.limits.steps ≡ s.limits.steps
+  pub limits : t.limits ≡ s.limits
 
 -- from a state with this action by an event, with what is known then
 pub record Row (s : BotState) (x : Action) (e : BotEvent) (m : ℕ) (h : History) (t : BotState) : Type 0 where
+  pub limits : t.limits ≡ s.limits
   pub kept : is_stop t.phase ≡ false → Kept m h t
   pub looks : asks_for_end e x ≡ true → (is_look (action_of t) ≡ true) × Stays s t
   pub terminates : finds_running e ≡ true → h.asked ≡ true → h.term ≡ None → (action_of t ≡ action.Signal Term) × Stays s t
@@ -111,47 +112,47 @@ some_row s x e m h true t u f g = f refl
 some_row s x e m h false t u f g = g
 
 -- nothing is asked for, and the event is no look
-plain : (s t : BotState) (x : Action) (e : BotEvent) (m : ℕ) (h : History) → asks_for_end e x ≡ false → finds_running e ≡ false → Kept m h t → Row s x e m h t
-plain s t x e m h a b k = record { kept = λ _. k; looks = λ i. absurd (cc); terminates = λ i. absurd (cc); reports = λ i. absurd (cc) }
+plain : (s t : BotState) (x : Action) (e : BotEvent) (m : ℕ) (h : History) → asks_for_end e x ≡ false → finds_running e ≡ false → t.limits ≡ s.limits → Kept m h t → Row s x e m h t
+plain s t x e m h a b l k = record { limits = l; kept = λ _. k; looks = λ i. absurd (cc); terminates = λ i. absurd (cc); reports = λ i. absurd (cc) }
 
 -- ---- the rows outside of a look
 
 handshake_row : (s : BotState) (e : BotEvent) (m : ℕ) (h : History) → Agrees s.run h → IfSome (after_handshake s e) (Row s (phase_action s phase.Handshake) e m (heard (phase_action s phase.Handshake) e m h))
-handshake_row s event.HandshakeOk m h g = plain s _ _ event.HandshakeOk m h refl refl g
-handshake_row s (event.Refused n) m h g = plain s _ _ (event.Refused n) m h refl refl g
+handshake_row s event.HandshakeOk m h g = plain s _ _ event.HandshakeOk m h refl refl refl g
+handshake_row s (event.Refused n) m h g = plain s _ _ (event.Refused n) m h refl refl refl g
 handshake_row s e m h g = tt
 
 poll_row : (s : BotState) (e : BotEvent) (m : ℕ) (h : History) → Agrees s.run h → IfSome (after_poll s e) (Row s action.Poll e m (heard action.Poll e m h))
-poll_row s (event.PollSleep secs) m h g = plain s _ _ (event.PollSleep secs) m h refl refl g
-poll_row s event.PollClaim m h g = plain s _ _ event.PollClaim m h refl refl g
-poll_row s event.PollTerminate m h g = plain s _ _ event.PollTerminate m h refl refl g
+poll_row s (event.PollSleep secs) m h g = plain s _ _ (event.PollSleep secs) m h refl refl refl g
+poll_row s event.PollClaim m h g = plain s _ _ event.PollClaim m h refl refl refl g
+poll_row s event.PollTerminate m h g = plain s _ _ event.PollTerminate m h refl refl refl g
 poll_row s (event.Refused n) m h g =
     if_row s action.Poll (event.Refused n) m h (needs_new_session (code_numbered n)) (next_session s) (enter_stop why.Refused s)
-    (λ _. plain s _ _ (event.Refused n) m h refl refl g) (λ _. plain s _ _ (event.Refused n) m h refl refl g)
+    (λ _. plain s _ _ (event.Refused n) m h refl refl refl g) (λ _. plain s _ _ (event.Refused n) m h refl refl refl g)
 poll_row s e m h g = tt
 
 claim_row : (s : BotState) (e : BotEvent) (m : ℕ) (h : History) → Agrees s.run h → IfSome (after_claim s e) (Row s (phase_action s phase.Claim) e m (heard (phase_action s phase.Claim) e m h))
-claim_row s (event.ClaimRun x i r t) m h g = plain s _ _ (event.ClaimRun x i r t) m _ refl refl refl
-claim_row s event.ClaimSkip m h g = plain s _ _ event.ClaimSkip m h refl refl g
+claim_row s (event.ClaimRun x i r t) m h g = plain s _ _ (event.ClaimRun x i r t) m _ refl refl refl refl
+claim_row s event.ClaimSkip m h g = plain s _ _ event.ClaimSkip m h refl refl refl g
 claim_row s (event.Refused n) m h g =
-    if_row s (phase_action s phase.Claim) (event.Refused n) m h (needs_new_session (code_numbered n)) (next_session s) _ (λ _. plain s _ _ (event.Refused n) m h refl refl g)
+    if_row s (phase_action s phase.Claim) (event.Refused n) m h (needs_new_session (code_numbered n)) (next_session s) _ (λ _. plain s _ _ (event.Refused n) m h refl refl refl g)
     (λ _. if_row s (phase_action s phase.Claim) (event.Refused n) m h (is_claim_over (code_numbered n)) (enter phase.Poll s) (enter_stop why.Refused s)
-    (λ _. plain s _ _ (event.Refused n) m h refl refl g) (λ _. plain s _ _ (event.Refused n) m h refl refl g))
+    (λ _. plain s _ _ (event.Refused n) m h refl refl refl g) (λ _. plain s _ _ (event.Refused n) m h refl refl refl g))
 claim_row s e m h g = tt
 
 prepare_row : (s : BotState) (e : BotEvent) (m : ℕ) (h : History) → Agrees s.run h → IfSome (after_prepare s e) (Row s action.Prepare e m (heard action.Prepare e m h))
-prepare_row s event.Prepared m h g = plain s _ _ event.Prepared m h refl refl g
-prepare_row s event.RunnerFailed m h g = plain s _ _ event.RunnerFailed m h refl refl g
+prepare_row s event.Prepared m h g = plain s _ _ event.Prepared m h refl refl refl g
+prepare_row s event.RunnerFailed m h g = plain s _ _ event.RunnerFailed m h refl refl refl g
 prepare_row s e m h g = tt
 
 start_row : (s : BotState) (e : BotEvent) (m : ℕ) (h : History) → Agrees s.run h → IfSome (after_start s e m) (Row s action.Start e m (heard action.Start e m h))
-start_row s event.Started m h g = plain s _ _ event.Started m _ refl refl (ap (λ (v : View). record v { started = m; last_output = m; last_send = m }) g)
-start_row s event.RunnerFailed m h g = plain s _ _ event.RunnerFailed m h refl refl g
+start_row s event.Started m h g = plain s _ _ event.Started m _ refl refl refl (ap (λ (v : View). record v { started = m; last_output = m; last_send = m }) g)
+start_row s event.RunnerFailed m h g = plain s _ _ event.RunnerFailed m h refl refl refl g
 start_row s e m h g = tt
 
 signal_row : (s : BotState) (e : BotEvent) (m : ℕ) (h : History) (x : Action) → Agrees s.run h → IfSome (after_signal s e) (Row s x e m (heard x e m h))
-signal_row s event.Signalled m h x g = plain s _ x event.Signalled m h refl refl g
-signal_row s event.RunnerFailed m h x g = plain s _ x event.RunnerFailed m h refl refl g
+signal_row s event.Signalled m h x g = plain s _ x event.Signalled m h refl refl refl g
+signal_row s event.RunnerFailed m h x g = plain s _ x event.RunnerFailed m h refl refl refl g
 signal_row s e m h x g = tt
 
 -- an update was refused, and doesn't come again as it was
@@ -174,30 +175,31 @@ abandoned_view r false = refl
 
 send_row : (s : BotState) (e : BotEvent) (m : ℕ) (h : History) → is_transient e ≡ false → Agrees s.run h → IfSome (after_send s e) (Row s (phase_action s phase.Send) e m (heard (phase_action s phase.Send) e m h))
 send_row s (event.SendOk must_stop) m h q g = record {
+  limits = refl;
   kept = λ _. ap (λ (v : View). record v { asked = v.asked || must_stop }) g;
-  looks = λ i. (refl, record { tasks = refl; steps = refl; limit = refl });
+  looks = λ i. (refl, record { tasks = refl; steps = refl; limits = refl });
   terminates = λ i. absurd (cc);
   reports = λ i. absurd (cc);
 }
 send_row s (event.Refused n) m h q g =
-    plain s (enter phase.Look (with_run (apply_refusal (code_numbered n)) s)) _ (event.Refused n) m _ refl refl
+    plain s (enter phase.Look (with_run (apply_refusal (code_numbered n)) s)) _ (event.Refused n) m _ refl refl refl
     (refused_at n h (apply_refusal (code_numbered n) s.run) q
     (refused_agrees s.run h (is_store_full (code_numbered n)) _ (abandoned_view s.run (abandons_run (code_numbered n))) g))
 send_row s e m h q g = tt
 
 upload_row : (s : BotState) (e : BotEvent) (m : ℕ) (h : History) → Agrees s.run h → IfSome (after_upload s e) (Row s action.Upload e m (heard action.Upload e m h))
-upload_row s event.Uploaded m h g = plain s _ _ event.Uploaded m h refl refl g
+upload_row s event.Uploaded m h g = plain s _ _ event.Uploaded m h refl refl refl g
 upload_row s (event.Refused n) m h g =
     if_row s action.Upload (event.Refused n) m h (is_store_full (code_numbered n)) (enter phase.LastSend s) (enter_stop why.Refused s)
-    (λ _. plain s _ _ (event.Refused n) m h refl refl g) (λ _. plain s _ _ (event.Refused n) m h refl refl g)
+    (λ _. plain s _ _ (event.Refused n) m h refl refl refl g) (λ _. plain s _ _ (event.Refused n) m h refl refl refl g)
 upload_row s e m h g = tt
 
 -- the bot stops
-stops : (s t : BotState) (x : Action) (e : BotEvent) (m : ℕ) (h : History) → asks_for_end e x ≡ false → finds_running e ≡ false → is_stop t.phase ≡ true → Row s x e m h t
-stops s t x e m h a b k = record { kept = λ i. absurd (cc); looks = λ i. absurd (cc); terminates = λ i. absurd (cc); reports = λ i. absurd (cc) }
+stops : (s t : BotState) (x : Action) (e : BotEvent) (m : ℕ) (h : History) → asks_for_end e x ≡ false → finds_running e ≡ false → t.limits ≡ s.limits → is_stop t.phase ≡ true → Row s x e m h t
+stops s t x e m h a b l k = record { limits = l; kept = λ i. absurd (cc); looks = λ i. absurd (cc); terminates = λ i. absurd (cc); reports = λ i. absurd (cc) }
 
 last_send_row : (s : BotState) (e : BotEvent) (m : ℕ) (h : History) → is_transient e ≡ false → Agrees s.run h → IfSome (after_last_send s e) (Row s (phase_action s phase.LastSend) e m (heard (phase_action s phase.LastSend) e m h))
-last_send_row s (event.SendOk must_stop) m h q g = plain s _ _ (event.SendOk must_stop) m h (ends must_stop) refl g
+last_send_row s (event.SendOk must_stop) m h q g = plain s _ _ (event.SendOk must_stop) m h (ends must_stop) refl refl g
   where
     ends : (b : Bool) → asks_for_end (event.SendOk b) (phase_action s phase.LastSend) ≡ false
     ends true = refl
@@ -208,17 +210,17 @@ last_send_row s (event.Refused n) m h q g =
   where
     refused_row : (b c : Bool) → Row s (phase_action s phase.LastSend) (event.Refused n) m (if not b then record h { asked = true; refused = true } else h)
         (if b then enter phase.LastSend (with_run drop_output s) else if c then enter phase.CleanUp (with_run abandon_run s) else enter_stop why.Refused s)
-    refused_row true c = plain s _ _ (event.Refused n) m h refl refl g
-    refused_row false true = plain s _ _ (event.Refused n) m _ refl refl (ap (λ (v : View). record v { asked = true; refused = true }) g)
-    refused_row false false = stops s _ _ (event.Refused n) m _ refl refl refl
+    refused_row true c = plain s _ _ (event.Refused n) m h refl refl refl g
+    refused_row false true = plain s _ _ (event.Refused n) m _ refl refl refl (ap (λ (v : View). record v { asked = true; refused = true }) g)
+    refused_row false false = stops s _ _ (event.Refused n) m _ refl refl refl refl
 last_send_row s e m h q g = tt
 
 end_task_row : (s : BotState) (e : BotEvent) (m : ℕ) (h : History) → asks_for_end e action.CleanUp ≡ false → finds_running e ≡ false → Agrees s.run h → Row s action.CleanUp e m h (end_task s)
 end_task_row s e m h a b g =
     let t : BotState = record s { tasks = s.tasks + 1 } in
-    if_row s action.CleanUp e m h s.run.refused (enter_stop why.Refused t) _ (λ _. plain s _ _ e m h a b g)
-    (λ _. if_row s action.CleanUp e m h (nat_le s.limits.tasks (s.tasks + 1)) (enter_stop why.Tasks t) _ (λ _. plain s _ _ e m h a b g)
-    (λ _. if_row s action.CleanUp e m h s.run.abandoned (next_session t) (enter phase.Poll t) (λ _. plain s _ _ e m h a b g) (λ _. plain s _ _ e m h a b g)))
+    if_row s action.CleanUp e m h s.run.refused (enter_stop why.Refused t) _ (λ _. plain s _ _ e m h a b refl g)
+    (λ _. if_row s action.CleanUp e m h (nat_le s.limits.tasks (s.tasks + 1)) (enter_stop why.Tasks t) _ (λ _. plain s _ _ e m h a b refl g)
+    (λ _. if_row s action.CleanUp e m h s.run.abandoned (next_session t) (enter phase.Poll t) (λ _. plain s _ _ e m h a b refl g) (λ _. plain s _ _ e m h a b refl g)))
 
 clean_up_row : (s : BotState) (e : BotEvent) (m : ℕ) (h : History) → Agrees s.run h → IfSome (after_clean_up s e) (Row s action.CleanUp e m (heard action.CleanUp e m h))
 clean_up_row s event.Cleaned m h g = end_task_row s event.Cleaned m h refl refl g
@@ -251,14 +253,14 @@ no_term None h = refl
 no_term (Some t) h = absurd (cc)
 
 -- the command runs on, with a run that agrees
-module _ (s s2 : BotState) (x : Action) (e : BotEvent) (m : ℕ) (h : History) (g : Agrees s2.run h) (e1 : s2.tasks ≡ s.tasks) (e2 : s2.steps ≡ s.steps) (e3 : s2.limits.steps ≡ s.limits.steps) (a : asks_for_end e x ≡ false) where
+module _ (s s2 : BotState) (x : Action) (e : BotEvent) (m : ℕ) (h : History) (g : Agrees s2.run h) (e1 : s2.tasks ≡ s.tasks) (e2 : s2.steps ≡ s.steps) (e3 : s2.limits ≡ s.limits) (a : asks_for_end e x ≡ false) where
   abbrev R : BotState → Type 0
   R t = Row s x e m h t
 
   -- neither Term nor an update is due
   moves : (t : BotState) → Stays s t → Kept m h t → (h.asked ≡ true → h.term ≡ None → action_of t ≡ action.Signal Term) →
       (h.refused ≡ false → h.last_send + h.tolerance / 4 ≤ m → reports_or_signals (action_of t) ≡ true) → R t
-  moves t same k f f2 = record { kept = λ _. k; looks = λ i. absurd (cc); terminates = λ i j l. (f j l, same); reports = λ i j l. (f2 j l, same) }
+  moves t same k f f2 = record { limits = same.limits; kept = λ _. k; looks = λ i. absurd (cc); terminates = λ i j l. (f j l, same); reports = λ i j l. (f2 j l, same) }
 
   has_time : h.last_send + h.tolerance / 4 ≤ m → has_passed s2.run.last_send (s2.run.tolerance / 4) m ≡ true
   has_time i =
@@ -276,17 +278,17 @@ module _ (s s2 : BotState) (x : Action) (e : BotEvent) (m : ℕ) (h : History) (
   send_or_sleep_row never =
       let c : Bool = not s2.run.abandoned && (nat_lt 0 s2.run.pending || has_passed s2.run.last_send (s2.run.tolerance / 4) m) in
       if_row s x e m h c (enter phase.Send s2) (enter_sleep 1 phase.Look s2)
-      (λ _. moves (enter phase.Send s2) (record { tasks = e1; steps = e2; limit = e3 }) g (λ j l. absurd (never j l)) (λ j l. refl))
-      (λ i. moves (enter_sleep 1 phase.Look s2) (record { tasks = e1; steps = e2; limit = e3 }) g (λ j l. absurd (never j l))
+      (λ _. moves (enter phase.Send s2) (record { tasks = e1; steps = e2; limits = e3 }) g (λ j l. absurd (never j l)) (λ j l. refl))
+      (λ i. moves (enter_sleep 1 phase.Look s2) (record { tasks = e1; steps = e2; limits = e3 }) g (λ j l. absurd (never j l))
       (λ j l. let k : c ≡ true = is_due s2.run.abandoned (nat_lt 0 s2.run.pending) (has_passed s2.run.last_send (s2.run.tolerance / 4) m) (ap View.refused g ∙ j) (has_time l) in absurd (cc)))
 
   kill_row : is_some s2.run.term ≡ true → R (signal_kill s2)
-  kill_row some = moves (signal_kill s2) (record { tasks = e1; steps = e2; limit = e3 }) g (λ j l. let k : is_some h.term ≡ true = sym (ap View.termed g) ∙ some in let n : is_some h.term ≡ false = no_term h.term l in absurd (cc)) (λ j l. refl)
+  kill_row some = moves (signal_kill s2) (record { tasks = e1; steps = e2; limits = e3 }) g (λ j l. let k : is_some h.term ≡ true = sym (ap View.termed g) ∙ some in let n : is_some h.term ≡ false = no_term h.term l in absurd (cc)) (λ j l. refl)
 
   term_row : (b c : Bool) → b ≡ (not h.asked && is_reached h.started h.execution m) → c ≡ (not h.asked && (not (is_reached h.started h.execution m) && is_reached h.last_output h.io m)) →
       R (record s2 { run = record s2.run { term = Some m; hard_timeout = b; io_timeout = c }; phase = phase.Signal Term; awaited = Answer })
   term_row b c i j =
-      moves (record s2 { run = record s2.run { term = Some m; hard_timeout = b; io_timeout = c }; phase = phase.Signal Term; awaited = Answer }) (record { tasks = e1; steps = e2; limit = e3 })
+      moves (record s2 { run = record s2.run { term = Some m; hard_timeout = b; io_timeout = c }; phase = phase.Signal Term; awaited = Answer }) (record { tasks = e1; steps = e2; limits = e3 })
       (ap (λ (v : View). record v { termed = true; hard = b; silent = c }) g ∙
       ap (λ (n : Bool). record (view_of h) { termed = true; hard = n; silent = c }) i ∙ ap (λ (n : Bool). record (view_of h) { termed = true; hard = not h.asked && is_reached h.started h.execution m; silent = n }) j)
       (λ j l. refl) (λ j l. refl)
@@ -335,8 +337,8 @@ module _ (s s2 : BotState) (x : Action) (e : BotEvent) (m : ℕ) (h : History) (
 
 end_row : (s : BotState) (e : BotEvent) (code : ℤ) (m : ℕ) (h : History) (x : Action) (b : Bool) → asks_for_end e x ≡ false → finds_running e ≡ false → Agrees s.run h →
     Row s x e m h (enter (if b then phase.CleanUp else phase.Upload) (with_run (end_run code m) s))
-end_row s e code m h x true i j g = plain s _ x e m h i j g
-end_row s e code m h x false i j g = plain s _ x e m h i j g
+end_row s e code m h x true i j g = plain s _ x e m h i j refl g
+end_row s e code m h x false i j g = plain s _ x e m h i j refl g
 
 add_agrees : (size m : ℕ) (r : Run) (b : Bool) (h : History) → Agrees r h →
     Agrees (if b then record r { last_output = m; dropped = r.dropped + size; dropping = true } else record r { last_output = m; pending = r.pending + size }) (record h { last_output = m })
@@ -369,7 +371,7 @@ answer_row s phase.CleanUp e m h q g = clean_up_row s e m h g
 answer_row s (phase.Stop why) e m h q g = tt
 
 begin_row : (s : BotState) (x : Action) (e : BotEvent) (m : ℕ) (h : History) → Agrees s.run h → IfSome (after_begin s e m) (Row s x e m (heard x e m h))
-begin_row s x event.Begin m h g = plain s _ x event.Begin m h refl refl g
+begin_row s x event.Begin m h g = plain s _ x event.Begin m h refl refl refl g
 begin_row s x e m h g = tt
 
 unsigned : (t : BotState) (p : Phase) (m : ℕ) (h : History) → is_signal p ≡ false → h ≡ logged (phase_action t p) m h
@@ -377,7 +379,7 @@ unsigned t (phase.Signal signal) m h q = absurd (cc)
 unsigned t p m h q = refl
 
 sleep_row : (s : BotState) (x : Action) (e : BotEvent) (m : ℕ) (h : History) → is_signal s.phase ≡ false → Agrees s.run h → IfSome (after_sleep s e) (Row s x e m (heard x e m h))
-sleep_row s x event.Slept m h q g = plain s (enter s.phase s) x event.Slept m h refl refl (subst (λ (k : History). Agrees s.run k) (unsigned (enter s.phase s) s.phase m h q) g)
+sleep_row s x event.Slept m h q g = plain s (enter s.phase s) x event.Slept m h refl refl refl (subst (λ (k : History). Agrees s.run k) (unsigned (enter s.phase s) s.phase m h q) g)
 sleep_row s x e m h q g = tt
 
 and_false : (x b : Bool) → (x && b) ≡ true → b ≡ false → ⊥
@@ -386,9 +388,9 @@ and_false false b h k = cc
 
 -- nothing is learned by an event after which the request is sent again
 transient_row : (s : BotState) (x : Action) (p : Phase) (e : BotEvent) (m : ℕ) (h : History) (b : Bool) → (b && is_transient e) ≡ true → Agrees s.run h → Row s x e m (heard x e m h) (enter_sleep 5 p s)
-transient_row s x p event.Lost m h b q g = plain s (enter_sleep 5 p s) x event.Lost m h refl refl g
+transient_row s x p event.Lost m h b q g = plain s (enter_sleep 5 p s) x event.Lost m h refl refl refl g
 transient_row s x p (event.Refused n) m h b q g =
-    plain s (enter_sleep 5 p s) x (event.Refused n) m _ refl refl (subst (λ (k : History). Agrees s.run k) (not_learned x (is_transient (event.Refused n)) (is_store_full (code_numbered n)) refl refl) g)
+    plain s (enter_sleep 5 p s) x (event.Refused n) m _ refl refl refl (subst (λ (k : History). Agrees s.run k) (not_learned x (is_transient (event.Refused n)) (is_store_full (code_numbered n)) refl refl) g)
   where
     not_learned : (y : Action) (c d : Bool) → is_transient (event.Refused n) ≡ c → is_store_full (code_numbered n) ≡ d → h ≡ heard y (event.Refused n) m h
     not_learned (action.Send start size last) true d i j = sym (if_not (is_for_good n) (good i))

@@ -9,3 +9,4 @@ pub mod RepeatLemmas
 pub mod IdLemmas
 pub mod HistoryRows
 pub mod HistoryLemmas
+pub mod FitLemmas

@@ -1,5 +1,5 @@
 -- What a bot does for a run by what is known of it: it ends it where it is asked to, reports in time, and tells why it ended it.
-use Rattle.std.specs.Prelude.{◌≡◌, ◌⊎◌, ◌↔◌, ℕ, ◌+◌, ◌/◌, ◌^◌, ◌≤◌, ◌<◌, Bool, true, false, List, Option, Some, None, All, IsSomeAnd}
+use Rattle.std.specs.Prelude.{◌≡◌, ◌⊎◌, ◌↔◌, ℕ, ◌+◌, ◌/◌, ◌^◌, ◌≤◌, ◌<◌, Bool, true, false, List, Option, Some, None, All, IsSomeAnd, IfSome, ⊤}
 use Rattle.bot_core.specs.declared.action.Action.{Action}
 use Rattle.bot_core.specs.declared.action.Action.TheVariants as action
 use Rattle.bot_core.specs.declared.action.End.{End}
@@ -8,8 +8,9 @@ use Rattle.bot_core.specs.declared.action.StopWhy.TheVariants as why
 use Rattle.bot_core.specs.declared.bot_event.BotEvent.{BotEvent}
 use Rattle.bot_core.specs.declared.bot_event.BotEvent.TheVariants as event
 use Rattle.bot_core.specs.declared.bot_limits.BotLimits.{BotLimits}
-use Rattle.bot_core.specs.Table.{action_of}
-use Rattle.bot_core.specs.States.{Step}
+use Rattle.bot_core.specs.RunChanges.{most_pending, most_output}
+use Rattle.bot_core.specs.Table.{opening, action_of}
+use Rattle.bot_core.specs.States.{Step, states_after}
 use Rattle.bot_core.specs.Histories.{History, Choice, choices_of}
 
 -- a look that finds the command running
@@ -83,3 +84,20 @@ abbrev pub TellsTimeouts : Type 0
 TellsTimeouts =
     (limits : BotLimits) (events : List (BotEvent × ℕ)) →
     All (λ c. (start size : ℕ) (end : End) → action_of c.step.after ≡ action.Send start size (Some end) → TellsWhy c.history end) (choices_of limits events)
+
+-- ---- what a server reads
+
+-- the numbers of an update
+pub record FitsServer (start size : ℕ) (last : Option End) : Type 0 where
+  pub piece : size ≤ most_pending
+  pub output : start + size ≤ most_output
+  pub dropped : IfSome last (λ end. end.dropped ≤ 2 ^ 53)
+  pub duration : IfSome last (λ end. end.duration_ms ≤ 2 ^ 40)
+
+abbrev pub IsFittingUpdate : Action → Type 0
+IsFittingUpdate (action.Send start size last) = FitsServer start size last
+IsFittingUpdate a = ⊤
+
+-- over every list of events, where the limit of steps is a number of 32 bits
+abbrev pub ReportsFit : Type 0
+ReportsFit = (limits : BotLimits) (events : List (BotEvent × ℕ)) → limits.steps < 2 ^ 32 → All (λ s. IsFittingUpdate (action_of s)) (states_after (opening limits) events)

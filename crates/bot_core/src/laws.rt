@@ -3,7 +3,7 @@ ghost use Rattle.bot_core.specs.Ids.{IdsGrow};
 ghost use Rattle.bot_core.specs.OpenRuns.{CleansUpEachRun};
 ghost use Rattle.bot_core.specs.Output.{SendsWhatWasWritten};
 ghost use Rattle.bot_core.specs.Repeats.{RepeatsRequests};
-ghost use Rattle.bot_core.specs.RunLaws.{ReportsInTime, StopsWhereAsked, TellsTimeouts};
+ghost use Rattle.bot_core.specs.RunLaws.{ReportsFit, ReportsInTime, StopsWhereAsked, TellsTimeouts};
 ghost use Rattle.bot_core.specs.Signals.{KillsAfterTermAndGrace};
 ghost use Rattle.bot_core.specs.Starts.{StartsOnce};
 
@@ -62,4 +62,10 @@ pub fn reports_in_time()
 /// time was not; neither where the server had asked for the end before.
 pub fn tells_timeouts()
     ensures { TellsTimeouts }
+{}
+
+/// The numbers of an update, its place and size, and of a last one the bytes that were dropped and the
+/// duration, are within what a server reads.
+pub fn reports_fit()
+    ensures { ReportsFit }
 {}
