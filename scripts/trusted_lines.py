@@ -59,6 +59,7 @@ LAWS = [
     ("Rattle.bot_core.specs.OpenRuns", "CleansUpEachRun"),
     ("Rattle.bot_core.specs.Repeats", "RepeatsRequests"),
     ("Rattle.bot_core.specs.Ids", "IdsGrow"),
+    ("Rattle.bot_core.specs.RunLaws", "StopsWhereAsked ReportsInTime TellsTimeouts ReportsFit"),
     ("Rattle.wire_laws.specs.Told", "RepliesAreTold"),
     ("Rattle.wire_laws.specs.Fitting", "AreChecked"),
     ("Rattle.wire_laws.specs.Meant", "HandshakesAreMeant PollsAreMeant PoolsAreNamed ClaimsAreMeant ReportsAreMeant BlobGetsAreMeant BlobPutsAreMeant CallsAreFound BlobsAreFound RangesLieWithin"),

@@ -7,3 +7,6 @@ pub mod SignalLemmas
 pub mod OpenRunLemmas
 pub mod RepeatLemmas
 pub mod IdLemmas
+pub mod HistoryRows
+pub mod HistoryLemmas
+pub mod FitLemmas

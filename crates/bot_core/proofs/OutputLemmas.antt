@@ -390,7 +390,7 @@ Sound-all (turn ∷ turns) old new h s = let m : OutputState = h.0 in Sound-all 
 Sound-start : (limits : BotLimits) → Sound (output_start limits)
 Sound-start limits =
     record {
-      bounds = λ _. record { steps = omega arith; session = omega arith; claim = omega arith; polls = omega arith; tasks = omega arith; run = record { pending = omega arith; output = omega arith; dropped = omega arith } };
+      bounds = λ _. record { steps = omega arith; session = omega arith; claim = omega arith; polls = omega arith; tasks = omega arith; run = record { pending = omega arith; output = omega arith; dropped = omega arith; duration = omega arith } };
       stands = fresh 0 false false [];
     }
 

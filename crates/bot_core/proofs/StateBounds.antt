@@ -59,22 +59,22 @@ next_takes s e m n = some_if (is_stop s.phase) None (after_event s s.awaited e m
 -- ---- the numbers of a run, one step on
 
 RunBounds-stays : (n : ℕ) (r : Run) → RunBounds n r → RunBounds (n + 1) r
-RunBounds-stays n r b = record { pending = b.pending; output = b.output; dropped = omega arith }
+RunBounds-stays n r b = record { pending = b.pending; output = b.output; dropped = omega arith; duration = b.duration }
 
 RunBounds-new : (n a b c d : ℕ) → RunBounds n (new_run a b c d)
-RunBounds-new n a b c d = record { pending = omega arith; output = omega arith; dropped = omega arith }
+RunBounds-new n a b c d = record { pending = omega arith; output = omega arith; dropped = omega arith; duration = omega arith }
 
 RunBounds-drop_output : (n : ℕ) (r : Run) → RunBounds n r → RunBounds (n + 1) (drop_output r)
-RunBounds-drop_output n r b = record { pending = omega arith; output = omega arith; dropped = omega arith }
+RunBounds-drop_output n r b = record { pending = omega arith; output = omega arith; dropped = omega arith; duration = b.duration }
 
 RunBounds-abandon_run : (n : ℕ) (r : Run) → RunBounds n r → RunBounds (n + 1) (abandon_run r)
-RunBounds-abandon_run n r b = record { pending = omega arith; output = omega arith; dropped = omega arith }
+RunBounds-abandon_run n r b = record { pending = omega arith; output = omega arith; dropped = omega arith; duration = b.duration }
 
 RunBounds-refused : (n : ℕ) (r : Run) → RunBounds n r → RunBounds (n + 1) (record (abandon_run r) { refused = true })
-RunBounds-refused n r b = record { pending = omega arith; output = omega arith; dropped = omega arith }
+RunBounds-refused n r b = record { pending = omega arith; output = omega arith; dropped = omega arith; duration = b.duration }
 
 RunBounds-count_sent : (n : ℕ) (must_stop : Bool) (r : Run) → RunBounds n r → RunBounds (n + 1) (count_sent must_stop r)
-RunBounds-count_sent n must_stop r b = record { pending = omega arith; output = omega arith; dropped = omega arith }
+RunBounds-count_sent n must_stop r b = record { pending = omega arith; output = omega arith; dropped = omega arith; duration = b.duration }
 
 if_run : (n : ℕ) (c : Bool) (x y : Run) → RunBounds n x → RunBounds n y → RunBounds n (if c then x else y)
 if_run n true x y p q = p
@@ -87,8 +87,8 @@ RunBounds-apply_refusal n code r b =
 
 RunBounds-if_dropped : (n size m : ℕ) (r : Run) (l a d o : Bool) → RunBounds n r → size ≤ most_pending - r.pending → (l ≡ false → r.sent + r.pending + size ≤ most_output) →
     RunBounds (n + 1) (if l then record r { last_output = m; dropped = r.dropped + size; dropping = true } else record r { last_output = m; pending = r.pending + size })
-RunBounds-if_dropped n size m r true a d o b fits most = record { pending = omega arith; output = omega arith; dropped = omega arith }
-RunBounds-if_dropped n size m r false a d o b fits most = record { pending = omega arith; output = omega (arith, most refl); dropped = omega arith }
+RunBounds-if_dropped n size m r true a d o b fits most = record { pending = omega arith; output = omega arith; dropped = omega arith; duration = b.duration }
+RunBounds-if_dropped n size m r false a d o b fits most = record { pending = omega arith; output = omega (arith, most refl); dropped = omega arith; duration = b.duration }
 
 fits_unless_dropped : (a d : Bool) (x : ℕ) → (a || d || nat_lt most_output x) ≡ false → x ≤ most_output
 fits_unless_dropped false false x h = grind (arith, nat_tests)
@@ -146,7 +146,7 @@ claim_keeps s (event.Refused number) b =
 claim_keeps s e b = tt
 
 fail_start_keeps : (s : BotState) → Bounds s → BoundsBeforeStep (fail_start s)
-fail_start_keeps s b = let r : RunBounds s.steps s.run = b.run in run_keeps s (fail_start s).run phase.LastSend Answer b (record { pending = r.pending; output = r.output; dropped = omega arith })
+fail_start_keeps s b = let r : RunBounds s.steps s.run = b.run in run_keeps s (fail_start s).run phase.LastSend Answer b (record { pending = r.pending; output = r.output; dropped = omega arith; duration = omega arith })
 
 prepare_keeps : (s : BotState) (e : BotEvent) → Bounds s → IfSome (after_prepare s e) BoundsBeforeStep
 prepare_keeps s event.Prepared b = phase_keeps s phase.Start Answer b
@@ -154,7 +154,7 @@ prepare_keeps s event.RunnerFailed b = fail_start_keeps s b
 prepare_keeps s e b = tt
 
 start_keeps : (s : BotState) (e : BotEvent) (m : ℕ) → Bounds s → IfSome (after_start s e m) BoundsBeforeStep
-start_keeps s event.Started m b = let r : RunBounds s.steps s.run = b.run in run_keeps s (start_run m s.run) phase.Look Answer b (record { pending = r.pending; output = r.output; dropped = omega arith })
+start_keeps s event.Started m b = let r : RunBounds s.steps s.run = b.run in run_keeps s (start_run m s.run) phase.Look Answer b (record { pending = r.pending; output = r.output; dropped = omega arith; duration = r.duration })
 start_keeps s event.RunnerFailed m b = fail_start_keeps s b
 start_keeps s e m b = tt
 
@@ -177,7 +177,7 @@ AlmostRun-of : (s : BotState) → Bounds s → AlmostRun s
 AlmostRun-of s b = record { steps = b.steps; session = b.session; claim = b.claim; polls = b.polls; tasks = b.tasks; run = RunBounds-stays s.steps s.run b.run }
 
 RunBounds-signals : (n : ℕ) (r : Run) (t : Option ℕ) (k h i : Bool) → RunBounds n r → RunBounds n (record r { term = t; killed = k; hard_timeout = h; io_timeout = i })
-RunBounds-signals n r t k h i b = record { pending = b.pending; output = b.output; dropped = b.dropped }
+RunBounds-signals n r t k h i b = record { pending = b.pending; output = b.output; dropped = b.dropped; duration = b.duration }
 
 send_or_sleep_keeps : (s : BotState) (m : ℕ) → AlmostRun s → BoundsBeforeStep (send_or_sleep m s)
 send_or_sleep_keeps s m b =
@@ -199,7 +199,7 @@ continue_run_keeps s m b =
 end_command_keeps : (s : BotState) (code : ℤ) (m : ℕ) → Bounds s → BoundsBeforeStep (end_command code m s)
 end_command_keeps s code m b =
     let r : RunBounds s.steps s.run = b.run in
-    run_keeps s (end_run code m s.run) (if s.run.abandoned then phase.CleanUp else phase.Upload) Answer b (record { pending = r.pending; output = r.output; dropped = omega arith })
+    run_keeps s (end_run code m s.run) (if s.run.abandoned then phase.CleanUp else phase.Upload) Answer b (record { pending = r.pending; output = r.output; dropped = omega arith; duration = omega arith })
 
 and_right : (a : Bool) (x y : ℕ) → (a && nat_le x y) ≡ true → x ≤ y
 and_right true x y h = grind (arith, nat_tests)
@@ -309,7 +309,7 @@ record_action_keeps : (a : Action) (m : ℕ) (s : BotState) → BoundsBeforeStep
 record_action_keeps action.Poll m s b =
     count_poll_keeps s (nat_le s.limits.polls s.polls) refl b
 record_action_keeps (action.Send start size last) m s b = let r : RunBounds (s.steps + 1) s.run = b.run in
-    record { steps = b.steps; session = b.session; claim = b.claim; polls = b.polls; tasks = b.tasks; run = record { pending = r.pending; output = r.output; dropped = r.dropped } }
+    record { steps = b.steps; session = b.session; claim = b.claim; polls = b.polls; tasks = b.tasks; run = record { pending = r.pending; output = r.output; dropped = r.dropped; duration = r.duration } }
 record_action_keeps a m s b = b
 
 count_step_keeps : (s : BotState) (c : Bool) → nat_le s.limits.steps s.steps ≡ c → BoundsBeforeStep s → InBounds (if c then enter_stop why.Steps s else record s { steps = s.steps + 1 })

@@ -1,5 +1,5 @@
 -- What the numbers of a bot that goes on keep to.
-use Rattle.std.specs.Prelude.{◌≡◌, ℕ, ◌+◌, ◌-◌, ◌*◌, ◌≤◌, false}
+use Rattle.std.specs.Prelude.{◌≡◌, ℕ, ◌+◌, ◌-◌, ◌*◌, ◌^◌, ◌≤◌, false}
 use Rattle.bot_core.specs.declared.run.Run.{Run}
 use Rattle.bot_core.specs.declared.bot_state.BotState.{BotState}
 use Rattle.bot_core.specs.RunChanges.{most_pending, most_output}
@@ -10,6 +10,7 @@ pub record RunBounds (steps : ℕ) (r : Run) : Type 0 where
   pub pending : r.pending ≤ most_pending
   pub output : r.sent + r.pending ≤ most_output
   pub dropped : r.dropped + r.pending ≤ most_pending * steps
+  pub duration : r.duration_ms ≤ 2 ^ 40
 
 -- while it goes on
 pub record Bounds (s : BotState) : Type 0 where

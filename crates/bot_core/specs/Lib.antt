@@ -8,4 +8,6 @@ pub mod Signals
 pub mod OpenRuns
 pub mod Repeats
 pub mod Ids
+pub mod Histories
+pub mod RunLaws
 pub mod Examples

@@ -3,6 +3,7 @@ ghost use Rattle.bot_core.specs.Ids.{IdsGrow};
 ghost use Rattle.bot_core.specs.OpenRuns.{CleansUpEachRun};
 ghost use Rattle.bot_core.specs.Output.{SendsWhatWasWritten};
 ghost use Rattle.bot_core.specs.Repeats.{RepeatsRequests};
+ghost use Rattle.bot_core.specs.RunLaws.{ReportsFit, ReportsInTime, StopsWhereAsked, TellsTimeouts};
 ghost use Rattle.bot_core.specs.Signals.{KillsAfterTermAndGrace};
 ghost use Rattle.bot_core.specs.Starts.{StartsOnce};
 
@@ -39,4 +40,32 @@ pub fn repeats_requests()
 /// all before it, or is the last one of them sent again.
 pub fn ids_grow()
     ensures { IdsGrow }
+{}
+
+/// After an update that the server answers with `must_stop` comes a look; and where the server has
+/// asked for the end of a run, by that or as it refused an update for good, and Term was not sent,
+/// each look that finds the command running is followed by Term. A Stop at the limit of steps may
+/// come in place of either.
+pub fn stops_where_asked()
+    ensures { StopsWhereAsked }
+{}
+
+/// A look that finds the command running a quarter of the tolerance or more after the last update
+/// is followed by an update, a signal, or a Stop at the limit of steps; unless the server has refused
+/// an update of the run for good. Before the first update the start counts.
+pub fn reports_in_time()
+    ensures { ReportsInTime }
+{}
+
+/// A last update tells `hard_timeout` exactly where Term was sent as the limit of time was reached,
+/// and `io_timeout` exactly where Term was sent as the limit without output was reached and that of
+/// time was not; neither where the server had asked for the end before.
+pub fn tells_timeouts()
+    ensures { TellsTimeouts }
+{}
+
+/// The numbers of an update, its place and size, and of a last one the bytes that were dropped and the
+/// duration, are within what a server reads.
+pub fn reports_fit()
+    ensures { ReportsFit }
 {}

@@ -32,7 +32,7 @@ pub use bot_limits::BotLimits;
 pub use bot_state::{Awaited, BotState, Phase};
 pub use examples::a_run_out_of_time;
 pub use laws::{
-    cleans_up_each_run, ids_grow, kills_after_term_and_grace, repeats_requests,
-    sends_what_was_written, starts_once,
+    cleans_up_each_run, ids_grow, kills_after_term_and_grace, repeats_requests, reports_fit,
+    reports_in_time, sends_what_was_written, starts_once, stops_where_asked, tells_timeouts,
 };
 pub use run::Run;
