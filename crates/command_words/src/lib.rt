@@ -5,7 +5,7 @@
 //! `clap`'s own definitions read; `command_of` of `specs/Commands` is the command that the words
 //! ask for by those definitions. The builders of `src/` are proved to make that grammar, so no
 //! option, range or default stands in code alone. The text of a refusal and of help is `clap`'s, and
-//! no clause speaks of it.
+//! no clause says more of it than that there is one.
 //!
 //! No type of `clap` leaves this crate: a crate above would prove again how such a value is dropped.
 #![tactic(auto)]

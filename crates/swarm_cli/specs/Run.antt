@@ -1,5 +1,5 @@
 -- What the program does.
-use Rattle.std.specs.Prelude.{◌≡◌, ◌⊎◌, ℕ, List, Option, Some, None}
+use Rattle.std.specs.Prelude.{◌≡◌, ◌⊎◌, ◌≤◌, ℕ, List, Option, Some, None, length}
 use Rattle.link_writer.specs.Printing.{Prints}
 use Rattle.swarm_policy.specs.Open.{open_settings}
 use Rattle.command_words.specs.Commands.{CommandValue, session, serve, checkpoint, bot, client, drill}
@@ -25,9 +25,10 @@ CarriesOut (bot options) x y status = RunsBotCommand options x y status
 CarriesOut (drill cycles start) x y status = Drills start cycles x.streams.console y.streams.console status × OnlyConsole x y
 CarriesOut (client server caller work) x y status = RunsClient server caller work x y status
 
--- the words are no command, and a text is printed that says so
+-- the words are no command, and a text is printed that says so: it isn't empty
 pub record PrintsRefusal (x y : Environment) (status : ℕ) : Type 0 where
   pub text : List ℕ
+  pub told : 1 ≤ length text
   pub prints : Prints text 2 x.streams.console y.streams.console status
   pub only : OnlyConsole x y
 
