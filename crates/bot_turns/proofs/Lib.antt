@@ -7,3 +7,4 @@ pub mod EventLemmas
 pub mod PrepareLemmas
 pub mod TurnHands
 pub mod RunLemmas
+pub mod TellLemmas

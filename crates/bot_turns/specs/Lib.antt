@@ -6,3 +6,4 @@ pub mod CacheTurns
 pub mod ChildTurns
 pub mod Turns
 pub mod Runs
+pub mod Ends

@@ -1,6 +1,7 @@
 //! CleanUp: the caches of a run come back.
 ghost use Rattle.std.specs.Prelude.{◌≡◌, IfOk, OnOk, IsSome, map, length};
 ghost use Rattle.bot_turns.specs.CacheTurns.{trimmed, with_cache, with_caches, cache_path as spec_cache_path, KeepsTable, IsCleanUpTurn};
+ghost use Rattle.bot_turns.specs.Ends.{StillTells};
 
 use bot_core::BotEvent;
 use bot_requests::Hands;
@@ -70,8 +71,10 @@ fn cache_paths(alloc: Global, caches: &[Cache]) -> Result<Vec<CachePath>, AllocE
 
 /// Has the runner remove the caches that left the table. One that it can't remove stays until the next
 /// time.
+#[tactic(auto, using(crate::proofs::TellLemmas::performs_tells))]
 fn drop_trimmed<R: Runner>(table: &CacheTable, runner: &mut R) -> Result<(), AllocError>
-    ensures { OnOk result (KeepsTable table.now (R.state runner.old) (R.state runner.new)) }
+    ensures keeps { OnOk result (KeepsTable table.now (R.state runner.old) (R.state runner.new)) }
+    ensures tells { StillTells (R.state runner.old) (R.state runner.new) }
 {
     let names = table.names()?;
     match runner.keep(names.as_slice()) {
@@ -86,7 +89,8 @@ pub(crate) fn clean_up<R: Runner>(
     runner: &mut R,
 ) -> Result<BotEvent, AllocError>
     requires { IsSome hands.old.run }
-    ensures { IfOk result (λ e. IsCleanUpTurn hands.old e (R.state runner.old) (R.state runner.new) hands.new) }
+    ensures turn { IfOk result (λ e. IsCleanUpTurn hands.old e (R.state runner.old) (R.state runner.new) hands.new) }
+    ensures tells { StillTells (R.state runner.old) (R.state runner.new) }
 {
     let Some((_, properties)) = &hands.run else {
         unreachable!()

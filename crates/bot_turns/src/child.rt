@@ -1,6 +1,7 @@
 //! Start, Look and Signal: the calls on the child of a run.
 ghost use Rattle.std.specs.Prelude.{◌≤◌, IfOk, IsSome};
 ghost use Rattle.bot_turns.specs.ChildTurns.{IsStartTurn, IsLookTurn, IsSignalTurn};
+ghost use Rattle.bot_turns.specs.Ends.{StillTells};
 
 use bot_core::{BotEvent, Signal};
 use bot_requests::Hands;
@@ -11,9 +12,11 @@ use sw_base::StartFault;
 /// How many bytes may be pending.
 const MOST_PENDING: u32 = 16_384;
 
+#[tactic(auto, using(crate::proofs::TellLemmas::performs_tells))]
 pub(crate) fn start_child<R: Runner>(hands: &Hands, runner: &mut R) -> Result<BotEvent, AllocError>
     requires { IsSome hands.now.run }
-    ensures { IfOk result (λ e. IsStartTurn hands.now e (R.state runner.old) (R.state runner.new)) }
+    ensures turn { IfOk result (λ e. IsStartTurn hands.now e (R.state runner.old) (R.state runner.new)) }
+    ensures tells { StillTells (R.state runner.old) (R.state runner.new) }
 {
     let Some((_, properties)) = &hands.run else {
         unreachable!()
@@ -25,13 +28,15 @@ pub(crate) fn start_child<R: Runner>(hands: &Hands, runner: &mut R) -> Result<Bo
     }
 }
 
+#[tactic(auto, using(crate::proofs::TellLemmas::looks_tells))]
 pub(crate) fn look_at_child<R: Runner>(
     pending: &mut Vec<u8>,
     runner: &mut R,
     room: u32,
 ) -> Result<BotEvent, AllocError>
     requires { room ≤ 16384 }
-    ensures { IfOk result (λ e. IsLookTurn room e pending.old.items pending.new.items (R.state runner.old) (R.state runner.new)) }
+    ensures turn { IfOk result (λ e. IsLookTurn room e pending.old.items pending.new.items (R.state runner.old) (R.state runner.new)) }
+    ensures tells { StillTells (R.state runner.old) (R.state runner.new) }
 {
     pending.truncate((MOST_PENDING - room) as usize);
     let mut buffer = [0u8; 16_384];
@@ -47,8 +52,10 @@ pub(crate) fn look_at_child<R: Runner>(
     }
 }
 
+#[tactic(auto, using(crate::proofs::TellLemmas::signals_tells))]
 pub(crate) fn signal_child<R: Runner>(runner: &mut R, signal: Signal) -> BotEvent
-    ensures { IsSignalTurn signal result (R.state runner.old) (R.state runner.new) }
+    ensures turn { IsSignalTurn signal result (R.state runner.old) (R.state runner.new) }
+    ensures tells { StillTells (R.state runner.old) (R.state runner.new) }
 {
     match runner.signal(signal) {
         Ok(()) => BotEvent::Signalled,

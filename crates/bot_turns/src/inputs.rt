@@ -2,6 +2,7 @@
 ghost use Rattle.std.specs.Prelude.{◌≡◌, ◌↔◌, ◌++◌, ◌∷◌, [], IfOk, OnOk, IsSome, IsTrue, MatchResult};
 ghost use Rattle.swarm_model.specs.declared.reply.Reply.TheVariants as blob;
 ghost use Rattle.bot_turns.specs.ServerTurns.{OfRun};
+ghost use Rattle.bot_turns.specs.Ends.{StillTells};
 ghost use Rattle.bot_turns.specs.Inputs.{fetch_refusal as spec_fetch_refusal, BytesOrEvent, FetchesFile, FetchesAll, FetchEnds, FetchesInputs, prepared_caches, without_caches, LaysOut, IsPrepareTurn};
 
 use crate::events::refusal_event;
@@ -140,6 +141,7 @@ fn take_caches(
 }
 
 /// Has the runner lay out the run.
+#[tactic(auto, using(crate::proofs::TellLemmas::performs_tells))]
 fn prepare_folder<R: Runner>(
     alloc: Global,
     hands: &mut Hands,
@@ -147,7 +149,8 @@ fn prepare_folder<R: Runner>(
     inputs: &[(Text, Seq<u8>)],
 ) -> Result<BotEvent, AllocError>
     requires { IsSome hands.old.run }
-    ensures { IfOk result (λ e. OfRun hands.old.run (λ run p. LaysOut run p inputs.now hands.old e (R.state runner.old) (R.state runner.new) hands.new)) }
+    ensures turn { IfOk result (λ e. OfRun hands.old.run (λ run p. LaysOut run p inputs.now hands.old e (R.state runner.old) (R.state runner.new) hands.new)) }
+    ensures tells { StillTells (R.state runner.old) (R.state runner.new) }
 {
     let Some((run, properties)) = &hands.run else {
         unreachable!()
@@ -167,7 +170,8 @@ pub(crate) fn prepare_run<W: Dialer, R: Runner>(
     runner: &mut R,
 ) -> Result<BotEvent, AllocError>
     requires { IsSome hands.old.run }
-    ensures { IfOk result (λ e. IsPrepareTurn hands.old e (W.state dialer.old) (W.state dialer.new) (R.state runner.old) (R.state runner.new) hands.new) }
+    ensures turn { IfOk result (λ e. IsPrepareTurn hands.old e (W.state dialer.old) (W.state dialer.new) (R.state runner.old) (R.state runner.new) hands.new) }
+    ensures tells { StillTells (R.state runner.old) (R.state runner.new) }
 {
     match fetch_inputs(alloc, hands, dialer)? {
         Ok(inputs) => prepare_folder(alloc, hands, runner, inputs.as_slice()),

@@ -2,6 +2,7 @@
 ghost use Rattle.std.specs.Prelude.{◌≡◌, IfOk, OnOk, IsSome};
 ghost use Rattle.sha2.specs.Sha256.{sha256};
 ghost use Rattle.bot_turns.specs.ServerTurns.{OfRun};
+ghost use Rattle.bot_turns.specs.Ends.{StillTells};
 ghost use Rattle.bot_turns.specs.Outputs.{put_reply as spec_put_reply, put_result as spec_put_result, PutsBytes, UploadsOutput, then_file, Uploads, IsUploadTurn};
 
 use crate::events::refusal_event;
@@ -57,6 +58,7 @@ fn put_bytes<W: Dialer>(
 }
 
 /// The file of an output, where it can be collected.
+#[tactic(auto, using(crate::proofs::TellLemmas::collects_tells))]
 fn upload_output<W: Dialer, R: Runner>(
     alloc: Global,
     hands: &Hands,
@@ -64,7 +66,8 @@ fn upload_output<W: Dialer, R: Runner>(
     runner: &mut R,
     path: &Text,
 ) -> Result<Result<Option<File>, BotEvent>, AllocError>
-    ensures { IfOk result (λ r. UploadsOutput hands.now path.now r (W.state dialer.old) (W.state dialer.new) (R.state runner.old) (R.state runner.new)) }
+    ensures puts { IfOk result (λ r. UploadsOutput hands.now path.now r (W.state dialer.old) (W.state dialer.new) (R.state runner.old) (R.state runner.new)) }
+    ensures tells { StillTells (R.state runner.old) (R.state runner.new) }
 {
     let bytes = match runner.collect(path, MOST_COLLECTED) {
         Ok(Some(bytes)) => bytes,
@@ -93,7 +96,7 @@ fn push_file(files: &mut Seq<File>, file: Option<File>) -> Result<(), AllocError
 }
 
 /// The files of outputs, and the event that ended the upload, where one did.
-#[tactic(auto, using(crate::proofs::UploadLemmas::uploaded_at, crate::proofs::UploadLemmas::ended_at))]
+#[tactic(auto, using(crate::proofs::UploadLemmas::uploaded_at, crate::proofs::UploadLemmas::ended_at, crate::proofs::TellLemmas::tells_on))]
 fn upload_all<W: Dialer, R: Runner>(
     alloc: Global,
     hands: &Hands,
@@ -101,7 +104,8 @@ fn upload_all<W: Dialer, R: Runner>(
     runner: &mut R,
     paths: &[Text],
 ) -> Result<(Seq<File>, Option<BotEvent>), AllocError>
-    ensures { IfOk result (λ r. Uploads r.1 hands.now paths.now r.0 (W.state dialer.old) (W.state dialer.new) (R.state runner.old) (R.state runner.new)) }
+    ensures puts { IfOk result (λ r. Uploads r.1 hands.now paths.now r.0 (W.state dialer.old) (W.state dialer.new) (R.state runner.old) (R.state runner.new)) }
+    ensures tells { StillTells (R.state runner.old) (R.state runner.new) }
 {
     let mut files = Seq::new(alloc);
     for path in paths {
@@ -120,7 +124,8 @@ fn upload_of_run<W: Dialer, R: Runner>(
     runner: &mut R,
 ) -> Result<(Seq<File>, Option<BotEvent>), AllocError>
     requires { IsSome hands.now.run }
-    ensures { IfOk result (λ r. OfRun hands.now.run (λ run p. Uploads r.1 hands.now p.outputs r.0 (W.state dialer.old) (W.state dialer.new) (R.state runner.old) (R.state runner.new))) }
+    ensures puts { IfOk result (λ r. OfRun hands.now.run (λ run p. Uploads r.1 hands.now p.outputs r.0 (W.state dialer.old) (W.state dialer.new) (R.state runner.old) (R.state runner.new))) }
+    ensures tells { StillTells (R.state runner.old) (R.state runner.new) }
 {
     let Some((_, properties)) = &hands.run else {
         unreachable!()
@@ -135,7 +140,8 @@ pub(crate) fn upload_outputs<W: Dialer, R: Runner>(
     runner: &mut R,
 ) -> Result<BotEvent, AllocError>
     requires { IsSome hands.old.run }
-    ensures { IfOk result (λ e. IsUploadTurn hands.old e (W.state dialer.old) (W.state dialer.new) (R.state runner.old) (R.state runner.new) hands.new) }
+    ensures turn { IfOk result (λ e. IsUploadTurn hands.old e (W.state dialer.old) (W.state dialer.new) (R.state runner.old) (R.state runner.new) hands.new) }
+    ensures tells { StillTells (R.state runner.old) (R.state runner.new) }
 {
     let (files, ended) = upload_of_run(alloc, hands, dialer, runner)?;
     hands.files = files;

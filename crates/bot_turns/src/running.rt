@@ -1,7 +1,8 @@
 //! The run of a bot.
-ghost use Rattle.std.specs.Prelude.{◌≡◌, ℕ, IfOk, OnOk, false};
+ghost use Rattle.std.specs.Prelude.{◌≡◌, ℕ, IfOk, OnOk, OnErr, false};
 ghost use Rattle.bot_core.specs.declared.bot_event.BotEvent.{BotEvent as SpecEvent};
 ghost use Rattle.bot_core.specs.Table.{action_of};
+ghost use Rattle.bot_turns.specs.Ends.{EndsClean, StillTells};
 ghost use Rattle.bot_turns.specs.Turns.{bot_world};
 ghost use Rattle.bot_turns.specs.Runs.{TakesTurn, RunsBot, HandsFit, is_stop_action};
 
@@ -30,19 +31,16 @@ fn take_turn<C: Clock, W: Dialer, R: Runner>(
     ensures turn { OnOk result ((e : SpecEvent) × (m : ℕ) × TakesTurn bot.old (bot_world hands.old (W.state dialer.old) (R.state runner.old) (C.ahead clock.old) (C.waited clock.old)) e m bot.new (bot_world hands.new (W.state dialer.new) (R.state runner.new) (C.ahead clock.new) (C.waited clock.new))) }
     ensures ready { OnOk result (HandsFit bot.new hands.new) }
     ensures action { IfOk result (λ next. next ≡ action_of bot.new) }
+    ensures tells { StillTells (R.state runner.old) (R.state runner.new) }
 {
     let event = bot_turn(alloc, hands, clock, dialer, runner, action)?;
     let moment = clock.now();
     Ok(bot.step(event, moment))
 }
 
-/// Lets a bot act until it stops. The hands hold no run yet, or one that has been cleaned up.
-///
-/// # Errors
-///
-/// Only want of memory. The hands are then as the last turn left them.
+/// Lets a bot act until it stops.
 #[tactic(auto, using(crate::proofs::RunLemmas::fewer_steps_left))]
-pub fn run_bot<C: Clock, W: Dialer, R: Runner>(
+fn take_turns<C: Clock, W: Dialer, R: Runner>(
     alloc: Global,
     hands: &mut Hands,
     clock: &mut C,
@@ -50,7 +48,8 @@ pub fn run_bot<C: Clock, W: Dialer, R: Runner>(
     runner: &mut R,
     limits: BotLimits,
 ) -> Result<Stopped, AllocError>
-    ensures { IfOk result (λ stopped. RunsBot limits (bot_world hands.old (W.state dialer.old) (R.state runner.old) (C.ahead clock.old) (C.waited clock.old)) (bot_world hands.new (W.state dialer.new) (R.state runner.new) (C.ahead clock.new) (C.waited clock.new)) stopped) }
+    ensures runs { IfOk result (λ stopped. RunsBot limits (bot_world hands.old (W.state dialer.old) (R.state runner.old) (C.ahead clock.old) (C.waited clock.old)) (bot_world hands.new (W.state dialer.new) (R.state runner.new) (C.ahead clock.new) (C.waited clock.new)) stopped) }
+    ensures tells { StillTells (R.state runner.old) (R.state runner.new) }
 {
     let mut bot = Bot::new(limits);
     let moment = clock.now();
@@ -60,5 +59,32 @@ pub fn run_bot<C: Clock, W: Dialer, R: Runner>(
             return Ok(Stopped { why, tasks });
         }
         action = take_turn(alloc, hands, clock, dialer, runner, &mut bot, &action)?;
+    }
+}
+
+/// Lets a bot act until it stops. The hands hold no run yet, or one that has been cleaned up.
+///
+/// # Errors
+///
+/// Only want of memory. The runner has been told to clean then, so that no command runs on, as far as
+/// there was memory for that; the hands are as the last turn left them.
+pub fn run_bot<C: Clock, W: Dialer, R: Runner>(
+    alloc: Global,
+    hands: &mut Hands,
+    clock: &mut C,
+    dialer: &mut W,
+    runner: &mut R,
+    limits: BotLimits,
+) -> Result<Stopped, AllocError>
+    ensures runs { IfOk result (λ stopped. RunsBot limits (bot_world hands.old (W.state dialer.old) (R.state runner.old) (C.ahead clock.old) (C.waited clock.old)) (bot_world hands.new (W.state dialer.new) (R.state runner.new) (C.ahead clock.new) (C.waited clock.new)) stopped) }
+    ensures cleans { OnErr result (EndsClean (R.state runner.old) (R.state runner.new)) }
+{
+    match take_turns(alloc, hands, clock, dialer, runner, limits) {
+        Ok(stopped) => Ok(stopped),
+        Err(error) => {
+            // Nothing more can be done where this fails too.
+            let _cleaned = runner.clean(&[]);
+            Err(error)
+        }
     }
 }

@@ -1,5 +1,6 @@
 //! One turn of a bot.
 ghost use Rattle.std.specs.Prelude.{◌≡◌, IfOk, true};
+ghost use Rattle.bot_turns.specs.Ends.{StillTells};
 ghost use Rattle.bot_turns.specs.Events.{is_event_of};
 ghost use Rattle.bot_turns.specs.Turns.{bot_world, CanAct, IsTurnOf};
 
@@ -33,6 +34,7 @@ pub fn bot_turn<C: Clock, W: Dialer, R: Runner>(
     requires { CanAct action.now hands.old }
     ensures turn { IfOk result (λ e. IsTurnOf action.now e (bot_world hands.old (W.state dialer.old) (R.state runner.old) (C.ahead clock.old) (C.waited clock.old)) (bot_world hands.new (W.state dialer.new) (R.state runner.new) (C.ahead clock.new) (C.waited clock.new))) }
     ensures event { IfOk result (λ e. is_event_of action.now e ≡ true) }
+    ensures tells { StillTells (R.state runner.old) (R.state runner.new) }
 {
     match action {
         Action::Handshake { first, session } => {

@@ -1,1 +1,2 @@
 pub mod OptionFaults
+pub mod BotEnds

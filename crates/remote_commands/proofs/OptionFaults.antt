@@ -51,7 +51,7 @@ module _ (files : FilesState) (store : StoreState) (s t : LinkState) (clock : �
   bot_so : (o : BotOptions) → IsPrinted (bot_tests o) s t status → RunsBotCommand o (at s) (at t) status
   bot_so o (option name unfit prints) =
       bots.refused name unfit prints (record { files = refl; store = refl; streams = record { clock = refl; listener = refl }; dialer = refl; waited = refl; runner = refl })
-  bot_so o (nothing is same) = bots.no_memory is same (record { files = refl; store = refl; listener = refl })
+  bot_so o (nothing is same) = bots.no_memory is same (record { files = refl; store = refl; listener = refl }) (bots.no_call refl)
 
   -- a fault is told
   pub client_told : (server caller : List ℕ) (work : WorkValue) (why : OptionFault) → IsOptionFault (client_tests server caller work) why → PrintsOptionFault why s t status

@@ -15,6 +15,7 @@ use Rattle.bot_requests.specs.declared.hands.Hands.{Hands}
 use Rattle.bot_turns.specs.declared.stopped.Stopped.{Stopped}
 use Rattle.bot_turns.specs.Turns.{bot_world}
 use Rattle.bot_turns.specs.Runs.{RunsBot}
+use Rattle.bot_turns.specs.Ends.{EndsClean}
 use Rattle.remote_commands.specs.Clients.{OptionTest, server_test, caller_test, first_unfit}
 use Rattle.remote_commands.specs.Streams.{PrintsMade}
 use Rattle.client_commands.specs.Commands.{settings_line}
@@ -89,11 +90,16 @@ pub record CannotOpen (o : BotOptions) (x y : Environment) (status : ℕ) : Type
   pub status_is : status ≡ 4
   pub same : y ≡ record x { runner = y.runner }
 
+-- the runner told no call, so no run was prepared; or its last call was a clean
+pub data LeavesNoRun (before after : RunnerState) : Type 0 where
+  no_call : after.calls ≡ before.calls → LeavesNoRun before after
+  cleaned : EndsClean before after → LeavesNoRun before after
+
 -- A bot ran, or its folder could not be opened, or the first of its options that is out of its grammar is told. Want
--- of memory may come at any place; nothing is printed then.
+-- of memory may come at any place; nothing is printed then, and no run is left.
 pub data RunsBotCommand (o : BotOptions) (x y : Environment) (status : ℕ) : Type 0 where
   ran : first_unfit (bot_tests o) ≡ None → RanBot o x y status → AsideFromBot x y → RunsBotCommand o x y status
   cannot_open : first_unfit (bot_tests o) ≡ None → CannotOpen o x y status → RunsBotCommand o x y status
   refused : (option : List ℕ) → first_unfit (bot_tests o) ≡ Some option → Prints (settings_line option (codes "grammar")) 3 x.streams.console y.streams.console status → OnlyConsole x y
       → RunsBotCommand o x y status
-  no_memory : status ≡ 5 → y.streams.console ≡ x.streams.console → AsideFromBot x y → RunsBotCommand o x y status
+  no_memory : status ≡ 5 → y.streams.console ≡ x.streams.console → AsideFromBot x y → LeavesNoRun x.runner y.runner → RunsBotCommand o x y status

@@ -149,6 +149,7 @@ fn print_stop<L: Link>(alloc: Global, console: &mut L, stopped: &Stopped) -> u8
 }
 
 /// Opens the folder of the bot, and lets the bot act until it stops.
+#[tactic(auto, using(crate::proofs::BotEnds::cleaned_behind))]
 fn run_hands<L: Link, C: Clock, W: Dialer, R: Runner>(
     alloc: Global,
     limits: BotLimits,

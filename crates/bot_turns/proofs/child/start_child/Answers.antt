@@ -2,8 +2,8 @@ use Rattle.std.proofs.Common.{arith}
 use Rattle.std.proofs.lemmas.Grind.{common_steps}
 use Rattle.bot_turns.proofs.child.start_child.Goals as goal
 
-pub returns-in-Ok : goal.returns-in-Ok
-returns-in-Ok g c = grind (arith, common_steps)
+pub returns-in-Ok-clause-turn : goal.returns-in-Ok-clause-turn
+returns-in-Ok-clause-turn g c = grind (arith, common_steps)
 
-pub returns-in-Err-Failed : goal.returns-in-Err-Failed
-returns-in-Err-Failed g c = grind (arith, common_steps)
+pub returns-in-Err-Failed-clause-turn : goal.returns-in-Err-Failed-clause-turn
+returns-in-Err-Failed-clause-turn g c = grind (arith, common_steps)

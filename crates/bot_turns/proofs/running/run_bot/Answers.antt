@@ -3,7 +3,7 @@ use Rattle.bot_core.specs.declared.bot_event.BotEvent.TheVariants as event
 use Rattle.bot_core.specs.Table.{stepped}
 use Rattle.bot_turns.specs.Turns.{BotWorld, bot_world}
 use Rattle.bot_turns.proofs.RunLemmas.{tells_moment, taken_first, taken_next, ready_first}
-use Rattle.bot_turns.proofs.running.run_bot.Goals as goal
+use Rattle.bot_turns.proofs.running.take_turns.Goals as goal
 
 pub loop-action-init : goal.loop-action-init
 loop-action-init g c =
@@ -18,6 +18,7 @@ loop-action-init g c =
       ),
       ready_first c.args.limits c.step-action.new.self c.now-moment.result c.args.hands.now begins,
       c.step-action.ensures.action,
+      λ i. i,
     )
 
 pub loop-action-preserved : goal.loop-action-preserved
@@ -34,4 +35,5 @@ loop-action-preserved g c =
       ),
       c.in_ok-action.ensures.ready,
       c.in_ok-action.ensures.action,
+      λ i. c.take_turn.ensures.tells (c.loop-action.invariant.3 i),
     )

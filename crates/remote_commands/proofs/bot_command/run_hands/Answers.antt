@@ -20,6 +20,6 @@ returns-in-Ok-run_bot g c = λ files store listener o fit limits new. ran fit (r
       (bot_world c.args.hands.now (g.W.Dialer.state c.args.dialer.now) (g.R.Runner.state c.open.new.self) (g.C.Clock.ahead c.args.clock.now) (g.C.Clock.waited c.args.clock.now))
       (bot_world c.run_bot.new.hands (g.W.Dialer.state c.run_bot.new.dialer) (g.R.Runner.state c.run_bot.new.runner) (g.C.Clock.ahead c.run_bot.new.clock) (g.C.Clock.waited c.run_bot.new.clock))
       c.in-Ok-run_bot.stopped)
-      limits c.in-Ok-run_bot.ensures;
+      limits c.in-Ok-run_bot.ensures.runs;
   prints = c.print_stop.ensures;
 }) (record { files = refl; store = refl; listener = refl })
