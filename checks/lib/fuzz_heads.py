@@ -33,10 +33,10 @@ def written(method, target, version, fields, end=b"\r\n"):
 
 
 class Heads:
-    """Makes heads; `with_head` says whether the method HEAD is among them."""
+    """Makes heads."""
 
-    def __init__(self, random, with_head):
-        self.random, self.with_head = random, with_head
+    def __init__(self, random):
+        self.random = random
 
     def chance(self, share):
         return self.random.random() < share
@@ -81,8 +81,7 @@ class Heads:
         return bytes(text)
 
     def method(self):
-        found = self.random.choice(METHODS)
-        return found if self.with_head or found != "HEAD" else "PATCH"
+        return self.random.choice(METHODS)
 
     def broken_fields(self, fields):
         extra = self.random.choice(ODD_FIELDS)

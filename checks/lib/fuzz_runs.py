@@ -200,7 +200,7 @@ def tell(seed, number, session, found, whole):
 
 
 def make(asked, number):
-    return fuzz_sessions.Maker(random.Random(f"{asked.seed} {number}"), asked.heads, not asked.without_records).session()
+    return fuzz_sessions.Maker(random.Random(f"{asked.seed} {number}"), not asked.without_records).session()
 
 
 def run(asked):

@@ -115,8 +115,8 @@ def make_settings(random):
 class Maker:
     """Makes a session, and by the model the answers to it."""
 
-    def __init__(self, random, heads=False, records=True):
-        self.random, self.heads, self.stored = random, fuzz_heads.Heads(random, heads), records and random.random() < 0.2
+    def __init__(self, random, records=True):
+        self.random, self.heads, self.stored = random, fuzz_heads.Heads(random), records and random.random() < 0.2
         # The shares of bodies and of heads that are changed, and how far the clock goes on: sessions differ.
         self.broken_bodies = random.choice([0.02, 0.1, 0.1, 0.3])
         self.broken_heads = random.choice([0.001, 0.003, 0.01, 0.1])
