@@ -147,7 +147,7 @@ class BotPool(Pool):
         if is_new and piece[2] not in self.blobs.held:
             self.check_room(output)
         weight = sum(size(it["path"]) + DIGEST_WEIGHT for it in asked["files"]) if ends else 0
-        self.add(now, weight + (DIGEST_WEIGHT if is_new else 0))
+        self.add(now, weight + (DIGEST_WEIGHT if is_new or ends and output else 0))
         if is_new:
             self.blobs.put(piece[2], output, now + self.settings.blob_life_secs)
             run.pieces.append(piece)
