@@ -1,6 +1,5 @@
 ghost use Rattle.std.specs.Thread.{IsSync};
 
-use crate::cases::check_cases;
 use crate::links::{compare_dialed, compare_served, dialer_of, listener_of};
 use crate::records::{compare_behind, put_before};
 use dimensions::TryCopy;
@@ -30,7 +29,7 @@ fn files_of(alloc: Global, transcript: &Transcript) -> Result<MemoryFiles, Alloc
 }
 
 /// The store of a transcript, which keeps nothing yet.
-pub(crate) fn store_of(alloc: Global, transcript: &Transcript) -> Result<MemoryStore, AllocError> {
+fn store_of(alloc: Global, transcript: &Transcript) -> Result<MemoryStore, AllocError> {
     let attach_fails = Vec::from_slice(alloc, transcript.attach_fails.as_slice())?;
     let mut keeper_fails = Vec::new(alloc);
     for fails in transcript.keeper_fails.iter() {
@@ -40,10 +39,7 @@ pub(crate) fn store_of(alloc: Global, transcript: &Transcript) -> Result<MemoryS
 }
 
 /// The runner of a transcript, for one run.
-pub(crate) fn runner_of(
-    alloc: Global,
-    transcript: &Transcript,
-) -> Result<MemoryRunner, AllocError> {
+fn runner_of(alloc: Global, transcript: &Transcript) -> Result<MemoryRunner, AllocError> {
     let mut answers = VecDeque::new(alloc);
     for answer in transcript.runner_answers.iter() {
         answers.push_back(answer.try_copy(alloc)?)?;
@@ -53,20 +49,18 @@ pub(crate) fn runner_of(
 
 /// Runs a transcript over a clock, a store, a dialer and a runner, its bytes in pieces of this size,
 /// and answers what it wrote to the console and its status, once the links that came are compared.
-/// The calls on the console that fail are those whose number stands in `fails`.
-pub(crate) fn run_over<T: Threads + Wait + Sync, C: Clock + Drop + Send>(
+fn run_over<T: Threads + Wait + Sync, C: Clock + Drop + Send>(
     rt: &T,
     alloc: Global,
     transcript: &Transcript,
     piece: usize,
-    fails: &[u64],
     clock: &mut C,
     store: &mut MemoryStore,
     dialer: &mut MemoryDialer,
     runner: &mut MemoryRunner,
 ) -> Result<(MemoryLink, u8), TranscriptError> {
     let input = Vec::from_slice(alloc, transcript.console.input.as_slice())?;
-    let fails = Vec::from_slice(alloc, fails)?;
+    let fails = Vec::from_slice(alloc, transcript.console.fails.as_slice())?;
     let mut link = MemoryLink::new(alloc, input, piece, fails);
     let mut files = files_of(alloc, transcript)?;
     let mut listener = listener_of(alloc, transcript, piece)?;
@@ -88,7 +82,7 @@ pub(crate) fn run_over<T: Threads + Wait + Sync, C: Clock + Drop + Send>(
 
 /// Runs a transcript over a clock and a store, its bytes in pieces of this size, and compares what
 /// was written, what is left of the runner's answers, the status, and what the store keeps.
-pub(crate) fn check_over<T: Threads + Wait + Sync, C: Clock + Drop + Send>(
+fn check_over<T: Threads + Wait + Sync, C: Clock + Drop + Send>(
     rt: &T,
     alloc: Global,
     transcript: &Transcript,
@@ -97,14 +91,13 @@ pub(crate) fn check_over<T: Threads + Wait + Sync, C: Clock + Drop + Send>(
     store: &mut MemoryStore,
 ) -> Result<(), TranscriptError> {
     put_before(alloc, transcript, store)?;
-    let mut dialer = dialer_of(alloc, transcript, piece, &transcript.dial_fails, None)?;
+    let mut dialer = dialer_of(alloc, transcript, piece, None)?;
     let mut runner = runner_of(alloc, transcript)?;
     let (link, status) = run_over(
         rt,
         alloc,
         transcript,
         piece,
-        &transcript.console.fails,
         clock,
         store,
         &mut dialer,
@@ -132,15 +125,13 @@ fn check_cut<T: Threads + Wait + Sync>(
         step: 0,
         waited: 0,
     };
-    let fails = transcript.dial_fails.as_slice();
-    let mut dialer = dialer_of(alloc, transcript, most.max(1), fails, Some(most))?;
+    let mut dialer = dialer_of(alloc, transcript, most.max(1), Some(most))?;
     let mut runner = runner_of(alloc, transcript)?;
     let (link, status) = run_over(
         rt,
         alloc,
         transcript,
         1000,
-        &transcript.console.fails,
         &mut clock,
         store,
         &mut dialer,
@@ -203,9 +194,8 @@ impl<'a, T: Threads + Wait + Sync> TestedProgram for WholeProgram<'a, T> {
 }
 
 /// Runs a transcript and those that go on with its store, each time from a new store on: for each
-/// size of its pieces over their moments, and over the clock of its step where it has one, with
-/// what its last dialed link gives cut at each place where it says so, and once for each call that is
-/// to fail where it says so.
+/// size of its pieces over their moments, and over the clock of its step where it has one, and with
+/// what its last dialed link gives cut at each place where it says so.
 ///
 /// # Errors
 ///
@@ -221,6 +211,5 @@ pub fn check<T: Threads + Wait + Sync>(
     };
     let store = store_of(alloc, first)?;
     check_runs(alloc, runs, &mut WholeProgram { rt, store })?;
-    check_cuts(rt, alloc, first, &mut store_of(alloc, first)?)?;
-    check_cases(rt, alloc, runs)
+    check_cuts(rt, alloc, first, &mut store_of(alloc, first)?)
 }

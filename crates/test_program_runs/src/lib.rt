@@ -7,11 +7,8 @@
 //! it leaves is compared where the transcript says so. [`ProgramRuns`] also runs each transcript by
 //! [`check_sessions`](test_session_runs::check_sessions) over the machine that scans lists, so that the same
 //! rows hold of another machine.
-//!
-//! A run that says `each` is repeated with each of its calls failing (`cases.rt`).
 #![tactic(auto)]
 
-mod cases;
 mod checking;
 mod links;
 mod program_runs;

@@ -42,16 +42,15 @@ pub(crate) fn listener_of(
     Ok(listener)
 }
 
-/// The dialer of a transcript, for one run. The dials that fail are those whose number stands in
-/// `fails`. Where `most` is a number, the last link gives at most so many bytes.
+/// The dialer of a transcript, for one run. Where `most` is a number, the last link gives at most
+/// so many bytes.
 pub(crate) fn dialer_of(
     alloc: Global,
     transcript: &Transcript,
     piece: usize,
-    fails: &[u64],
     most: Option<usize>,
 ) -> Result<MemoryDialer, AllocError> {
-    let fails = Vec::from_slice(alloc, fails)?;
+    let fails = Vec::from_slice(alloc, transcript.dial_fails.as_slice())?;
     let mut dialer = MemoryDialer::new(alloc, fails);
     let count = transcript.dials.len();
     for (at, link) in transcript.dials.iter().enumerate() {

@@ -4,9 +4,7 @@ use dimensions::Text;
 use std::alloc::{AllocError, Global};
 use sw_base::StartFault;
 use swarm_keeper::{Keeper, KeeperFault, MemoryKeeper, MemoryStore, Store};
-use test_transcript_reader::{
-    PoolRecords, Transcript, TranscriptError, compare_begun_records, compare_records,
-};
+use test_transcript_reader::{PoolRecords, Transcript, TranscriptError, compare_records};
 
 fn keeper_error(line: usize, fault: KeeperFault) -> TranscriptError {
     match fault {
@@ -90,12 +88,12 @@ fn put_pool(
     }
 }
 
-/// What the store keeps of a pool.
-fn kept_of(
+/// Compares what the store keeps of a pool.
+fn compare_pool(
     alloc: Global,
     store: &mut MemoryStore,
     wanted: &PoolRecords,
-) -> Result<PoolRecords, TranscriptError> {
+) -> Result<(), TranscriptError> {
     let folder = wanted.folder.as_str();
     let pool = wanted.pool.as_str();
     match store.attach(alloc, folder, pool) {
@@ -103,47 +101,11 @@ fn kept_of(
             let result = records_of(alloc, &mut keeper, wanted);
             store.detach(folder, pool, keeper);
             match result {
-                Ok(came) => Ok(came),
+                Ok(came) => compare_records(alloc, wanted, &came),
                 Err(fault) => Err(keeper_error(wanted.line, fault)),
             }
         }
         Err(fault) => Err(start_error(wanted.line, fault)),
-    }
-}
-
-/// Records of which the line of this number is cut by its last byte, where there is such a line.
-fn cut_line(
-    alloc: Global,
-    records: &PoolRecords,
-    number: usize,
-) -> Result<Option<PoolRecords>, AllocError> {
-    let mut cut = records.first(alloc, records.lines.len())?;
-    match cut.lines.get_mut(number) {
-        Some(line) => {
-            line.pop();
-            Ok(Some(cut))
-        }
-        None => Ok(None),
-    }
-}
-
-/// Gives the store what a transcript puts there before its run, with the line of this number cut by its
-/// last byte. It answers whether there is such a line.
-pub(crate) fn put_cut(
-    alloc: Global,
-    transcript: &Transcript,
-    number: usize,
-    store: &mut MemoryStore,
-) -> Result<bool, TranscriptError> {
-    let Some(records) = transcript.records_before.first() else {
-        return Ok(false);
-    };
-    match cut_line(alloc, records, number)? {
-        Some(cut) => {
-            put_pool(alloc, store, &cut)?;
-            Ok(true)
-        }
-        None => Ok(false),
     }
 }
 
@@ -166,22 +128,7 @@ pub(crate) fn compare_behind(
     store: &mut MemoryStore,
 ) -> Result<(), TranscriptError> {
     for records in transcript.records_after.iter() {
-        compare_records(alloc, records, &kept_of(alloc, store, records)?)?;
-    }
-    Ok(())
-}
-
-/// Compares what the store keeps behind the run of a transcript in which so many replies were begun.
-pub(crate) fn compare_begun_behind(
-    alloc: Global,
-    transcript: &Transcript,
-    begun: usize,
-    store: &mut MemoryStore,
-) -> Result<(), TranscriptError> {
-    let replies = transcript.console.replies.len();
-    for records in transcript.records_after.iter() {
-        let came = kept_of(alloc, store, records)?;
-        compare_begun_records(alloc, records, &came, replies, begun)?;
+        compare_pool(alloc, store, records)?;
     }
     Ok(())
 }

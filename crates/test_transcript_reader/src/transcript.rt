@@ -1,4 +1,4 @@
-use crate::{Conversation, Each, PoolRecords};
+use crate::{Conversation, PoolRecords};
 use runners::RunnerAnswer;
 use std::alloc::{AllocError, Global};
 
@@ -79,8 +79,6 @@ pub struct Transcript {
     pub records_before: Vec<PoolRecords>,
     /// What the store keeps behind it.
     pub records_after: Vec<PoolRecords>,
-    /// What it is also repeated for.
-    pub each: Option<Each>,
     /// The status with which the program ends.
     pub status: u8,
 }
@@ -115,7 +113,6 @@ impl Transcript {
             keeper_fails: Vec::new(alloc),
             records_before: Vec::new(alloc),
             records_after: Vec::new(alloc),
-            each: None,
             status: 0,
         })
     }

@@ -6,8 +6,7 @@
 //! - 32 workers serve the requests of 128 connections over four pools, and each reply is compared with
 //!   the one that a single server gives at that point of the pool's log (`src/tests/many.rt`). The
 //!   single server has `ListPool`, the machine that scans lists;
-//! - two workers with a connection each answer both, and the summary has both tasks; where a call on one
-//!   of the connections fails, the other one is answered all the same;
+//! - two workers with a connection each answer both, and the summary has both tasks;
 //! - two connections that each wait for the other one are both answered (`src/tests/meeting.rt` has
 //!   their links).
 //!

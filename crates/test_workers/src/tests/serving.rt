@@ -34,34 +34,6 @@ fn input_of(alloc: Global, requests: &[Asked]) -> Result<Vec<u8>, AllocError> {
     Ok(input)
 }
 
-/// An acceptor to which one link comes, with these requests. Its calls that fail are those whose number
-/// stands in `fails`.
-fn acceptor_of_one(
-    alloc: Global,
-    requests: &[Asked],
-    fails: Vec<u64>,
-) -> Result<MemoryAcceptor, AllocError>
-    ensures { IfOk result (λ acceptor. IsGiven (⟦<MemoryAcceptor as Acceptor>⟧.state acceptor)) }
-{
-    let mut acceptor = MemoryAcceptor::new(alloc, Vec::new(alloc));
-    acceptor.add(alloc, input_of(alloc, requests)?, PIECE, fails)?;
-    Ok(acceptor)
-}
-
-/// A listener that has a link for each of two acceptors, of which the first one's call of this number
-/// fails.
-pub fn failing_listener(
-    alloc: Global,
-    failing: &[Asked],
-    whole: &[Asked],
-    number: u64,
-) -> Result<MemoryListener, AllocError> {
-    let mut listener = MemoryListener::new(alloc, Vec::new(alloc));
-    listener.add(acceptor_of_one(alloc, failing, vec![in alloc; number]?)?)?;
-    listener.add(acceptor_of_one(alloc, whole, Vec::new(alloc))?)?;
-    Ok(listener)
-}
-
 /// An acceptor to which these links come.
 fn acceptor_of(alloc: Global, links: &[Vec<Asked>]) -> Result<MemoryAcceptor, AllocError>
     ensures { IfOk result (λ acceptor. IsGiven (⟦<MemoryAcceptor as Acceptor>⟧.state acceptor)) }

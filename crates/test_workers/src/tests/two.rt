@@ -2,7 +2,7 @@
 
 use crate::tests::clients::{Asked, four_pools, new_task};
 use crate::tests::meeting::{MeetingAcceptor, MeetingListener};
-use crate::tests::serving::{failing_listener, listener_of, serve_links};
+use crate::tests::serving::{listener_of, serve_links};
 use drill_requests::Draws;
 use pool_summaries::summary;
 use std::alloc::{AllocError, Global};
@@ -50,51 +50,6 @@ fn two_tasks_of_one_pool(rt: HostRuntime) -> Result<(), Fail> {
         text.as_str(),
         "pool default entries 2 accepted 2\nPENDING 2\nRUNNING 0\nEXPIRED 0\nTIMED_OUT 0\nBOT_DIED 0\nCANCELED 0\nCOMPLETED 0\nKILLED 0\nNO_RESOURCE 0\n"
     );
-    Ok(())
-}
-
-/// How many tasks the pool of the open settings has, as its summary begins.
-fn has_tasks(text: &str, count: u32, alloc: Global) -> Result<bool, AllocError> {
-    let line = format!(in alloc; "pool default entries {count} accepted {count}\n")?;
-    Ok(text.as_bytes().starts_with(line.as_bytes()))
-}
-
-/// Each call on one link fails once: the other link has its reply, and so the failing one's task is
-/// made where anything was written of its reply.
-#[test]
-fn a_link_that_fails_beside_another(rt: HostRuntime) -> Result<(), Fail> {
-    let alloc = rt.alloc();
-    let settings = open_settings(alloc)?;
-    let requests = one_task(alloc, "default")?;
-    let wanted = [task_made(alloc, "10", 1)?, task_made(alloc, "20", 2)?];
-    let mut failed = 0;
-    for number in 0..64 {
-        let mut listener = failing_listener(alloc, &requests, &requests, number)?;
-        let (stop, machines) = serve_links(&rt, alloc, &settings, 2, &mut listener)?;
-        assert_eq!(rt; stop, WorkStop::NoMore);
-        let text = summary(alloc, settings.pools.as_slice(), &machines)?;
-        let mut has_failed = false;
-        for acceptor in listener.ended() {
-            for link in acceptor.served() {
-                let output = link.output();
-                if link.has_failed() {
-                    has_failed = true;
-                    assert!(rt; wanted.iter().any(|it| it.as_bytes().starts_with(output)));
-                    let is_made = has_tasks(text.as_str(), 2, alloc)?;
-                    assert!(rt;
-                        is_made || output.is_empty() && has_tasks(text.as_str(), 1, alloc)?
-                    );
-                } else {
-                    assert!(rt; wanted.iter().any(|it| it.as_bytes() == output));
-                }
-            }
-        }
-        if !has_failed {
-            break;
-        }
-        failed = number + 1;
-    }
-    assert!(rt; 0 < failed && failed < 64);
     Ok(())
 }
 
