@@ -41,7 +41,7 @@ key_tells x who uuid e = by_test (is_empty x.request.request_uuid) refl e
         record { not_empty = ap is_empty (sym under) ∙ t; by = ap (λ (p : List ℕ × List ℕ). p.0) both; under = under })
 
 -- and back
-key_from : (x : TaskRow) (who uuid : List ℕ) → IsKeyed x who uuid → sent_key x ≡ Some (who, uuid)
+pub key_from : (x : TaskRow) (who uuid : List ℕ) → IsKeyed x who uuid → sent_key x ≡ Some (who, uuid)
 key_from x who uuid f = rw (f.by, f.under, f.not_empty) refl
 
 -- such a row passes
@@ -49,24 +49,24 @@ keyed_passes : (x : TaskRow) (who uuid : List ℕ) → IsKeyed x who uuid → is
 keyed_passes x who uuid f = and_from (same x.creator who) (same x.request.request_uuid uuid) (is_same x.creator who f.by) (is_same x.request.request_uuid uuid f.under)
 
 -- and a row that passes is such
-passes_keyed : (x : TaskRow) (who uuid : List ℕ) → is_empty uuid ≡ false → is_sent who uuid x ≡ true → IsKeyed x who uuid
+pub passes_keyed : (x : TaskRow) (who uuid : List ℕ) → is_empty uuid ≡ false → is_sent who uuid x ≡ true → IsKeyed x who uuid
 passes_keyed x who uuid not_empty e =
     let both = and_parts (same x.creator who) (same x.request.request_uuid uuid) e in
     record { not_empty = not_empty; by = same_is x.creator who both.0; under = same_is x.request.request_uuid uuid both.1 }
 
 -- a uuid that is not empty is looked for
-sent_find : (s : PoolState) (who uuid : List ℕ) → is_empty uuid ≡ false → sent s who uuid ≡ find (is_sent who uuid) s.tasks
+pub sent_find : (s : PoolState) (who uuid : List ℕ) → is_empty uuid ≡ false → sent s who uuid ≡ find (is_sent who uuid) s.tasks
 sent_find s who uuid e = ap (λ (b : Bool). cond b None (find (is_sent who uuid) s.tasks)) e
 
 -- what an entry does to a key
 
 -- nothing
-key_same : (s : PoolState) (m : ℕ) (k : EntryKind) → IsSound s → Finds s k → (x : TaskRow) → Among x s.tasks → sent_key (task_after s m k x) ≡ sent_key x
+pub key_same : (s : PoolState) (m : ℕ) (k : EntryKind) → IsSound s → Finds s k → (x : TaskRow) → Among x s.tasks → sent_key (task_after s m k x) ≡ sent_key x
 key_same s m k o f x a =
     ap (λ (z : Origin). cond {A = Option (List ℕ × List ℕ)} (is_empty z.request.request_uuid) None (Some (z.creator, z.request.request_uuid))) (origin_same s m k o f x a)
 
 -- a key under which none is found is that of no row
-unsent_new : (s : PoolState) (who uuid : List ℕ) → sent s who uuid ≡ None → (x : TaskRow) → Among x s.tasks → (p : List ℕ × List ℕ) → IsKeyed x p.0 p.1 → who ≡ p.0 → uuid ≡ p.1 → ⊥
+pub unsent_new : (s : PoolState) (who uuid : List ℕ) → sent s who uuid ≡ None → (x : TaskRow) → Among x s.tasks → (p : List ℕ × List ℕ) → IsKeyed x p.0 p.1 → who ≡ p.0 → uuid ≡ p.1 → ⊥
 unsent_new s who uuid unsent x a p f by under =
     let not_empty : is_empty uuid ≡ false = ap is_empty under ∙ f.not_empty in
     let none : is_sent who uuid x ≡ false = find_none (is_sent who uuid) s.tasks (sym (sent_find s who uuid not_empty) ∙ unsent) x a in
