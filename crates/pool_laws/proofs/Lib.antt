@@ -19,7 +19,7 @@ pub mod BlobChanges
 pub mod Blobs
 pub mod Moments
 mod Limits
-mod Names
+pub mod Names
 pub mod Sound
 pub mod Alike
 pub mod EntryRequest

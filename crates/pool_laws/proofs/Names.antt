@@ -27,7 +27,7 @@ event_name m event.Quarantine text x = refl
 event_name m event.Unquarantine text x = refl
 
 -- nor does any entry
-name_same : (s : PoolState) (m : ℕ) (k : EntryKind) → IsSound s → Finds s k → IsFitting s k → (x : BotRow) → Among x s.bots → (bot_after m k x).name ≡ x.name
+pub name_same : (s : PoolState) (m : ℕ) (k : EntryKind) → IsSound s → Finds s k → IsFitting s k → (x : BotRow) → Among x s.bots → (bot_after m k x).name ≡ x.name
 name_same s m k o f g x a =
     bot_by (λ (y : BotRow). y.name ≡ x.name) s m o x a (record {
       same = refl;
@@ -70,7 +70,7 @@ added_one s m k x a y c = elim a [ ]
 
 module _ (s : PoolState) (o : IsSound s) where
   -- rows of a sound pool are apart
-  named_apart : (x : BotRow) → Among x s.bots → (y : BotRow) → Among y s.bots → AreNamedApart x y
+  pub named_apart : (x : BotRow) → Among x s.bots → (y : BotRow) → Among y s.bots → AreNamedApart x y
   named_apart x a y c = each (AreNamedApart x) s.bots (each (λ (z : BotRow). All (AreNamedApart z) s.bots) s.bots o.names x a) y c
 
   -- they stay so
