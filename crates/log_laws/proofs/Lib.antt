@@ -1,0 +1,3 @@
+mod Once
+mod Resent
+mod Own
