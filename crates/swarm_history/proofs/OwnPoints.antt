@@ -1,10 +1,11 @@
 -- The points of a log that nobody shares.
-use Rattle.std.proofs.Common.{◌≡◌, ◌≤◌, ℕ, Bool, true, false, List, [], ◌++◌, length, refl, Option, Some, None, Result, Ok, Err, IfOk, IfErr, subst, sym, ap, ◌∙◌, append-nil}
-use Rattle.std.specs.Prelude.{IsSomeAnd}
+use Rattle.std.proofs.Common.{◌≡◌, ◌≤◌, ℕ, Bool, true, false, List, [], ◌++◌, length, refl, Option, Some, None, Result, Ok, Err, IfOk, IfErr, arith, subst, sym, ap, ◌∙◌, append-nil}
+use Rattle.std.specs.Prelude.{IsErrOf, IsSomeAnd}
 use Rattle.std.specs.Bool.{OnTrue}
 use Rattle.std.specs.Option.{option_or, option_to_list}
 use Rattle.std.proofs.lemmas.List.{append_assoc}
 use Rattle.std.proofs.lemmas.List.Sums.{fold-append}
+use Rattle.sw_base.specs.Faults.{Rose}
 use Rattle.swarm_model.specs.declared.pool_settings.PoolSettings.{PoolSettings}
 use Rattle.swarm_model.specs.declared.pool_state.PoolState.{PoolState}
 use Rattle.swarm_model.specs.declared.entry.Entry.{Entry}
@@ -19,7 +20,8 @@ use Rattle.swarm_model.specs.Points.{is_ahead, Call, Growth, answer_to, LacksRoo
 use Rattle.swarm_model.specs.MachineState.{MachineState, IsHistory}
 use Rattle.pool_doors.specs.declared.door.Answered.{Answered}
 use Rattle.pool_doors.specs.declared.door.CallFault.{CallFault}
-use Rattle.pool_doors.specs.Doors.{ArePieces, is_log_full, IsPoolCall}
+use Rattle.pool_doors.specs.declared.door.CallFault.TheVariants as fault
+use Rattle.pool_doors.specs.Doors.{ArePieces, CountsKeeper, is_log_full, IsPoolCall}
 use Rattle.swarm_history.proofs.Refusals.{refused_adds_nothing}
 use Rattle.swarm_history.specs.Settling.{Settles, Responds, HasFrontAndPieces, IsPointAlone, IsOwnStop}
 
@@ -133,3 +135,8 @@ pub served_call : {start : Base} {call : Call} {old : List Entry} (new : Machine
     → (growth : Growth) × IsPoolCall start true call old new.log growth result
 served_call new (Ok answered) same point shows stop = (point.growth, answered_call point (told_front new answered same shows) shows.pieces)
 served_call new (Err fault) same point shows stop = (stop.growth, stopped_call stop)
+
+-- a desk whose keeper never fails stops by none
+pub never_fails : (result : Result Answered CallFault) → CountsKeeper result 0 0 → ¬ IsErrOf result fault.Keeper
+never_fails result counts = λ is.
+    let bad : Rose 0 0 = subst (λ (r : Result Answered CallFault). CountsKeeper r 0 0) is counts in absurd (omega (arith, bad))

@@ -35,6 +35,7 @@ mod plain_door;
 mod pool_call;
 mod serving;
 mod settling;
+mod unkept;
 
 pub use adding::add_entry;
 pub use checkpoint_fault::{CheckpointFault, CheckpointWhy};
@@ -44,3 +45,4 @@ pub use pieces::pieces_of;
 pub use plain_door::PlainDoor;
 pub use pool_call::PoolCall;
 pub use serving::serve;
+pub use unkept::serve_unkept;
