@@ -160,9 +160,6 @@ module _ (base : PoolState) (mid : List Entry) (o : IsSound base) (rows : AreBas
 pub calls_told : CallsAreTold
 calls_told start call old new growth answered o rows may h = by_ahead (is_ahead (front start (old ++ growth.others)) call.after) h.finds
   where
-    first : List Entry
-    first = old ++ growth.others
-
     mid : List Entry
     mid = (old ++ growth.others) ++ growth.settled
 

@@ -9,3 +9,4 @@ mod ToldRuns
 pub mod RunLaw
 pub mod CallLaw
 pub mod CheckedLaw
+mod Worked

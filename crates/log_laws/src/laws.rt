@@ -4,6 +4,7 @@ ghost use Rattle.log_laws.specs.Names.{NamesLast, NamesTellNumbers, NewNamesAreN
 ghost use Rattle.log_laws.specs.Replies.{ChunksAreTaken, RunsAreTold, UpdatesAreAsked};
 ghost use Rattle.log_laws.specs.Runs.{AttemptsAreTold};
 ghost use Rattle.log_laws.specs.Sent.{NewIsAsked, RepliesAreTold, SentBefore, SentOnce};
+ghost use Rattle.log_laws.specs.Worked.{LostTooLong, ReportedAgain};
 
 /// A log accepts at most one task of a caller under a uuid, and none where the base has one. A reply
 /// to a task under a uuid that the base has not tells the number of the one that the log accepted, by
@@ -53,4 +54,11 @@ pub fn calls_are_told()
 /// The properties of each slice of each task break no rule.
 pub fn properties_are_checked()
     ensures { PropertiesAreChecked }
+{}
+
+/// A bot that asks again after lost replies: its output is kept once however often it is reported, and
+/// so is its last report; and a claim whose answer is lost until the bot counts as silent is over.
+pub fn a_bot_asks_again()
+    ensures reported { ReportedAgain }
+    ensures lost { LostTooLong }
 {}
