@@ -151,9 +151,14 @@ module _ (pools : List PoolSettings) (starts : ℕ → Base) (logs : Logs) (firs
 pub pools_counted : {M : Type 0} (kept : M → MachineState) (machines : List M) → length (pools_of (map kept machines)) ≡ length machines
 pools_counted kept machines = length-map (map kept machines) (λ (m : MachineState). m.pool.settings) ∙ length-map machines kept
 
--- what was done of all that are lent was done of each
+-- what was done of those that are lent was done of each
+pub lent_begun : {M : Type 0} (kept : M → MachineState) (machines lent : List M) (place : ℕ) (old new : List (Option Tables)) → lent ≡ machines
+    → HaveBegunTo (map kept lent) place old new → HaveBegunTo (map kept machines) place old new
+lent_begun {M = M} kept machines lent place old new same begun = subst (λ (l : List M). HaveBegunTo (map kept l) place old new) same begun
+
+-- so it is of all
 pub all_begun : {M : Type 0} (kept : M → MachineState) (machines lent : List M) (old new : List (Option Tables)) → lent ≡ machines
     → HaveBegunTo (map kept lent) (length lent) old new → HaveBegunTo (map kept machines) (length (pools_of (map kept machines))) old new
-all_begun {M = M} kept machines lent old new same begun =
-    subst (λ (l : List M). HaveBegunTo (map kept l) (length (pools_of (map kept l))) old new) same
-    (subst (λ (n : ℕ). HaveBegunTo (map kept lent) n old new) (sym (pools_counted kept lent)) begun)
+all_begun kept machines lent old new same begun =
+    lent_begun kept machines lent (length (pools_of (map kept machines))) old new same
+    (subst (λ (n : ℕ). HaveBegunTo (map kept lent) n old new) (ap length same ∙ sym (pools_counted kept machines)) begun)

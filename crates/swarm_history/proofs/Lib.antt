@@ -1,4 +1,5 @@
 mod Additions
+mod Anew
 mod Bringing
 mod Checkpoints
 mod Filled

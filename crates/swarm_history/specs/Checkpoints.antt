@@ -1,5 +1,5 @@
 -- Records that begin anew from the rows to which their logs led.
-use Rattle.std.specs.Prelude.{◌≡◌, ◌≢◌, ℕ, ◌<◌, ◌≤◌, ◌^◌, List, ◌++◌, length, slice_get, slice_index_or, Option, Some, None, IfSome}
+use Rattle.std.specs.Prelude.{◌≡◌, ◌≢◌, ℕ, ◌<◌, ◌≤◌, ◌^◌, nat_lt, if◌then◌else◌, List, [], ◌++◌, length, slice_get, slice_index_or, Option, Some, None, IfSome}
 use Rattle.std.specs.Option.{option_map}
 use Rattle.swarm_keeper.specs.Tables.{Tables, replaced}
 use Rattle.swarm_model.specs.declared.pool_settings.PoolSettings.{PoolSettings}
@@ -12,6 +12,7 @@ use Rattle.base_lines.specs.Reading.{base_lines}
 use Rattle.pool_loading.specs.Records.{HasBase}
 use Rattle.pool_doors.specs.Doors.{Logs, DoorState}
 use Rattle.swarm_history.specs.Machines.{logs_of, pools_of, start_at, starts_of}
+use Rattle.swarm_history.specs.Records.{AreRestorable}
 
 -- the records, with the rows to which the log leads as their base, and without lines
 abbrev pub anew : Base → List Entry → Tables → Tables
@@ -47,6 +48,26 @@ pub record AreAnewTo (pools : List PoolSettings) (starts : ℕ → Base) (logs :
 -- so do those of a door's pools
 abbrev pub IsCheckpointed : DoorState → ℕ → List (Option Tables) → Type 0
 IsCheckpointed door place tables = AreAnewTo door.settings.pools door.writer.starts door.seen place door.records tables
+
+-- ---- what the next start finds
+
+-- a log begins anew from the rows to which it led, after as many entries
+abbrev pub base_anew : Base → List Entry → Base
+base_anew start log = record { rows = replay start.rows log; count = front start log }
+
+-- where the logs begin, once those before a place began anew
+abbrev pub starts_anew : ℕ → (ℕ → Base) → Logs → ℕ → Base
+starts_anew place starts logs p = if nat_lt p place then base_anew (starts p) (logs p) else starts p
+
+-- and what entries they have
+abbrev pub logs_anew : ℕ → Logs → Logs
+logs_anew place logs p = if nat_lt p place then [] else logs p
+
+-- the next start refuses none of the records, and finds in them what began anew before a place, and from there on what the door had
+abbrev pub LeavesRestorable : DoorState → ℕ → List (Option Tables) → Type 0
+LeavesRestorable door place tables = AreRestorable door.settings.pools tables (starts_anew place door.writer.starts door.seen) (logs_anew place door.seen)
+
+-- ---- where it stops
 
 -- more entries led to the rows of the pool at a place than may lead to a base
 abbrev pub IsCountFull : (ℕ → Base) → Logs → ℕ → Type 0

@@ -10,7 +10,7 @@ ghost use Rattle.swarm_model.specs.Settings.{are_settings};
 ghost use Rattle.pool_doors.specs.Doors.{base_told, IsPoolCall, IsFreshDoor, CountsKeeper};
 ghost use Rattle.pool_loading.specs.Records.{AreFilled};
 ghost use Rattle.swarm_history.specs.Calls.{call_of};
-ghost use Rattle.swarm_history.specs.Checkpoints.{IsCheckpointed, IsCountFull};
+ghost use Rattle.swarm_history.specs.Checkpoints.{IsCheckpointed, IsCountFull, LeavesRestorable};
 ghost use Rattle.swarm_history.specs.Machines.{logs_of, own_door, pools_of, start_at, starts_of};
 ghost use Rattle.swarm_history.specs.Records.{AreBasesOf, AreKept, AreRecordsOf, AreMachineRecords, AreRestorable, HoldsNoOthers, IsFirstBadRecord};
 ghost use Rattle.swarm_history.specs.OneProof.{are_records_one};
@@ -179,6 +179,10 @@ impl<M: Machine + Drop, K: Keeper + Drop> PlainDoor<M, K> {
         ensures err { IfErr result (λ back. IsCheckpointed (⟦<PlainDoor<M, K> as Door>⟧.state self) back.0.place (map K.tables back.1.items)) }
         ensures place { IfErr result (λ back. back.0.place < length (⟦<PlainDoor<M, K> as Door>⟧.state self).settings.pools) }
 
+        // The next start goes on from what is left, also where it stops.
+        ensures restores { IfOk result (λ keepers. LeavesRestorable (⟦<PlainDoor<M, K> as Door>⟧.state self) (length (⟦<PlainDoor<M, K> as Door>⟧.state self).settings.pools) (map K.tables keepers.items)) }
+        ensures restores_back { IfErr result (λ back. LeavesRestorable (⟦<PlainDoor<M, K> as Door>⟧.state self) back.0.place (map K.tables back.1.items)) }
+
         // It stops for the count exactly where more than 2^31 entries led to the rows of the pool.
         ensures full { IfErr result (λ back. (back.0.why ≡ CheckpointWhy.CountFull) ↔ IsCountFull (⟦<PlainDoor<M, K> as Door>⟧.state self).writer.starts (⟦<PlainDoor<M, K> as Door>⟧.state self).seen back.0.place) }
 
@@ -196,7 +200,10 @@ impl<M: Machine + Drop, K: Keeper + Drop> PlainDoor<M, K> {
             mut keepers,
             calls: _,
         } = self;
-        match begin_all_anew(alloc, machines.as_slice(), &mut keepers) {
+        let all = machines.as_slice();
+        // For the proof: the log that each machine keeps is legal.
+        see_histories(all);
+        match begin_all_anew(alloc, all, &mut keepers) {
             Ok(()) => Ok(keepers),
             Err(fault) => Err((fault, keepers)),
         }

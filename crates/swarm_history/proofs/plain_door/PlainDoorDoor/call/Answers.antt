@@ -1,5 +1,5 @@
 -- The machine at the place answers, over its keeper.
-use Rattle.std.proofs.Common.{arith, map, length, sym, ◌∙◌, set}
+use Rattle.std.proofs.Common.{arith, map, sym, ◌∙◌, set}
 use Rattle.std.specs.Prelude.{IsTrue}
 use Rattle.std.specs.List.{sum_by}
 use Rattle.std.proofs.lemmas.List.{length-map, length-set}
