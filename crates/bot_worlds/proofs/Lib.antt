@@ -1,0 +1,13 @@
+pub mod Walks
+pub mod Repeating
+pub mod Requests
+pub mod ClaimNames
+pub mod Grown
+pub mod Parts
+pub mod Sending
+pub mod Feeding
+pub mod Logs
+pub mod Tries
+pub mod Calls
+pub mod Turning
+pub mod Standing
