@@ -9,8 +9,9 @@
 //! command wrote, and all of it where the last report drops nothing; and a command is started at most
 //! once for a claim, and only for a claim that the log holds (`specs/TwoEnds.antt`).
 //!
-//! The crate has no code that runs; `two_ends` has the world as code. It stands on `bot_core`,
-//! `swarm_model`, `refusal_codes`, `bot_requests` and `reply_bodies`, for their definitions.
+//! The crate has no code that runs. It stands on `bot_core`, `swarm_model`, `refusal_codes`,
+//! `bot_requests` and `reply_bodies` for their definitions, and on `log_laws` and `pool_laws` for what
+//! a log tells of a bot.
 #![tactic(auto)]
 
 mod child_run;
