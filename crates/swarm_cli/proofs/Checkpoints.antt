@@ -15,7 +15,7 @@ use Rattle.swarm_model.specs.declared.pool_settings.PoolSettings.{PoolSettings}
 use Rattle.swarm_model.specs.Bases.{Base, front}
 use Rattle.pool_doors.specs.Doors.{DoorState, Logs, IsFreshDoor}
 use Rattle.swarm_history.specs.Records.{AreBasesOf, AreKept, TellsStart}
-use Rattle.swarm_history.specs.Checkpoints.{BeginsAnew, IsCheckpointed, IsCountFull, anew, told_at}
+use Rattle.swarm_history.specs.Checkpoints.{BeginsAnew, IsCheckpointed, IsCountFull, LeavesRestorable, anew, told_at}
 use Rattle.swarm_history.specs.declared.checkpoint_fault.CheckpointFault.{CheckpointFault}
 use Rattle.swarm_history.specs.declared.checkpoint_fault.CheckpointWhy.{CheckpointWhy}
 use Rattle.swarm_history.specs.declared.checkpoint_fault.CheckpointWhy.TheVariants as why
@@ -44,18 +44,23 @@ made_of {settings = settings} before door fresh bases lines are =
 
 -- all records begin anew
 pub ends_made : {settings : Settings} {before after : List (Option Tables)} {text : List ℕ} (door : DoorState) (pools : List PoolSettings) → IsMadeOf settings before door → IsCheckpointed door (length door.settings.pools) after
-    → pools ≡ settings.pools → text ≡ fronts_of pools door.writer.starts door.seen → EndsMade settings before after text
-ends_made {after = after} door pools made anew same told = record {
-  makes = record { door = door; made_of = made; makes = subst (λ (s : Settings). IsCheckpointed door (length s.pools) after) made.fresh_door.settings_are anew };
+    → LeavesRestorable door (length door.settings.pools) after → pools ≡ settings.pools → text ≡ fronts_of pools door.writer.starts door.seen → EndsMade settings before after text
+ends_made {after = after} door pools made anew restorable same told = record {
+  makes = record {
+    door = door;
+    made_of = made;
+    makes = subst (λ (s : Settings). IsCheckpointed door (length s.pools) after) made.fresh_door.settings_are anew;
+    restorable = subst (λ (s : Settings). LeavesRestorable door (length s.pools) after) made.fresh_door.settings_are restorable;
+  };
   text_is = told ∙ ap (λ (l : List PoolSettings). fronts_of l door.writer.starts door.seen) same;
 }
 
 -- those before the place of a fault do
 pub ends_stopped : {settings : Settings} {before after : List (Option Tables)} {m n : ℕ} (door : DoorState) (fault : CheckpointFault) → IsMadeOf settings before door → IsCheckpointed door fault.place after
-    → fault.place < length door.settings.pools → (fault.why ≡ why.CountFull → IsCountFull door.writer.starts door.seen fault.place) → (fault.why ≡ why.Keeper → Rose m n)
+    → LeavesRestorable door fault.place after → fault.place < length door.settings.pools → (fault.why ≡ why.CountFull → IsCountFull door.writer.starts door.seen fault.place) → (fault.why ≡ why.Keeper → Rose m n)
     → EndsStopped settings before after m n fault
-ends_stopped door fault made anew inside full rose = record {
-  makes = record { door = door; made_of = made; makes = anew };
+ends_stopped door fault made anew restorable inside full rose = record {
+  makes = record { door = door; made_of = made; makes = anew; restorable = restorable };
   inside = subst (λ (s : Settings). fault.place < length s.pools) made.fresh_door.settings_are inside;
   failed = rose;
   too_long = full;

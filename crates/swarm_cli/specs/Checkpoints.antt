@@ -13,7 +13,7 @@ use Rattle.pool_doors.specs.Doors.{DoorState, IsFreshDoor}
 use Rattle.pool_loading.specs.Records.{AreLinesOf}
 use Rattle.pool_summaries.specs.Summaries.{fronts_of}
 use Rattle.swarm_history.specs.Records.{AreKept, AreBasesOf, TellsStart, IsFirstBadRecord}
-use Rattle.swarm_history.specs.Checkpoints.{IsCheckpointed, anew}
+use Rattle.swarm_history.specs.Checkpoints.{IsCheckpointed, LeavesRestorable, anew}
 use Rattle.swarm_history.specs.declared.load_fault.LoadFault.{LoadFault}
 use Rattle.swarm_history.specs.declared.load_fault.LoadFault.TheVariants as load
 use Rattle.swarm_history.specs.declared.checkpoint_fault.CheckpointFault.{CheckpointFault}
@@ -35,11 +35,13 @@ pub record IsMadeOf (settings : Settings) (records : List (Option Tables)) (door
   pub records_are : door.records ≡ records
 
 -- A door was made of the pools' records, and those of the pools before a place were made to begin anew: from the rows for
--- which they stood, after as many entries as there were. The others are as they were.
+-- which they stood, after as many entries as there were. The others are as they were. The next start refuses none of them, and
+-- finds in them these rows and no entries, and in the others what the door had.
 pub record MakesAnew (settings : Settings) (place : ℕ) (records_before records_after : List (Option Tables)) : Type 0 where
   pub door : DoorState
   pub made_of : IsMadeOf settings records_before door
   pub makes : IsCheckpointed door place records_after
+  pub restorable : LeavesRestorable door place records_after
 
 -- so it is with all of them, and the text tells the front of each pool and how many tasks it has
 pub record EndsMade (settings : Settings) (records_before records_after : List (Option Tables)) (text : List ℕ) : Type 0 where
