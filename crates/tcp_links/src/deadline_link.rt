@@ -1,4 +1,5 @@
-ghost use Rattle.std.specs.Prelude.{◌≡◌, ◌+◌};
+ghost use Rattle.std.specs.Prelude.{◌≡◌, ◌+◌, if◌then◌else◌, MatchOption, Some, None};
+ghost use Rattle.tcp_links.specs.Endings.{has_fault};
 
 use crate::{HasFailed, LimitedReads, Limits, LinkEnding};
 use std::net::SocketAddr;
@@ -51,17 +52,23 @@ impl<'a, L: LimitedReads + Drop, T: rt::Clock> DeadlineLink<'a, L, T> {
         }
     }
 
-    pub(crate) fn peer(&self) -> SocketAddr {
+    pub(crate) fn peer(&self) -> SocketAddr
+        ensures { result ≡ self.now.peer }
+    {
         self.peer
     }
 
     /// How many flushes succeeded: of a server's link these are its replies.
-    pub(crate) fn flushes(&self) -> u64 {
+    pub(crate) fn flushes(&self) -> u64
+        ensures { result ≡ self.now.flushes }
+    {
         self.flushes
     }
 
     /// The link in it, if no call came late.
-    pub(crate) fn into_link_in_time(self) -> Option<L> {
+    pub(crate) fn into_link_in_time(self) -> Option<L>
+        ensures { result ≡ (if has_fault self.entry.late_reads self.entry.late_writes then None else Some self.entry.link) }
+    {
         if self.late_reads > 0 || self.late_writes > 0 {
             return None;
         }
@@ -80,7 +87,9 @@ impl<'a, L: LimitedReads + Drop, T: rt::Clock> DeadlineLink<'a, L, T> {
     }
 
     /// How long a read that begins now may wait.
-    fn wait_now(&self) -> Duration {
+    fn wait_now(&self) -> Duration
+        ensures { MatchOption self.now.begun (result ≡ self.now.limits.idle) (λ _. result ≡ self.now.limits.call) }
+    {
         match self.begun {
             Some(_) => self.limits.call,
             None => self.limits.idle,
@@ -114,6 +123,10 @@ fn begin<T: rt::Clock>(begun: Option<Instant>, time: &T) -> Option<Instant> {
 }
 
 impl<'a, L: LimitedReads + Drop, T: rt::Clock> HasFailed for DeadlineLink<'a, L, T> {
+    ghost use Rattle.tcp_links.specs.declared.link_ending.LinkEnding.TheVariants.{TimeLimit};
+
+    ghost ending = { λ d. if has_fault d.late_reads d.late_writes then TimeLimit else L.ending d.link };
+
     fn has_failed(&self) -> bool {
         self.late_reads > 0 || self.late_writes > 0 || self.link.has_failed()
     }

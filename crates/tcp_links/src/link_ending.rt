@@ -1,3 +1,6 @@
+ghost use Rattle.std.specs.Prelude.{◌≡◌};
+ghost use Rattle.tcp_links.specs.Endings.{how_ended};
+
 use std::io;
 use std::io::ErrorKind;
 
@@ -15,11 +18,18 @@ pub enum LinkEnding {
 }
 
 impl LinkEnding {
-    /// That by a call that failed. Where a limit of time was over, the system has an error for it.
-    pub fn of_error(error: io::Error) -> LinkEnding {
-        match error.kind() {
-            ErrorKind::WouldBlock | ErrorKind::TimedOut => LinkEnding::TimeLimit,
-            _ => LinkEnding::Failed(error),
+    /// That of a link by the error of its last call that failed, if one did, and by whether a read of it
+    /// found the end. Where a limit of time was over, the system has an error for it.
+    pub fn of(error: Option<io::Error>, at_end: bool) -> LinkEnding
+        ensures { result ≡ how_ended error at_end }
+    {
+        match error {
+            Some(error) => match error.kind() {
+                ErrorKind::WouldBlock | ErrorKind::TimedOut => LinkEnding::TimeLimit,
+                _ => LinkEnding::Failed(error),
+            },
+            None if at_end => LinkEnding::OtherSide,
+            None => LinkEnding::ThisSide,
         }
     }
 }

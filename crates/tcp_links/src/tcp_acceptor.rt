@@ -1,5 +1,6 @@
 ghost use Rattle.std.specs.Prelude.{◌≡◌, All, IfOk, length, None};
 ghost use Rattle.sw_base.specs.Link.{opened};
+ghost use Rattle.tcp_links.specs.Endings.{may_retry as spec_may_retry};
 
 use crate::closing::close;
 use crate::limits::set_limits;
@@ -63,7 +64,9 @@ pub fn acceptors<'a, T: rt::Clock + Log>(
 
 /// Whether an accept may be made again: a signal interrupted it, or it met a connection that is gone
 /// already, whose error it tells.
-fn may_retry(kind: ErrorKind) -> bool {
+fn may_retry(kind: ErrorKind) -> bool
+    ensures { result ≡ spec_may_retry kind }
+{
     matches!(
         kind,
         ErrorKind::Interrupted

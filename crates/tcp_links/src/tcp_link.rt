@@ -1,6 +1,7 @@
-ghost use Rattle.std.specs.Prelude.{◌≡◌, ◌≤◌, ◌<◌, ◌↔◌, ◌∷◌, [], IfOk, IsErr, IsTrue, IsFalse, length, take, None};
+ghost use Rattle.std.specs.Prelude.{◌≡◌, ◌≤◌, ◌<◌, ◌↔◌, ◌∷◌, [], ◌||◌, if◌then◌else◌, IfOk, IsErr, IsTrue, IsFalse, length, take, None};
 ghost use Rattle.std.specs.Io.KnownBytes.{ReadConsumes, WriteAppends};
 ghost use Rattle.sw_base.specs.Link.{LinkState, opened};
+ghost use Rattle.tcp_links.specs.Endings.{has_fault, how_ended};
 
 use crate::{HasFailed, LimitedReads, LimitedStream, LinkEnding};
 use std::io;
@@ -86,7 +87,9 @@ impl<R: Read + Drop, W: Write + Drop> TcpLink<R, W> {
 
     /// The half that reads, where its peer may have sent more than was read and still awaits the last
     /// reply.
-    pub(crate) fn into_unfinished(self) -> Option<R> {
+    pub(crate) fn into_unfinished(self) -> Option<R>
+        ensures { result ≡ (if self.at_end || has_fault self.read_faults self.write_faults then None else Some self.reader) }
+    {
         if self.at_end || self.has_failed() {
             return None;
         }
@@ -95,16 +98,14 @@ impl<R: Read + Drop, W: Write + Drop> TcpLink<R, W> {
 }
 
 impl<R: Read + Drop, W: Write + Drop> HasFailed for TcpLink<R, W> {
+    ghost ending = { λ l. how_ended l.error l.at_end };
+
     fn has_failed(&self) -> bool {
         self.read_faults > 0 || self.write_faults > 0
     }
 
     fn ending(&self) -> LinkEnding {
-        match self.error {
-            Some(error) => LinkEnding::of_error(error),
-            None if self.at_end => LinkEnding::OtherSide,
-            None => LinkEnding::ThisSide,
-        }
+        LinkEnding::of(self.error, self.at_end)
     }
 }
 
