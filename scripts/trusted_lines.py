@@ -90,6 +90,7 @@ EDGE = [
     "crates/run_folders/src/work_folder.rt",
     "crates/run_folders/src/caches.rt",
     "crates/run_folders/src/paths.rt",
+    "crates/run_folders/src/found.rt",
     "crates/run_folders/src/tools.rt",
 ]
 SCRIPTS = ["swarm", "scripts/build.py"]
@@ -141,11 +142,16 @@ TOLD = {
         "impl<L: Link + Drop> Link for LoggedLink<L>",
     ],
     "crates/tcp_links/src/limits.rt": ["struct Limits", "fn of_server", "fn of_client", "fn idle_secs"],
+    "crates/run_folders/src/found.rt": ["fn found"],
+    "crates/run_folders/src/tools.rt": ["fn tool_command"],
     "crates/run_folders/src/paths.rt": [
         "fn is_slash",
         "fn has_slash",
         "fn names_nothing",
         "fn is_name",
+        "fn path_below",
+        "fn path_of_name",
+        "fn path_inside",
         "fn has_nothing",
         "fn is_below",
         "fn is_env_byte",

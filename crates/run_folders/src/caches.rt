@@ -4,23 +4,16 @@
 //! One cache may lie in another. So the outer ones are moved in first, and moved back last.
 ghost use Rattle.std.specs.Prelude.{◌≡◌, IfOk, length};
 
-use crate::paths::{depth, is_name};
+use crate::found::found;
+use crate::paths::{depth, path_of_name};
 use crate::tools::{folder_size, unlock_folder};
-use crate::work_folder::{has_folder, make_parents, remove_folder};
+use crate::work_folder::{find_place, is_folder, make_place, remove_folder};
 use dimensions::{Seq, Text};
 use runners::{CachePath, PreparedCache};
 use std::io::ErrorKind;
 use std::process::Processes;
 use std::rt::Files;
 use std::{fs, io};
-
-/// The path of a kept cache.
-fn cache_folder<R: AllocGlobal>(rt: &R, kept: &str, name: &str) -> io::Result<String> {
-    if !is_name(name) {
-        return Err(io::Error::from(ErrorKind::InvalidInput));
-    }
-    Ok(format!(in rt.alloc(); "{kept}/{name}")?)
-}
 
 /// Moves a folder. Where it or the folder around it may not be written to, `around` is made writable.
 fn move_folder<R: Files + Processes + AllocGlobal>(
@@ -39,9 +32,8 @@ fn move_folder<R: Files + Processes + AllocGlobal>(
 
 /// Removes what stands at a path, be it a folder, a file or a link.
 fn clear_place<R: Files + Processes + AllocGlobal>(rt: &R, name: &str) -> io::Result<()> {
-    match fs::remove_file(rt, name) {
-        Ok(()) => Ok(()),
-        Err(error) if error.kind() == ErrorKind::NotFound => Ok(()),
+    match found(fs::remove_file(rt, name)) {
+        Ok(_) => Ok(()),
         Err(_) => remove_folder(rt, name),
     }
 }
@@ -54,19 +46,15 @@ fn move_in<R: Files + Processes + AllocGlobal>(
     work: &str,
     cache: &PreparedCache,
 ) -> io::Result<()> {
-    let path = cache.path.as_str();
-    make_parents(rt, work, path)?;
-    let from = cache_folder(rt, kept, cache.name.as_str())?;
-    let to = format!(in rt.alloc(); "{work}/{path}")?;
-    clear_place(rt, to.as_str())?;
+    let from = path_of_name(rt.alloc(), kept, cache.name.as_str())?;
+    let place = make_place(rt, work, cache.path.as_str())?;
+    clear_place(rt, place.as_str())?;
     if !cache.is_kept {
         remove_folder(rt, from.as_str())?;
-        return fs::create_dir(rt, to.as_str());
+    } else if found(move_folder(rt, from.as_str(), place.as_str(), from.as_str()))?.is_some() {
+        return Ok(());
     }
-    match move_folder(rt, from.as_str(), to.as_str(), from.as_str()) {
-        Err(error) if error.kind() == ErrorKind::NotFound => fs::create_dir(rt, to.as_str()),
-        moved => moved,
-    }
+    fs::create_dir(rt, place.as_str())
 }
 
 /// Moves the caches of a run to their paths.
@@ -94,14 +82,14 @@ fn move_back<R: Files + Processes + AllocGlobal>(
     work: &str,
     cache: &CachePath,
 ) -> io::Result<()> {
-    let path = cache.path.as_str();
-    if !has_folder(rt, work, path).unwrap_or(false) {
-        return Ok(());
+    if let Ok(Some(from)) = find_place(rt, work, cache.path.as_str())
+        && let Ok(true) = is_folder(rt, from.as_str())
+    {
+        let to = path_of_name(rt.alloc(), kept, cache.name.as_str())?;
+        remove_folder(rt, to.as_str())?;
+        move_folder(rt, from.as_str(), to.as_str(), work)?;
     }
-    let to = cache_folder(rt, kept, cache.name.as_str())?;
-    let from = format!(in rt.alloc(); "{work}/{path}")?;
-    remove_folder(rt, to.as_str())?;
-    move_folder(rt, from.as_str(), to.as_str(), work)
+    Ok(())
 }
 
 /// Moves the caches of a run back from its work folder.
@@ -132,8 +120,8 @@ pub fn cache_sizes<R: Files + Processes + AllocGlobal>(
 {
     let mut sizes = Seq::new(rt.alloc());
     for cache in caches {
-        let folder = cache_folder(rt, kept, cache.name.as_str())?;
-        if !has_folder(rt, kept, cache.name.as_str())? {
+        let folder = path_of_name(rt.alloc(), kept, cache.name.as_str())?;
+        if !is_folder(rt, folder.as_str())? {
             fs::create_dir(rt, folder.as_str())?;
         }
         let size = folder_size(rt, folder.as_str())?;
@@ -153,7 +141,7 @@ pub fn keep_caches<R: Files + Processes + AllocGlobal + Clone + Drop>(
     for entry in fs::read_dir(rt, kept)? {
         let entry = entry?;
         if !names.iter().any(|name| name.as_str() == entry.file_name()) {
-            let folder = cache_folder(rt, kept, entry.file_name())?;
+            let folder = path_of_name(rt.alloc(), kept, entry.file_name())?;
             remove_folder(rt, folder.as_str())?;
         }
     }

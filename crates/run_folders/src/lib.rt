@@ -10,11 +10,12 @@
 #![tactic(auto)]
 
 mod caches;
+mod found;
 mod paths;
 mod tools;
 mod work_folder;
 
 pub use caches::{cache_sizes, keep_caches, move_all_back, move_all_in};
-pub use paths::{is_env_key, is_name};
+pub use paths::{is_env_key, is_name, path_below, path_of_name};
 pub use tools::{await_group, signal_group};
 pub use work_folder::{read_file, read_output, remove_folder, write_input};

@@ -1,9 +1,13 @@
 //! Names and paths that lead nowhere else.
-ghost use Rattle.std.specs.Prelude.{◌≡◌, not};
+ghost use Rattle.std.specs.Prelude.{◌≡◌, IfOk, IsTrue, not, string_bytes};
 ghost use Rattle.std.specs.List.{list_any, list_all};
 ghost use Rattle.task_props.specs.Paths.{is_slash as spec_is_slash, names_nothing as spec_names_nothing, parts};
 ghost use Rattle.task_props.specs.ItemRules.{is_env_byte as spec_is_env_byte};
-ghost use Rattle.run_folders.specs.Names.{is_name as spec_is_name, is_env_key as spec_is_env_key};
+ghost use Rattle.run_folders.specs.Names.{is_name as spec_is_name, is_env_key as spec_is_env_key, below};
+
+use std::alloc::{AllocError, Global};
+use std::io;
+use std::io::ErrorKind;
 
 fn is_slash(byte: u8) -> bool
     ensures { result ≡ spec_is_slash byte }
@@ -42,6 +46,43 @@ pub(crate) fn is_below(path: &str) -> bool
     ensures { result ≡ not (list_any spec_names_nothing (parts path.now)) }
 {
     !has_nothing(path.as_bytes())
+}
+
+/// The path of what has a name, or a path, in a folder.
+pub fn path_below(alloc: Global, folder: &str, name: &str) -> Result<String, AllocError>
+    ensures { IfOk result (λ path. string_bytes path ≡ below folder.now name.now) }
+{
+    format!(in alloc; "{folder}/{name}")
+}
+
+/// The path of what stands in a folder itself, and nowhere else.
+///
+/// # Errors
+///
+/// It is no name.
+pub fn path_of_name(alloc: Global, folder: &str, name: &str) -> io::Result<String>
+    ensures named { IfOk result (λ _. IsTrue (spec_is_name name.now)) }
+    ensures path { IfOk result (λ path. string_bytes path ≡ below folder.now name.now) }
+{
+    if !is_name(name) {
+        return Err(io::Error::from(ErrorKind::InvalidInput));
+    }
+    Ok(path_below(alloc, folder, name)?)
+}
+
+/// The path of what stands below a folder, by its path there.
+///
+/// # Errors
+///
+/// A part of the path is no name, so that it may lead elsewhere.
+pub(crate) fn path_inside(alloc: Global, folder: &str, path: &str) -> io::Result<String>
+    ensures inside { IfOk result (λ _. IsTrue (not (list_any spec_names_nothing (parts path.now)))) }
+    ensures path { IfOk result (λ found. string_bytes found ≡ below folder.now path.now) }
+{
+    if !is_below(path) {
+        return Err(io::Error::from(ErrorKind::InvalidInput));
+    }
+    Ok(path_below(alloc, folder, path)?)
 }
 
 /// How many folders stand above a path.

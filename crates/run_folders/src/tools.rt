@@ -1,4 +1,8 @@
 //! The programs of the system that a runner uses. Each is given 300 seconds, so no call waits forever.
+ghost use Rattle.std.specs.Prelude.{IfOk, map};
+ghost use Rattle.run_folders.specs.Tools.{IsTool};
+
+use std::alloc::{AllocError, Global};
 use std::io;
 use std::io::ErrorKind;
 use std::process::{Command, Output, Processes, Stdio};
@@ -10,13 +14,23 @@ const SIGNAL: &str = "kill -s \"$1\" -- \"-$2\"";
 const AWAIT: &str = "for turn in 1 2 3 4 5 6 7 8 9 10; do \
      kill -s 0 -- \"-$1\" || exit 0; sleep 0.1; done";
 
-/// Runs a program with its arguments to its end.
-fn run_tool<R: Processes + AllocGlobal>(rt: &R, words: &[&str]) -> io::Result<Output> {
-    let mut tool = Command::new(rt.alloc(), "timeout")?;
-    tool.arg("-s")?.arg("KILL")?.arg("300")?;
+/// The command that runs a program with its arguments for 300 seconds at most.
+fn tool_command(alloc: Global, words: &[&str]) -> Result<Command, AllocError>
+    ensures { IfOk result (IsTool (map (λ word. word.now) words.now)) }
+{
+    let mut tool = Command::new(alloc, "timeout")?;
+    tool.arg("-s")?;
+    tool.arg("KILL")?;
+    tool.arg("300")?;
     for word in words {
         tool.arg(*word)?;
     }
+    Ok(tool)
+}
+
+/// Runs a program with its arguments to its end.
+fn run_tool<R: Processes + AllocGlobal>(rt: &R, words: &[&str]) -> io::Result<Output> {
+    let mut tool = tool_command(rt.alloc(), words)?;
     tool.stdin(Stdio::null()).stderr(Stdio::null()).output(rt)
 }
 

@@ -1,5 +1,6 @@
 //! The files of a work folder. No path of it goes through a symbolic link.
-use crate::paths::is_below;
+use crate::found::found;
+use crate::paths::{path_below, path_inside};
 use crate::tools::unlock_folder;
 use dimensions::Seq;
 use std::fs::{OpenFile, OpenOptions};
@@ -8,66 +9,52 @@ use std::process::Processes;
 use std::rt::Files;
 use std::{fs, io};
 
-/// Makes the folders above a path of a folder, where they aren't there.
-pub(crate) fn make_parents<R: Files + AllocGlobal>(
-    rt: &R,
-    work: &str,
-    path: &str,
-) -> io::Result<()> {
-    if !is_below(path) {
-        return Err(io::Error::from(ErrorKind::InvalidInput));
-    }
-    for (at, _) in path.match_indices('/') {
-        let folder = format!(in rt.alloc(); "{work}/{}", &path[..at])?;
-        match fs::create_dir(rt, folder.as_str()) {
-            Ok(()) => {}
-            Err(error) if error.kind() == ErrorKind::AlreadyExists => {
-                if !fs::symlink_metadata(rt, folder.as_str())?.is_dir() {
-                    return Err(io::Error::from(ErrorKind::NotADirectory));
-                }
-            }
-            Err(error) => return Err(error),
-        }
-    }
-    Ok(())
-}
-
-/// Whether all folders above a path of a folder are there.
+/// Whether a folder stands at a path.
 ///
 /// # Errors
 ///
-/// One of them is no folder, but a file or a link.
-fn has_parents<R: Files + AllocGlobal>(rt: &R, work: &str, path: &str) -> io::Result<bool> {
-    if !is_below(path) {
-        return Err(io::Error::from(ErrorKind::InvalidInput));
+/// What is there is no folder, but a file or a link.
+pub(crate) fn is_folder<R: Files>(rt: &R, path: &str) -> io::Result<bool> {
+    match found(fs::symlink_metadata(rt, path))? {
+        Some(data) if !data.is_dir() => Err(io::Error::from(ErrorKind::NotADirectory)),
+        data => Ok(data.is_some()),
     }
-    for (at, _) in path.match_indices('/') {
-        let folder = format!(in rt.alloc(); "{work}/{}", &path[..at])?;
-        match fs::symlink_metadata(rt, folder.as_str()) {
-            Ok(data) if data.is_dir() => {}
-            Ok(_) => return Err(io::Error::from(ErrorKind::NotADirectory)),
-            Err(error) if error.kind() == ErrorKind::NotFound => return Ok(false),
-            Err(error) => return Err(error),
-        }
-    }
-    Ok(true)
 }
 
-/// Whether a folder stands at a path of a folder, and none of the way to it is a link.
-pub(crate) fn has_folder<R: Files + AllocGlobal>(
+/// The place of a path in a folder. The folders above it are made where they aren't there.
+///
+/// # Errors
+///
+/// The path may lead elsewhere, or one of these is no folder, but a file or a link.
+pub(crate) fn make_place<R: Files + AllocGlobal>(
     rt: &R,
-    work: &str,
+    folder: &str,
     path: &str,
-) -> io::Result<bool> {
-    if !has_parents(rt, work, path)? {
-        return Ok(false);
+) -> io::Result<String> {
+    let place = path_inside(rt.alloc(), folder, path)?;
+    for (at, _) in path.match_indices('/') {
+        let parent = path_below(rt.alloc(), folder, &path[..at])?;
+        if !is_folder(rt, parent.as_str())? {
+            fs::create_dir(rt, parent.as_str())?;
+        }
     }
-    let name = format!(in rt.alloc(); "{work}/{path}")?;
-    match fs::symlink_metadata(rt, name.as_str()) {
-        Ok(data) => Ok(data.is_dir()),
-        Err(error) if error.kind() == ErrorKind::NotFound => Ok(false),
-        Err(error) => Err(error),
+    Ok(place)
+}
+
+/// The place of a path in a folder, where all folders above it are there. It fails as `make_place` does.
+pub(crate) fn find_place<R: Files + AllocGlobal>(
+    rt: &R,
+    folder: &str,
+    path: &str,
+) -> io::Result<Option<String>> {
+    let place = path_inside(rt.alloc(), folder, path)?;
+    for (at, _) in path.match_indices('/') {
+        let parent = path_below(rt.alloc(), folder, &path[..at])?;
+        if !is_folder(rt, parent.as_str())? {
+            return Ok(None);
+        }
     }
+    Ok(Some(place))
 }
 
 /// Writes a file, in place of a file or a link that is there.
@@ -77,17 +64,12 @@ pub fn write_input<R: Files + AllocGlobal>(
     path: &str,
     bytes: &[u8],
 ) -> io::Result<()> {
-    make_parents(rt, work, path)?;
-    let name = format!(in rt.alloc(); "{work}/{path}")?;
-    match fs::remove_file(rt, name.as_str()) {
-        Ok(()) => {}
-        Err(error) if error.kind() == ErrorKind::NotFound => {}
-        Err(error) => return Err(error),
-    }
+    let place = make_place(rt, work, path)?;
+    found(fs::remove_file(rt, place.as_str()))?;
     let mut file = OpenOptions::new()
         .write(true)
         .create_new(true)
-        .open(rt, name.as_str())?;
+        .open(rt, place.as_str())?;
     file.write_all(bytes)
 }
 
@@ -102,11 +84,10 @@ pub fn read_file<R: Files + AllocGlobal>(
     most: u64,
 ) -> io::Result<Option<Vec<u8>>> {
     // A pipe would hold up its opening.
-    match fs::symlink_metadata(rt, name) {
-        Ok(data) if data.is_file() => {}
-        Ok(_) => return Err(io::Error::from(ErrorKind::InvalidInput)),
-        Err(error) if error.kind() == ErrorKind::NotFound => return Ok(None),
-        Err(error) => return Err(error),
+    match found(fs::symlink_metadata(rt, name))? {
+        Some(data) if data.is_file() => {}
+        Some(_) => return Err(io::Error::from(ErrorKind::InvalidInput)),
+        None => return Ok(None),
     }
     let mut bytes = Vec::new(rt.alloc());
     let file = fs::open(rt, name)?;
@@ -121,19 +102,16 @@ pub fn read_output<R: Files + AllocGlobal>(
     path: &str,
     most: u64,
 ) -> io::Result<Option<Seq<u8>>> {
-    if !has_parents(rt, work, path)? {
-        return Ok(None);
+    match find_place(rt, work, path)? {
+        Some(place) => Ok(read_file(rt, place.as_str(), most)?.map(Seq::from_vec)),
+        None => Ok(None),
     }
-    let name = format!(in rt.alloc(); "{work}/{path}")?;
-    Ok(read_file(rt, name.as_str(), most)?.map(Seq::from_vec))
 }
 
 /// Removes a folder with all that is in it, where it is there.
 pub fn remove_folder<R: Files + Processes + AllocGlobal>(rt: &R, folder: &str) -> io::Result<()> {
-    match fs::remove_dir_all(rt, folder) {
-        Ok(()) => return Ok(()),
-        Err(error) if error.kind() == ErrorKind::NotFound => return Ok(()),
-        Err(_) => {}
+    if found(fs::remove_dir_all(rt, folder)).is_ok() {
+        return Ok(());
     }
     unlock_folder(rt, folder)?;
     fs::remove_dir_all(rt, folder)
