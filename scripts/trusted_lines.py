@@ -4,7 +4,7 @@
 Usage: scripts/trusted_lines.py [--write] [--names]
 
 From the contracts of `run`, `session` and the traits that they are generic over, and from the laws
-of `pool_laws`, `bot_core` and `wire_laws`, it follows each definition to those that it cites, through the specs/ of this
+of `pool_laws`, `log_laws`, `bot_core`, `bot_worlds` and `wire_laws`, it follows each definition to those that it cites, through the specs/ of this
 repository and of the kit, and to the types of src/. It prints each row of a table of docs/trusted.md
 that differs from the counts, each file that has no row, and each row that has no file, and ends
 with status 1 if there is one. With --write it puts the counts into the page; with --names it prints
@@ -53,6 +53,12 @@ LAWS = [
     ("Rattle.swarm_model.specs.Soundness", "StaysSound"),
     ("Rattle.pool_laws.specs.BaseLaws", "KeepsBaseRows LeadsToABase OpeningIsABase OpeningWeighsNothing WeightAfter WeightIsBounded"),
     ("Rattle.pool_laws.specs.Bases", "StatesFromABase ClaimsFromABase RunsFromABase TallyFromABase TallyAddsUpFromABase RestIsLegal RestTellsTheSame"),
+    ("Rattle.log_laws.specs.Sent", "SentOnce SentBefore RepliesAreTold NewIsAsked"),
+    ("Rattle.log_laws.specs.Names", "NamesLast NamesTellNumbers NewNamesAreNew"),
+    ("Rattle.log_laws.specs.Runs", "AttemptsAreTold"),
+    ("Rattle.log_laws.specs.Replies", "UpdatesAreAsked RunsAreTold ChunksAreTaken"),
+    ("Rattle.log_laws.specs.Calls", "CallsAreTold StopsAddNoUpdate"),
+    ("Rattle.log_laws.specs.Checked", "PropertiesAreChecked"),
     ("Rattle.bot_core.specs.Output", "SendsWhatWasWritten"),
     ("Rattle.bot_core.specs.Starts", "StartsOnce"),
     ("Rattle.bot_core.specs.Signals", "KillsAfterTermAndGrace"),
@@ -63,6 +69,7 @@ LAWS = [
     ("Rattle.wire_laws.specs.Told", "RepliesAreTold"),
     ("Rattle.wire_laws.specs.Fitting", "AreChecked"),
     ("Rattle.wire_laws.specs.Meant", "HandshakesAreMeant PollsAreMeant PoolsAreNamed ClaimsAreMeant ReportsAreMeant BlobGetsAreMeant BlobPutsAreMeant CallsAreFound BlobsAreFound RangesLieWithin"),
+    ("Rattle.bot_worlds.specs.TwoEnds", "TwoEndsAgree"),
 ]
 # What runs at the edge of the process, but for the scripts that start and build it.
 EDGE = [
