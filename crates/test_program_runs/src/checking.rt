@@ -1,88 +1,38 @@
 ghost use Rattle.std.specs.Thread.{IsSync};
 
-use crate::links::{compare_dialed, compare_served, dialer_of, listener_of};
+use crate::cases::check_cases;
+use crate::failing_call::FailingCall;
+use crate::links::{compare_dialed, compare_served};
 use crate::records::{compare_behind, put_before};
-use dimensions::TryCopy;
-use runners::MemoryRunner;
+use crate::running::{Ended, Manner, run_over, store_of};
 use std::alloc::{AllocError, Global};
-use std::collections::VecDeque;
 use std::marker::Send;
 use std::sync::Wait;
 use std::thread::Threads;
-use sw_base::{Clock, ListClock, MemoryDialer, MemoryFiles, MemoryLink, StepClock};
-use swarm_cli::run;
+use sw_base::{Clock, ListClock, StepClock};
 use swarm_keeper::MemoryStore;
 use test_programs::{TestedProgram, check_runs};
 use test_transcript_reader::{
     Transcript, TranscriptError, compare_console, compare_nothing, compare_runner, compare_status,
 };
 
-/// The files of a transcript, for one run.
-fn files_of(alloc: Global, transcript: &Transcript) -> Result<MemoryFiles, AllocError> {
-    let mut files = Vec::new(alloc);
-    for file in transcript.files.iter() {
-        let path = String::from_str(alloc, file.path.as_str())?;
-        files.push((path, Vec::from_slice(alloc, file.bytes.as_slice())?))?;
-    }
-    let fails = Vec::from_slice(alloc, transcript.file_fails.as_slice())?;
-    Ok(MemoryFiles::new(files, fails))
-}
-
-/// The store of a transcript, which keeps nothing yet.
-fn store_of(alloc: Global, transcript: &Transcript) -> Result<MemoryStore, AllocError> {
-    let attach_fails = Vec::from_slice(alloc, transcript.attach_fails.as_slice())?;
-    let mut keeper_fails = Vec::new(alloc);
-    for fails in transcript.keeper_fails.iter() {
-        keeper_fails.push(Vec::from_slice(alloc, fails.as_slice())?)?;
-    }
-    Ok(MemoryStore::new(alloc, attach_fails, keeper_fails))
-}
-
-/// The runner of a transcript, for one run.
-fn runner_of(alloc: Global, transcript: &Transcript) -> Result<MemoryRunner, AllocError> {
-    let mut answers = VecDeque::new(alloc);
-    for answer in transcript.runner_answers.iter() {
-        answers.push_back(answer.try_copy(alloc)?)?;
-    }
-    Ok(MemoryRunner::new(alloc, answers))
-}
-
-/// Runs a transcript over a clock, a store, a dialer and a runner, its bytes in pieces of this size,
-/// and answers what it wrote to the console and its status, once the links that came are compared.
-fn run_over<T: Threads + Wait + Sync, C: Clock + Drop + Send>(
-    rt: &T,
+/// Compares what a run wrote, what is left of the runner's answers, and the status.
+pub(crate) fn compare_ended(
     alloc: Global,
     transcript: &Transcript,
-    piece: usize,
-    clock: &mut C,
-    store: &mut MemoryStore,
-    dialer: &mut MemoryDialer,
-    runner: &mut MemoryRunner,
-) -> Result<(MemoryLink, u8), TranscriptError> {
-    let input = Vec::from_slice(alloc, transcript.console.input.as_slice())?;
-    let fails = Vec::from_slice(alloc, transcript.console.fails.as_slice())?;
-    let mut link = MemoryLink::new(alloc, input, piece, fails);
-    let mut files = files_of(alloc, transcript)?;
-    let mut listener = listener_of(alloc, transcript, piece)?;
-    let status = run(
-        rt,
-        alloc,
-        transcript.words.as_slice(),
-        &mut link,
-        clock,
-        &mut files,
-        store,
-        &mut listener,
-        dialer,
-        runner,
-    );
-    compare_served(alloc, transcript, &listener)?;
-    Ok((link, status))
+    manner: Manner,
+    ended: &Ended,
+) -> Result<(), TranscriptError> {
+    compare_served(alloc, transcript, &ended.listener, manner.failing)?;
+    compare_dialed(alloc, transcript, &ended.dialer, manner.failing)?;
+    compare_console(alloc, transcript, ended.console.output())?;
+    compare_runner(transcript, ended.runner.answers_left())?;
+    compare_status(transcript, transcript.status, ended.status)
 }
 
 /// Runs a transcript over a clock and a store, its bytes in pieces of this size, and compares what
 /// was written, what is left of the runner's answers, the status, and what the store keeps.
-fn check_over<T: Threads + Wait + Sync, C: Clock + Drop + Send>(
+pub(crate) fn check_over<T: Threads + Wait + Sync, C: Clock + Drop + Send>(
     rt: &T,
     alloc: Global,
     transcript: &Transcript,
@@ -91,22 +41,9 @@ fn check_over<T: Threads + Wait + Sync, C: Clock + Drop + Send>(
     store: &mut MemoryStore,
 ) -> Result<(), TranscriptError> {
     put_before(alloc, transcript, store)?;
-    let mut dialer = dialer_of(alloc, transcript, piece, None)?;
-    let mut runner = runner_of(alloc, transcript)?;
-    let (link, status) = run_over(
-        rt,
-        alloc,
-        transcript,
-        piece,
-        clock,
-        store,
-        &mut dialer,
-        &mut runner,
-    )?;
-    compare_dialed(alloc, transcript, &dialer)?;
-    compare_console(alloc, transcript, link.output())?;
-    compare_runner(transcript, runner.answers_left())?;
-    compare_status(transcript, transcript.status, status)?;
+    let manner = Manner::in_pieces(piece);
+    let ended = run_over(rt, alloc, transcript, manner, clock, store)?;
+    compare_ended(alloc, transcript, manner, &ended)?;
     compare_behind(alloc, transcript, store)
 }
 
@@ -125,20 +62,14 @@ fn check_cut<T: Threads + Wait + Sync>(
         step: 0,
         waited: 0,
     };
-    let mut dialer = dialer_of(alloc, transcript, most.max(1), Some(most))?;
-    let mut runner = runner_of(alloc, transcript)?;
-    let (link, status) = run_over(
-        rt,
-        alloc,
-        transcript,
-        1000,
-        &mut clock,
-        store,
-        &mut dialer,
-        &mut runner,
-    )?;
-    compare_nothing(alloc, transcript, link.output())?;
-    compare_status(transcript, wanted, status)
+    let manner = Manner {
+        piece: most.max(1),
+        failing: FailingCall::NoCall,
+        most: Some(most),
+    };
+    let ended = run_over(rt, alloc, transcript, manner, &mut clock, store)?;
+    compare_nothing(alloc, transcript, ended.console.output())?;
+    compare_status(transcript, wanted, ended.status)
 }
 
 /// Runs a transcript with what its last dialed link gives cut at each place.
@@ -194,8 +125,9 @@ impl<'a, T: Threads + Wait + Sync> TestedProgram for WholeProgram<'a, T> {
 }
 
 /// Runs a transcript and those that go on with its store, each time from a new store on: for each
-/// size of its pieces over their moments, and over the clock of its step where it has one, and with
-/// what its last dialed link gives cut at each place where it says so.
+/// size of its pieces over their moments, and over the clock of its step where it has one, with
+/// what its last dialed link gives cut at each place where it says so, and once for each call that is
+/// to fail where it says so.
 ///
 /// # Errors
 ///
@@ -211,5 +143,6 @@ pub fn check<T: Threads + Wait + Sync>(
     };
     let store = store_of(alloc, first)?;
     check_runs(alloc, runs, &mut WholeProgram { rt, store })?;
-    check_cuts(rt, alloc, first, &mut store_of(alloc, first)?)
+    check_cuts(rt, alloc, first, &mut store_of(alloc, first)?)?;
+    check_cases(rt, alloc, runs)
 }

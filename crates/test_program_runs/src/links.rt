@@ -2,10 +2,11 @@
 ghost use Rattle.std.specs.Prelude.{IfOk};
 ghost use Rattle.sw_base.specs.Listeners.{IsGiven};
 
+use crate::failing_call::{FailingCall, with_one_more};
 use std::alloc::{AllocError, Global};
 use sw_base::{Acceptor, MemoryAcceptor, MemoryDialer, MemoryLink, MemoryListener};
 use test_transcript_reader::{
-    Conversation, Transcript, TranscriptError, compare_link, compare_links,
+    Conversation, Transcript, TranscriptError, compare_begun, compare_link, compare_links,
 };
 
 /// An acceptor to which these links come, a call at most `piece` bytes at a time.
@@ -14,6 +15,7 @@ fn acceptor_of(
     links: &[Conversation],
     piece: usize,
     fails: &[u64],
+    failing: FailingCall,
 ) -> Result<MemoryAcceptor, AllocError>
     ensures { IfOk result (λ a. IsGiven (⟦<MemoryAcceptor as Acceptor>⟧.state a)) }
 {
@@ -21,9 +23,10 @@ fn acceptor_of(
         let fails = Vec::from_slice(alloc, fails)?;
         return Ok(MemoryAcceptor::new(alloc, fails));
     };
-    let mut acceptor = acceptor_of(alloc, before, piece, fails)?;
+    let mut acceptor = acceptor_of(alloc, before, piece, fails, failing)?;
     let input = Vec::from_slice(alloc, last.input.as_slice())?;
-    let fails = Vec::from_slice(alloc, last.fails.as_slice())?;
+    let more = failing.on_connection(before.len());
+    let fails = with_one_more(alloc, last.fails.as_slice(), more)?;
     acceptor.add(alloc, input, piece, fails)?;
     Ok(acceptor)
 }
@@ -33,49 +36,70 @@ pub(crate) fn listener_of(
     alloc: Global,
     transcript: &Transcript,
     piece: usize,
+    failing: FailingCall,
 ) -> Result<MemoryListener, AllocError> {
     let fails = Vec::from_slice(alloc, transcript.listen_fails.as_slice())?;
     let mut listener = MemoryListener::new(alloc, fails);
     let links = transcript.connections.as_slice();
     let fails = transcript.accept_fails.as_slice();
-    listener.add(acceptor_of(alloc, links, piece, fails)?)?;
+    listener.add(acceptor_of(alloc, links, piece, fails, failing)?)?;
     Ok(listener)
 }
 
-/// The dialer of a transcript, for one run. Where `most` is a number, the last link gives at most
-/// so many bytes.
+/// Adds the link of a dial, twice where a call on it fails beside those that it names.
+fn add_dialed(
+    alloc: Global,
+    dialer: &mut MemoryDialer,
+    link: &Conversation,
+    piece: usize,
+    failing: Option<u64>,
+    most: usize,
+) -> Result<(), AllocError> {
+    let input = link.input.as_slice();
+    let input = &input[..most.min(input.len())];
+    let fails = link.fails.as_slice();
+    if failing.is_some() {
+        let bytes = Vec::from_slice(alloc, input)?;
+        dialer.add(bytes, piece, with_one_more(alloc, fails, failing)?)?;
+    }
+    let bytes = Vec::from_slice(alloc, input)?;
+    dialer.add(bytes, piece, Vec::from_slice(alloc, fails)?)
+}
+
+/// The dialer of a transcript, for one run. Where `most` is a number, the last link gives at most so
+/// many bytes.
 pub(crate) fn dialer_of(
     alloc: Global,
     transcript: &Transcript,
     piece: usize,
+    failing: FailingCall,
     most: Option<usize>,
 ) -> Result<MemoryDialer, AllocError> {
-    let fails = Vec::from_slice(alloc, transcript.dial_fails.as_slice())?;
-    let mut dialer = MemoryDialer::new(alloc, fails);
+    let fails = transcript.dial_fails.as_slice();
+    let mut dialer = MemoryDialer::new(alloc, with_one_more(alloc, fails, failing.dial())?);
     let count = transcript.dials.len();
     for (at, link) in transcript.dials.iter().enumerate() {
-        let mut bytes = Vec::from_slice(alloc, link.input.as_slice())?;
-        if let Some(most) = most {
-            if at.saturating_add(1) == count {
-                bytes.truncate(most);
-            }
-        }
-        let fails = Vec::from_slice(alloc, link.fails.as_slice())?;
-        dialer.add(bytes, piece, fails)?;
+        let most = match most {
+            Some(most) if at.saturating_add(1) == count => most,
+            _ => usize::MAX,
+        };
+        add_dialed(alloc, &mut dialer, link, piece, failing.on_dialed(at), most)?;
     }
     Ok(dialer)
 }
 
-fn compare_all(
+/// Compares what was written to a link, of which a call failed or none did.
+fn compare_one(
     alloc: Global,
-    transcript: &Transcript,
-    wanted: &[Conversation],
-    came: &[MemoryLink],
+    wanted: &Conversation,
+    came: &MemoryLink,
+    is_failing: bool,
 ) -> Result<(), TranscriptError> {
-    for (wanted, link) in wanted.iter().zip(came.iter()) {
-        compare_link(alloc, wanted, link.output())?;
+    if is_failing {
+        compare_begun(alloc, wanted, came.output(), came.flushed_output())?;
+        return Ok(());
     }
-    compare_links(transcript, wanted.len(), came.len())
+    compare_link(alloc, wanted, came.output())
 }
 
 /// Compares what a run wrote to the links that came.
@@ -83,12 +107,17 @@ pub(crate) fn compare_served(
     alloc: Global,
     transcript: &Transcript,
     listener: &MemoryListener,
+    failing: FailingCall,
 ) -> Result<(), TranscriptError> {
     let wanted = transcript.connections.as_slice();
-    match listener.ended().first() {
-        Some(acceptor) => compare_all(alloc, transcript, wanted, acceptor.served()),
-        None => compare_links(transcript, wanted.len(), 0),
+    let Some(acceptor) = listener.ended().first() else {
+        return compare_links(transcript, wanted.len(), 0);
+    };
+    let came = acceptor.served();
+    for (at, (wanted, link)) in wanted.iter().zip(came.iter()).enumerate() {
+        compare_one(alloc, wanted, link, failing.on_connection(at).is_some())?;
     }
+    compare_links(transcript, wanted.len(), came.len())
 }
 
 /// Compares what a run wrote to the links that it dialed.
@@ -96,11 +125,33 @@ pub(crate) fn compare_dialed(
     alloc: Global,
     transcript: &Transcript,
     dialer: &MemoryDialer,
+    failing: FailingCall,
 ) -> Result<(), TranscriptError> {
-    compare_all(
-        alloc,
-        transcript,
-        transcript.dials.as_slice(),
-        dialer.ended(),
-    )
+    let wanted = transcript.dials.as_slice();
+    let came = dialer.ended();
+    for (at, link) in came.iter().enumerate() {
+        if let Some(wanted) = wanted.get(failing.dialed_conversation(at)) {
+            compare_one(alloc, wanted, link, failing.on_dialed(at).is_some())?;
+        }
+    }
+    compare_links(transcript, failing.dialed_links(wanted.len()), came.len())
+}
+
+/// Whether a call failed on the link of this number that came.
+pub(crate) fn has_served_failing(listener: &MemoryListener, at: usize) -> bool {
+    let Some(acceptor) = listener.ended().first() else {
+        return false;
+    };
+    match acceptor.served().get(at) {
+        Some(link) => link.has_failed(),
+        None => false,
+    }
+}
+
+/// Whether a call failed on the link of this number that was dialed.
+pub(crate) fn has_dialed_failing(dialer: &MemoryDialer, at: usize) -> bool {
+    match dialer.ended().get(at) {
+        Some(link) => link.has_failed(),
+        None => false,
+    }
 }

@@ -4,7 +4,9 @@ use dimensions::Text;
 use std::alloc::{AllocError, Global};
 use sw_base::StartFault;
 use swarm_keeper::{Keeper, KeeperFault, MemoryKeeper, MemoryStore, Store};
-use test_transcript_reader::{PoolRecords, Transcript, TranscriptError, compare_records};
+use test_transcript_reader::{
+    PoolRecords, Transcript, TranscriptError, compare_begun_records, compare_records,
+};
 
 fn keeper_error(line: usize, fault: KeeperFault) -> TranscriptError {
     match fault {
@@ -88,12 +90,12 @@ fn put_pool(
     }
 }
 
-/// Compares what the store keeps of a pool.
-fn compare_pool(
+/// What the store keeps of a pool.
+fn kept_of(
     alloc: Global,
     store: &mut MemoryStore,
     wanted: &PoolRecords,
-) -> Result<(), TranscriptError> {
+) -> Result<PoolRecords, TranscriptError> {
     let folder = wanted.folder.as_str();
     let pool = wanted.pool.as_str();
     match store.attach(alloc, folder, pool) {
@@ -101,12 +103,50 @@ fn compare_pool(
             let result = records_of(alloc, &mut keeper, wanted);
             store.detach(folder, pool, keeper);
             match result {
-                Ok(came) => compare_records(alloc, wanted, &came),
+                Ok(came) => Ok(came),
                 Err(fault) => Err(keeper_error(wanted.line, fault)),
             }
         }
         Err(fault) => Err(start_error(wanted.line, fault)),
     }
+}
+
+/// Cuts a line by its last byte, the one of this number among those of the base and then of the log, and
+/// answers what a start over these records tells of it, where they are those of the first pool.
+fn cut_line(
+    alloc: Global,
+    records: &mut PoolRecords,
+    number: usize,
+) -> Result<Option<String>, AllocError> {
+    if let Some(line) = records.base.get_mut(number) {
+        line.pop();
+        return Ok(Some(format!(in alloc; "store 0 base {number}\n")?));
+    }
+    let number = number.saturating_sub(records.base.len());
+    if let Some(line) = records.lines.get_mut(number) {
+        line.pop();
+        return Ok(Some(format!(in alloc; "store 0 {number}\n")?));
+    }
+    Ok(None)
+}
+
+/// Gives the store the first records that a transcript puts there, with the line of this number cut. It
+/// answers what a start tells of that, where there is such a line.
+pub(crate) fn put_cut(
+    alloc: Global,
+    transcript: &Transcript,
+    number: usize,
+    store: &mut MemoryStore,
+) -> Result<Option<String>, TranscriptError> {
+    let Some(records) = transcript.records_before.first() else {
+        return Ok(None);
+    };
+    let mut cut = records.first(alloc, records.lines.len())?;
+    let told = cut_line(alloc, &mut cut, number)?;
+    if told.is_some() {
+        put_pool(alloc, store, &cut)?;
+    }
+    Ok(told)
 }
 
 /// Gives the store what a transcript puts there before its run.
@@ -128,7 +168,22 @@ pub(crate) fn compare_behind(
     store: &mut MemoryStore,
 ) -> Result<(), TranscriptError> {
     for records in transcript.records_after.iter() {
-        compare_pool(alloc, store, records)?;
+        compare_records(alloc, records, &kept_of(alloc, store, records)?)?;
+    }
+    Ok(())
+}
+
+/// Compares what the store keeps behind the run of a transcript in which so many replies were begun.
+pub(crate) fn compare_begun_behind(
+    alloc: Global,
+    transcript: &Transcript,
+    begun: usize,
+    store: &mut MemoryStore,
+) -> Result<(), TranscriptError> {
+    let replies = transcript.console.replies.len();
+    for records in transcript.records_after.iter() {
+        let came = kept_of(alloc, store, records)?;
+        compare_begun_records(alloc, records, &came, replies, begun)?;
     }
     Ok(())
 }

@@ -52,7 +52,7 @@ fn common_length(one: &[u8], other: &[u8]) -> usize {
 }
 
 /// The error of a reply in whose place these bytes came.
-fn other_reply(
+pub(crate) fn other_reply(
     alloc: Global,
     line: usize,
     wanted: &[u8],

@@ -123,6 +123,20 @@ pub enum TranscriptError {
         wanted: u64,
         came: u64,
     },
+    /// The run in which the call of this number failed, or the line of this number was cut, is none
+    /// of those that there may be.
+    Case {
+        line: usize,
+        number: u64,
+        text: String,
+    },
+    /// Of the calls that were to fail in runs of the transcript that begins at this line, so many
+    /// came, and it is to have others.
+    Cases {
+        line: usize,
+        wanted: usize,
+        came: usize,
+    },
     /// The store had no keeper for the records at this line, or its keeper failed.
     Store {
         line: usize,
@@ -148,6 +162,8 @@ impl TranscriptError {
             | TranscriptError::Links { line, .. }
             | TranscriptError::Moments { line, .. }
             | TranscriptError::Waits { line, .. }
+            | TranscriptError::Case { line, .. }
+            | TranscriptError::Cases { line, .. }
             | TranscriptError::Store { line }
             | TranscriptError::RunnerAnswers { line, .. } => *line,
             TranscriptError::Memory => 0,
@@ -183,6 +199,11 @@ impl fmt::Display for TranscriptError {
             TranscriptError::Waits { wanted, came, .. } => write!(
                 f,
                 "{wanted} seconds were to be waited, and {came} were"
+            ),
+            TranscriptError::Case { number, text, .. } => write!(f, "case {number}: {text}"),
+            TranscriptError::Cases { wanted, came, .. } => write!(
+                f,
+                "{wanted} calls were to fail in a run each, and {came} did"
             ),
             TranscriptError::Store { .. } => write!(f, "the store failed"),
             TranscriptError::RunnerAnswers { wanted, left, .. } => write!(

@@ -6,8 +6,9 @@
 //! against a transcript, [`compare_link`] what was written to another link, [`compare_links`] how many
 //! links it used, [`compare_status`] its status, [`compare_moments`] how often its clock was asked,
 //! [`compare_waits`] how many seconds it waited and [`compare_runner`] whether it took all answers of
-//! its runner, and [`compare_records`] what its store keeps of a pool. A text has one entry a line. Lines that
-//! are blank or begin with `#` are left out.
+//! its runner, and [`compare_records`] what its store keeps of a pool. Where a call failed in the run,
+//! [`compare_begun`], [`compare_refused`], [`compare_end`] and [`compare_begun_records`] say what may stand
+//! in the place of that. A text has one entry a line. Lines that are blank or begin with `#` are left out.
 //!
 //! | Line | Meaning |
 //! |---|---|
@@ -48,6 +49,7 @@
 //! | `puts COUNT FOLDER POOL` | before the run the store is given other records of this pool in the folder: COUNT entries came before their base, and they have the lines that follow. The contents of its blobs stay |
 //! | `keeps COUNT FOLDER POOL` | behind the run the store keeps these records of the pool, with the lines that follow and no others |
 //! | `base TEXT`, `line TEXT` | the next line of the base, and of the log since, of the records that were begun last |
+//! | `each KIND` | the run is also done once for each call of a kind, which fails in it ("Each call", below) |
 //! | `ends STATUS` | the status with which the run ends; 0 where the line is absent |
 //!
 //! Each TEXT and BODY may be empty, and white space at its end counts. In it, and in a PATH, `${NAME}` and
@@ -59,6 +61,22 @@
 //!
 //! For each `puts` and each `keeps` a keeper is attached and given back: they count among the attaches and
 //! the keepers that fail.
+//!
+//! # Each call
+//!
+//! By `each` a run is done again from a new store on, behind the runs before it as they stand, first with the
+//! call of number 0 failing, then with that of number 1, and so on until it meets no call that fails. At least
+//! one call has to fail. A run may have several such lines. Which calls, and what has to come of a run in which
+//! one failed:
+//!
+//! | Line | The calls | What comes |
+//! |---|---|---|
+//! | `each link` | reads, writes and flushes on the console | status 4; what was written are the first bytes of the replies, and what of it was flushed are whole replies. Of each pool that the run `keeps` the first lines are kept: as many as replies were begun, or one more. So each of its requests adds an entry |
+//! | `each connection AT` | those on the link of this number that comes | what was written to it are the first bytes of its replies, and what of it was flushed are whole replies; all else is as it stands over a clock that stays at the first moment. So its requests add no entries |
+//! | `each keeper KEEPER APPENDS` | those of the keeper of this number, counted as for `keeper_fails`, which is the run's own. So many of them append an entry, one for each of its first requests; the others add none, and the run behind it, where there is one, repeats them | of an append: the replies before that to its request are as they stand, that one is `keeper_fault`, and the run behind it, over what is kept, answers the last bytes that this run answered, so that both tell one state. Of any other call: status 4, and nothing is printed; then the run before it, once more, the run itself and those behind it are as they stand, so that all that they tell is unchanged |
+//! | `each dial` | the dials, as many as the run has links that are dialed | all is as it stands, and five seconds more are waited than by `waits`, which the run has. The clock begins at the first moment and goes on by what is waited alone |
+//! | `each dialed AT` | reads, writes and flushes on the link of this number that is dialed | what was written to it are the first bytes of its request; then all is as for `each dial`, with one link more, which has the same request and reply |
+//! | `each cut_line` | none; but of the first records that the run `puts` each line of the base, and then of the log, is cut by its last byte | the line is told, `store 0 base AT` or `store 0 AT`, with status 3 |
 //!
 //! A request is sent as
 //!
@@ -83,9 +101,11 @@
 //!
 //! without the last field where its front is `-`. Each line of a head ends in CR LF.
 
+mod beginnings;
 mod comparison;
 mod conversation;
 mod draft;
+mod each;
 mod error;
 mod exchange;
 mod names;
@@ -95,11 +115,13 @@ mod reader;
 mod runner_answers;
 mod transcript;
 
+pub use beginnings::{compare_begun, compare_begun_records, compare_end, compare_refused};
 pub use comparison::{
     compare_console, compare_link, compare_links, compare_moments, compare_nothing,
     compare_records, compare_runner, compare_status, compare_waits,
 };
 pub use conversation::Conversation;
+pub use each::Each;
 pub use error::{TextFault, TranscriptError};
 pub use pool_records::PoolRecords;
 pub use reader::read;

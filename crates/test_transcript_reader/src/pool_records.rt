@@ -34,6 +34,20 @@ impl PoolRecords {
         })
     }
 
+    /// The same with the first lines of the log alone, so many of them.
+    pub fn first(&self, alloc: Global, count: usize) -> Result<PoolRecords, AllocError> {
+        let folder = self.folder.as_str();
+        let pool = self.pool.as_str();
+        let mut first = PoolRecords::new(alloc, self.line, folder, pool, self.count)?;
+        for line in self.base.iter() {
+            first.base.push(String::from_str(alloc, line.as_str())?)?;
+        }
+        for line in self.lines.iter().take(count) {
+            first.lines.push(String::from_str(alloc, line.as_str())?)?;
+        }
+        Ok(first)
+    }
+
     /// The count and the lines, as one text.
     pub(crate) fn text(&self, alloc: Global) -> Result<String, AllocError> {
         let count = self.count;

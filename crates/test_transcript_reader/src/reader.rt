@@ -1,4 +1,5 @@
 use crate::draft::{Draft, Place, When};
+use crate::each::read_each;
 use crate::exchange::{dialed_bytes, reply_bytes, request_bytes};
 use crate::names::Names;
 use crate::parts::{form_error, is_front, is_name, is_status, read_number, read_numbers};
@@ -66,6 +67,7 @@ impl Reader {
             "base" => self.add_base_line(entry),
             "line" => self.add_log_line(entry),
             "again" => self.begin_again(entry),
+            "each" => self.add_each(entry),
             "ends" => self.set_status(entry),
             "field" => self.add_field(entry),
             "moment" => self.add_moments(entry),
@@ -290,6 +292,12 @@ impl Reader {
         let before = draft.end(self.alloc)?;
         self.current = Some(Draft::next_run(self.alloc, &before, self.line)?);
         self.earlier.push(before)?;
+        Ok(())
+    }
+
+    fn add_each(&mut self, entry: &str) -> Result<(), TranscriptError> {
+        let each = read_each(self.alloc, self.line, entry)?;
+        self.draft()?.transcript.each.push(each)?;
         Ok(())
     }
 

@@ -1,4 +1,4 @@
-use crate::{Conversation, PoolRecords};
+use crate::{Conversation, Each, PoolRecords};
 use runners::RunnerAnswer;
 use std::alloc::{AllocError, Global};
 
@@ -79,6 +79,8 @@ pub struct Transcript {
     pub records_before: Vec<PoolRecords>,
     /// What the store keeps behind it.
     pub records_after: Vec<PoolRecords>,
+    /// What it is also repeated for.
+    pub each: Vec<Each>,
     /// The status with which the program ends.
     pub status: u8,
 }
@@ -113,6 +115,7 @@ impl Transcript {
             keeper_fails: Vec::new(alloc),
             records_before: Vec::new(alloc),
             records_after: Vec::new(alloc),
+            each: Vec::new(alloc),
             status: 0,
         })
     }
