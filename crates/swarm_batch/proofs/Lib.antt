@@ -1,0 +1,14 @@
+pub mod Naming
+pub mod Depths
+pub mod Marking
+pub mod Texts
+pub mod Splitting
+pub mod Words
+pub mod Cuts
+pub mod Telling
+pub mod Tasks
+pub mod Uuids
+pub mod Reopening
+pub mod Walking
+pub mod Heads
+pub mod Opening

@@ -1,0 +1,12 @@
+pub mod Lines
+pub mod Named
+pub mod Tasks
+pub mod Broken
+pub mod Reading
+pub mod Marks
+pub mod Names
+pub mod Batches
+pub mod Told
+pub mod Progress
+pub mod Reopened
+pub mod Laws
