@@ -54,12 +54,12 @@ is_batch text name cut b h named head lines =
     }
 
 -- a progress that is refused
-pub refused : (text name : List ℕ) (cut : Cut) (lines : List (List ℕ)) (head : List ℕ) (done : Option (List ℕ)) (e : BatchFault) → IsRead text (Ok cut) → lines ≡ cut.lines
-    → head ≡ batch_head text name → TellsDone (length lines) head done (Err e) → IsBatchRead text name done (Err e)
-refused text name cut lines head done fault.Memory h same is t = tt
-refused text name cut lines head done (fault.Broken line rule) h same is t =
+pub refused : (text name : List ℕ) (cut : Cut) (lines : List (List ℕ)) (head : List ℕ) (progress : Option (List ℕ)) (e : BatchFault) → IsRead text (Ok cut) → lines ≡ cut.lines
+    → head ≡ batch_head text name → TellsDone (length lines) head progress (Err e) → IsBatchRead text name progress (Err e)
+refused text name cut lines head progress fault.Memory h same is t = tt
+refused text name cut lines head progress (fault.Broken line rule) h same is t =
     let b : BatchValue = record { head = head; name = name; lines = cut.lines; marks = [] } in
-    inr (b, is_batch text name cut b h refl is refl, subst (λ (ls : List (List ℕ)). TellsDone (length ls) head done (Err (fault.Broken line rule))) same t)
+    inr (b, is_batch text name cut b h refl is refl, subst (λ (ls : List (List ℕ)). TellsDone (length ls) head progress (Err (fault.Broken line rule))) same t)
 
 -- one that is told
 pub opened : (text name : List ℕ) (cut : Cut) (lines : List (List ℕ)) (shown head called : List ℕ) (marks : List Mark) (done : Option (List ℕ)) → IsRead text (Ok cut) → lines ≡ cut.lines

@@ -23,10 +23,10 @@ pub record IsBatchOf (text name : List ℕ) (b : BatchValue) : Type 0 where
 
 -- the batch, with the marks that the progress tells, or the first rule that is broken: of the file, and then of its progress
 abbrev pub IsBatchRead : List ℕ → List ℕ → Option (List ℕ) → Result BatchValue BatchFault → Type 0
-IsBatchRead text name done (Ok b) = IsBatchOf text name b × TellsDone (length b.lines) b.head done (Ok b.marks)
-IsBatchRead text name done (Err fault.Memory) = ⊤
-IsBatchRead text name done (Err (fault.Broken line rule)) =
-    BreaksFile text line rule ⊎ ((b : BatchValue) × IsBatchOf text name b × TellsDone (length b.lines) b.head done (Err (fault.Broken line rule)))
+IsBatchRead text name progress (Ok b) = IsBatchOf text name b × TellsDone (length b.lines) b.head progress (Ok b.marks)
+IsBatchRead text name progress (Err fault.Memory) = ⊤
+IsBatchRead text name progress (Err (fault.Broken line rule)) =
+    BreaksFile text line rule ⊎ ((b : BatchValue) × IsBatchOf text name b × TellsDone (length b.lines) b.head progress (Err (fault.Broken line rule)))
 
 -- a batch takes the marks that a progress tells; at a fault it stays as it was
 abbrev pub IsReadAgain : Option (List ℕ) → BatchValue → BatchValue → Result ⊤ BatchFault → Type 0
