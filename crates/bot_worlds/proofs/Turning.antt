@@ -247,17 +247,17 @@ answered_keeps : (old : WorldState) (place m : ℕ) → Stands old → Stands (a
 answered_keeps old place m s = by_got (slice_get old.got place) refl
   where
     by_present : (g : Got) → Among g old.got → (a : Option ℕ) → old.asking ≡ a → is_present a g.sent ≡ true → Stands (option_map_or (hear old m g) (reply_event g.reply) old)
-    by_present g there None is h = absurd (cc (h))
-    by_present g there (Some x) is h =
+    by_present g among None is h = absurd (cc (h))
+    by_present g among (Some x) is h =
         by_event (reply_event g.reply) refl
       where
         by_event : (o : Option BotEvent) → reply_event g.reply ≡ o → Stands (option_map_or (hear old m g) o old)
         by_event None k = s
-        by_event (Some e) k = heard old s g there (is ∙ ap (λ (n : ℕ). Some n) (eqb-true x g.sent h)) e m k
+        by_event (Some e) k = heard old s g among (is ∙ ap (λ (n : ℕ). Some n) (eqb-true x g.sent h)) e m k
 
     by_test : (g : Got) → Among g old.got → (b : Bool) → is_present old.asking g.sent ≡ b → Stands (if b then option_map_or (hear old m g) (reply_event g.reply) old else old)
-    by_test g there true h = by_present g there old.asking refl h
-    by_test g there false h = s
+    by_test g among true h = by_present g among old.asking refl h
+    by_test g among false h = s
 
     by_got : (o : Option Got) → slice_get old.got place ≡ o → Stands (option_map_or (take_reply old m) o old)
     by_got None h = s
