@@ -4,7 +4,7 @@
 Usage: scripts/trusted_lines.py [--write] [--names]
 
 From the contracts of `run`, `session` and the traits that they are generic over, and from the laws
-of `pool_laws`, `log_laws`, `bot_core`, `bot_worlds` and `wire_laws`, it follows each definition to those that it cites, through the specs/ of this
+of `pool_laws`, `log_laws`, `bot_core`, `bot_worlds`, `batch_plays` and `wire_laws`, it follows each definition to those that it cites, through the specs/ of this
 repository and of the kit, and to the types of src/. It prints each row of a table of docs/trusted.md
 that differs from the counts, each file that has no row, and each row that has no file, and ends
 with status 1 if there is one. With --write it puts the counts into the page; with --names it prints
@@ -67,9 +67,10 @@ LAWS = [
     ("Rattle.bot_core.specs.Ids", "IdsGrow"),
     ("Rattle.bot_core.specs.RunLaws", "StopsWhereAsked ReportsInTime TellsTimeouts ReportsFit"),
     ("Rattle.wire_laws.specs.Told", "RepliesAreTold"),
-    ("Rattle.wire_laws.specs.Fitting", "AreChecked"),
+    ("Rattle.wire_laws.specs.Fitting", "AreChecked SoundAreChecked"),
     ("Rattle.wire_laws.specs.Meant", "HandshakesAreMeant PollsAreMeant PoolsAreNamed ClaimsAreMeant ReportsAreMeant BlobGetsAreMeant BlobPutsAreMeant CallsAreFound BlobsAreFound RangesLieWithin"),
     ("Rattle.bot_worlds.specs.TwoEnds", "TwoEndsAgree"),
+    ("Rattle.batch_plays.specs.Once", "EachOnce"),
 ]
 # What runs at the edge of the process, but for the scripts that start and build it.
 EDGE = [
@@ -93,7 +94,14 @@ EDGE = [
     "crates/tcp_links/src/limits.rt",
     "crates/tcp_links/src/limited_stream.rt",
     "crates/shell_runner/src/shell_runner.rt",
+    "crates/shell_runner/src/shell_calls.rt",
+    "crates/shell_runner/src/faults.rt",
+    "crates/shell_runner/src/system_shell.rt",
     "crates/shell_runner/src/child_run.rt",
+    "crates/shell_runner/src/child_command.rt",
+    "crates/shell_runner/src/shown_output.rt",
+    "crates/shell_runner/src/exit_codes.rt",
+    "crates/shell_runner/src/signals.rt",
     "crates/run_folders/src/work_folder.rt",
     "crates/run_folders/src/caches.rt",
     "crates/run_folders/src/paths.rt",
@@ -117,8 +125,9 @@ TOLD = {
     ],
     "crates/program_log/src/logged_files.rt": [
         "struct LoggedFiles",
-        "impl<'a, F: Files + Drop, R: fs::Files, G: Log> LoggedFiles<'a, F, R, G>",
-        "impl<'a, F: Files + Drop, R: fs::Files, G: Log> Files for LoggedFiles<'a, F, R, G>",
+        "impl<'a, F: Files + Drop, R: fs::Files + Clock, G: Log> LoggedFiles<'a, F, R, G>",
+        "fn lines_of",
+        "impl<'a, F: Files + Drop, R: fs::Files + Clock, G: Log> Files for LoggedFiles<'a, F, R, G>",
     ],
     "crates/tcp_links/src/tcp_link.rt": [
         "const TLS_HANDSHAKE",
@@ -149,6 +158,31 @@ TOLD = {
         "impl<L: Link + Drop> Link for LoggedLink<L>",
     ],
     "crates/tcp_links/src/limits.rt": ["struct Limits", "fn of_server", "fn of_client", "fn idle_secs"],
+    "crates/shell_runner/src/shell_runner.rt": [
+        "struct ShellRunner",
+        "impl<'a, S: Shell + Drop, G: Log> ShellRunner<'a, S, G>",
+        "impl<'a, S: Shell + Drop, G: Log> Runner for ShellRunner<'a, S, G>",
+    ],
+    "crates/shell_runner/src/shell_calls.rt": [
+        "fn has_env_key",
+        "fn have_env_keys",
+        "fn make_bot_folder",
+        "fn prepare_run",
+        "fn start_child",
+        "fn clear_run",
+    ],
+    "crates/shell_runner/src/faults.rt": ["struct Faults", "fn is_memory", "impl<'a, G: Log> Faults<'a, G>"],
+    "crates/shell_runner/src/system_shell.rt": ["fn new"],
+    "crates/shell_runner/src/child_run.rt": ["fn new"],
+    "crates/shell_runner/src/child_command.rt": ["fn env_word", "fn child_command"],
+    "crates/shell_runner/src/shown_output.rt": [
+        "const MOST_SHOWN",
+        "struct ShownOutput",
+        "impl<F: Read + Drop> ShownOutput<F>",
+        "fn look_of",
+    ],
+    "crates/shell_runner/src/exit_codes.rt": ["fn before_end", "fn number_of", "fn code_of", "fn code_left"],
+    "crates/shell_runner/src/signals.rt": ["fn signal_name"],
     "crates/run_folders/src/found.rt": ["fn found"],
     "crates/run_folders/src/tools.rt": ["fn tool_command"],
     "crates/run_folders/src/paths.rt": [

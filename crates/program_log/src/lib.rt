@@ -3,8 +3,8 @@
 //! The adapters of sockets, records and children log by themselves, through `Log` of the kit's `log`, what
 //! they do and why a call failed. The [`ProgramLog`] writes their records to the standard error. What
 //! `sw_base` has knows nothing of a log, so it is wrapped here: [`LoggedStream`] says why a read or a write
-//! of the console failed, and [`LoggedFiles`] why a file can't be had. The state of a wrapper is that of
-//! what it wraps, so its contract is that one's too, whatever is logged.
+//! of the console failed, and [`LoggedFiles`] why a file can't be had and how many lines a saved one has.
+//! The state of a wrapper is that of what it wraps, so its contract is that one's too, whatever is logged.
 #![tactic(auto)]
 
 mod journal;

@@ -1,26 +1,61 @@
-ghost use Rattle.std.specs.Prelude.{◌≡◌};
+ghost use Rattle.std.specs.Prelude.{◌≡◌, ◌==◌, count_by};
 
-use log::{Log, error};
+use log::{Log, error, info};
 use std::alloc::Global;
 use std::io::Read;
+use std::rt::Clock;
 use std::{fs, io};
 use sw_base::{FileFault, Files};
 
-/// Files that say why one of them can't be had. The files don't tell the system's reason, so the disk is
-/// asked for it once more.
+/// Files that say why one of them can't be had, and in each second at most once how many lines a file has
+/// that was saved. The files don't tell the system's reason, so the disk is asked for it once more.
 #[derive(Drop)]
-pub struct LoggedFiles<'a, F: Files + Drop, R: fs::Files, G: Log> {
+pub struct LoggedFiles<'a, F: Files + Drop, R: fs::Files + Clock, G: Log> {
     files: F,
     disk: &'a R,
     log: &'a G,
+    /// The second in which a save was told last, counted from 1970.
+    told: Option<u64>,
 }
 
-impl<'a, F: Files + Drop, R: fs::Files, G: Log> LoggedFiles<'a, F, R, G> {
+impl<'a, F: Files + Drop, R: fs::Files + Clock, G: Log> LoggedFiles<'a, F, R, G> {
     pub fn new(files: F, disk: &'a R, log: &'a G) -> Self
         ensures { ⟦<LoggedFiles<'a, F, R, G> as Files>⟧.state result ≡ F.state files }
     {
-        LoggedFiles { files, disk, log }
+        LoggedFiles {
+            files,
+            disk,
+            log,
+            told: None,
+        }
     }
+
+    fn tell_saved(&mut self, path: &str, bytes: &[u8])
+        ensures { self.new.files ≡ self.old.files }
+    {
+        let Ok(since) = self.disk.since_1970() else {
+            return;
+        };
+        let second = Some(since.as_secs());
+        if self.told == second {
+            return;
+        }
+        self.told = second;
+        info!(self.log; "saved {path}: {} lines", lines_of(bytes));
+    }
+}
+
+/// How many bytes end a line.
+fn lines_of(bytes: &[u8]) -> usize
+    ensures { result ≡ count_by (λ byte. byte == 10) bytes.now }
+{
+    let mut lines = 0;
+    for byte in bytes {
+        if *byte == b'\n' {
+            lines += 1;
+        }
+    }
+    lines
 }
 
 /// Reads the beginning of the file at a path.
@@ -29,7 +64,7 @@ fn try_file<R: fs::Files>(disk: &R, path: &str) -> io::Result<usize> {
     fs::open(disk, path)?.read(&mut first)
 }
 
-impl<'a, F: Files + Drop, R: fs::Files, G: Log> Files for LoggedFiles<'a, F, R, G> {
+impl<'a, F: Files + Drop, R: fs::Files + Clock, G: Log> Files for LoggedFiles<'a, F, R, G> {
     ghost state = { λ l. F.state l.files };
 
     fn load(&mut self, alloc: Global, path: &str, most: u64) -> Result<Option<Vec<u8>>, FileFault> {
@@ -45,8 +80,10 @@ impl<'a, F: Files + Drop, R: fs::Files, G: Log> Files for LoggedFiles<'a, F, R, 
 
     fn save(&mut self, alloc: Global, path: &str, bytes: &[u8]) -> Result<(), FileFault> {
         let saved = self.files.save(alloc, path, bytes);
-        if saved == Err(FileFault::Failed) {
-            error!(self.log; "can't write {path}");
+        match saved {
+            Ok(()) => self.tell_saved(path, bytes),
+            Err(FileFault::Failed) => error!(self.log; "can't write {path}"),
+            Err(_) => {}
         }
         saved
     }

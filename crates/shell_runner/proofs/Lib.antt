@@ -1,0 +1,3 @@
+pub mod Told
+pub mod Untold
+pub mod Codes

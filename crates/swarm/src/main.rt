@@ -5,7 +5,7 @@
 
 use log::{LevelFilter, Logged, error};
 use program_log::{Journal, LoggedFiles, LoggedStream};
-use shell_runner::ShellRunner;
+use shell_runner::{ShellRunner, SystemShell};
 use sqlite_keeper::SqliteStore;
 use std::env;
 use std::env::VarError;
@@ -54,7 +54,7 @@ fn main(rt: HostRuntime) -> ExitCode {
     let mut store = SqliteStore::new(&rt, log);
     let mut listener = TcpAll::new(alloc, &rt, &log);
     let mut dialer = TcpAll::new(alloc, &rt, &log);
-    let mut runner = ShellRunner::new(&rt, &log);
+    let mut runner = ShellRunner::new(SystemShell::new(&rt, &log), &log);
     let status = run(
         &rt,
         alloc,
