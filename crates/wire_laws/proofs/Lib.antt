@@ -19,3 +19,4 @@ pub mod Targets
 pub mod BlobMeanings
 pub mod Ranges
 pub mod PoolNames
+pub mod SoundProperties

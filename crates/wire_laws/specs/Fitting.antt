@@ -1,5 +1,5 @@
 -- What fits its place in a reply: texts in UTF-8, numbers within their types, and numbers of pools, tasks and tries that ids can show.
-use Rattle.std.specs.Prelude.{◌≡◌, ℕ, ◌<◌, ◌≤◌, ◌^◌, pos, ⊤, List, length, map, IfSome, Ok}
+use Rattle.std.specs.Prelude.{◌≡◌, ℕ, ◌<◌, ◌≤◌, ◌^◌, pos, ⊤, IsTrue, List, length, map, IfSome, Ok}
 use Rattle.std.specs.List.{All}
 use Rattle.std.specs.Str.{IsUtf8}
 use Rattle.base64.specs.GeneralPurpose.{IsBytes}
@@ -7,6 +7,7 @@ use Rattle.hex.specs.Hex.{encode_lower}
 use Rattle.task_props.specs.declared.cache.Cache.{Cache}
 use Rattle.task_props.specs.declared.file.File.{File}
 use Rattle.task_props.specs.declared.properties.Properties.{Properties}
+use Rattle.task_props.specs.Checked.{are_sound}
 use Rattle.task_props.specs.Shown.{HasWordTimes}
 use Rattle.task_checks.specs.declared.raw_task.RawFile.{RawFile}
 use Rattle.task_checks.specs.declared.raw_task.RawProperties.{RawProperties}
@@ -134,6 +135,10 @@ raw_properties p = record {
 -- a check of those fields finds no broken rule, and leaves the properties as they are
 abbrev pub AreChecked : Properties → Type 0
 AreChecked p = checked_properties (raw_properties p) ≡ Ok p
+
+-- so of all properties that are sound, as are those of each task of a pool
+abbrev pub SoundAreChecked : Type 0
+SoundAreChecked = (p : Properties) → IsTrue (are_sound p) → AreChecked p
 
 pub record FitsProperties (p : Properties) : Type 0 where
   pub command : All IsUtf8 p.command

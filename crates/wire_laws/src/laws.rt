@@ -1,7 +1,7 @@
 ghost use Rattle.wire_laws.specs.Meant.{BlobGetsAreMeant, BlobPutsAreMeant, BlobsAreFound, CallsAreFound, ClaimsAreMeant, HandshakesAreMeant, PollsAreMeant, PoolsAreNamed, RangesLieWithin, ReportsAreMeant};
 ghost use Rattle.wire_laws.specs.Told.{RepliesAreTold};
 ghost use Rattle.swarm_model.specs.Examples.{properties};
-ghost use Rattle.wire_laws.specs.Fitting.{AreChecked};
+ghost use Rattle.wire_laws.specs.Fitting.{AreChecked, SoundAreChecked};
 
 /// What the reader of a call is told of the status and the body of a reply is that reply, and the
 /// place of the pool where an id in it names the pool: a refusal is told by its code, with its body,
@@ -50,4 +50,10 @@ pub fn ranges_lie_within()
 /// There are properties that fit a reply: those of a small task, so the law on replies speaks of runs.
 pub fn small_properties_fit()
     ensures { AreChecked properties }
+{}
+
+/// Properties that are sound are checked: they break no rule, and a check leaves them as they are. The
+/// properties of each task of a pool are sound, by `properties_are_checked` of `log_laws`.
+pub fn sound_properties_are_checked()
+    ensures { SoundAreChecked }
 {}

@@ -8,7 +8,8 @@
 //! (`specs/Told.antt`). [`requests_for_work_are_meant`], [`reports_are_meant`],
 //! [`blob_requests_are_meant`] and [`targets_are_found`]: what the server reads in a bot's request is
 //! what the bot meant (`specs/Meant.antt`). [`ranges_lie_within`]: the numbers that a bot sends are
-//! among those that the server reads. The requests of a client are read as they are meant by
+//! among those that the server reads. [`sound_properties_are_checked`]: the properties of a pool's tasks fit
+//! a reply, as far as their rules go. The requests of a client are read as they are meant by
 //! the contracts of `client_commands`. How the server reads the heads of requests, no law says.
 //!
 //! A JSON value is read of its text where `IsReadable` holds of it (`proofs/Readable.antt`); the other
@@ -19,5 +20,6 @@ mod laws;
 
 pub use laws::{
     blob_requests_are_meant, ranges_lie_within, replies_are_told, reports_are_meant,
-    requests_for_work_are_meant, small_properties_fit, targets_are_found,
+    requests_for_work_are_meant, small_properties_fit, sound_properties_are_checked,
+    targets_are_found,
 };
