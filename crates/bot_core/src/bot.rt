@@ -33,6 +33,13 @@ impl Bot {
         }
     }
 
+    /// A bot that keeps the same, so that a step can be taken apart.
+    pub fn copied(&self) -> Bot
+        ensures { result ≡ self.now }
+    {
+        Bot { state: self.state }
+    }
+
     /// Whether the event can come of the last action: at the start Begin alone, and after Stop none.
     pub fn expects(&self, event: &BotEvent) -> bool
         ensures { (m : ℕ) → result ≡ is_some (stepped self.now event.now m) }
