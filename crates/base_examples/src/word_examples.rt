@@ -2,7 +2,7 @@
 #![tactic(auto, unfolding(clap::specs::Walk::walked, clap::specs::Walk::bundle_met, clap::specs::Faults::walk_fault, clap::specs::Faults::defaults_fault, clap::specs::Faults::flags_fault))]
 
 ghost use Rattle.std.specs.Prelude.{◌≡◌, ◌++◌, ◌∷◌, [], Some, None, true, false, codes};
-ghost use Rattle.command_words.specs.ClientWork.{bots, cancel};
+ghost use Rattle.command_words.specs.ClientWork.{bots, cancel, collect_batch, spawn_tasks};
 ghost use Rattle.command_words.specs.Commands.{bot, checkpoint, client, command_of};
 ghost use Rattle.base_examples.specs.WordExamples.{asked_of, small_bot};
 
@@ -16,6 +16,19 @@ pub fn a_kill_is_asked_for_by_its_flag()
 pub fn at_most_200_bots_are_listed()
     ensures most { command_of (asked_of (codes "bots") ++ codes "--pool" ∷ codes "lab" ∷ codes "--limit" ∷ codes "200" ∷ []) ≡ Some (client (codes "http://h") (codes "ana") (bots (codes "lab") 200)) }
     ensures more { command_of (asked_of (codes "bots") ++ codes "--pool" ∷ codes "lab" ∷ codes "--limit" ∷ codes "201" ∷ []) ≡ None }
+{}
+
+/// A batch is sent under a name that must be given.
+pub fn a_batch_is_sent_under_its_name()
+    ensures named { command_of (asked_of (codes "spawn-tasks") ++ codes "--name" ∷ codes "n1" ∷ codes "lab.jsonl" ∷ []) ≡ Some (client (codes "http://h") (codes "ana") (spawn_tasks (codes "n1") (codes "lab.jsonl"))) }
+    ensures left_out { command_of (asked_of (codes "spawn-tasks") ++ codes "lab.jsonl" ∷ []) ≡ None }
+{}
+
+/// The results of a batch are asked for as often as that of one task.
+pub fn a_batch_is_collected_as_one_task_is()
+    ensures by_default { command_of (asked_of (codes "collect-batch") ++ codes "lab.jsonl" ∷ []) ≡ Some (client (codes "http://h") (codes "ana") (collect_batch 1000 5 (codes "lab.jsonl"))) }
+    ensures most { command_of (asked_of (codes "collect-batch") ++ codes "--polls" ∷ codes "100000" ∷ codes "--every" ∷ codes "60" ∷ codes "lab.jsonl" ∷ []) ≡ Some (client (codes "http://h") (codes "ana") (collect_batch 100000 60 (codes "lab.jsonl"))) }
+    ensures more { command_of (asked_of (codes "collect-batch") ++ codes "--every" ∷ codes "61" ∷ codes "lab.jsonl" ∷ []) ≡ None }
 {}
 
 /// A bot has its caches and their bytes by options of their own, and other options by default.

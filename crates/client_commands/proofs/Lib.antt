@@ -1,2 +1,4 @@
 pub mod Meanings
 pub mod Following
+pub mod Batching
+pub mod Running

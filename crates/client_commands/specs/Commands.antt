@@ -1,11 +1,8 @@
 -- The commands of a client.
-use Rattle.std.specs.Prelude.{ℕ, zero, suc, ◌+◌, ◌-◌, ◌*◌, ◌/◌, min, ℤ, Bool, true, false, List, [], ◌++◌, length, take, codes, Option, is_some, not, Some, None, Result, Ok, Err, if◌then◌else◌, Vec, vec_items}
+use Rattle.std.specs.Prelude.{ℕ, zero, suc, ◌+◌, ◌-◌, ◌/◌, min, ℤ, Bool, true, false, List, ◌++◌, length, take, codes, Option, is_some, not, Some, None, Ok, Err, if◌then◌else◌, vec_items}
 use Rattle.std.specs.List.{flat_map}
 use Rattle.std.specs.Fmt.{decimal, signed_decimal}
 use Rattle.dimensions.specs.Rules.{is_empty}
-use Rattle.std.specs.declared.alloc.Global.{Global}
-use Rattle.sw_base.specs.Files.{FilesState, Loads}
-use Rattle.sw_base.specs.declared.file_fault.FileFault.{FileFault}
 use Rattle.sw_base.specs.declared.file_fault.FileFault.TheVariants as fault
 use Rattle.swarm_model.specs.declared.reply.Reply.{Reply}
 use Rattle.swarm_model.specs.declared.reply.Reply.TheVariants as reply
@@ -16,9 +13,8 @@ use Rattle.swarm_model.specs.Finding.{is_final}
 use Rattle.swarm_model.specs.States.{state_name}
 use Rattle.json_fields.specs.Ids.{task_id, run_id}
 use Rattle.client_commands.specs.declared.server.Server.{Server}
-use Rattle.server_calls.specs.declared.exchanged.Exchanged.{Exchanged}
 use Rattle.client_commands.specs.Requests.{Call, new_task_call, cancel_call, result_call, stdout_call, tasks_call, bots_call}
-use Rattle.client_commands.specs.Plans.{Plan, end, say, wait, ask, after, World, Follows}
+use Rattle.client_commands.specs.Plans.{Plan, end, say, wait, ask, load, Loaded, after, World, Follows}
 
 -- ---- columns
 
@@ -109,19 +105,21 @@ listing_bots pool limit = once (bots_call pool limit) bot_lines
 abbrev pub settings_line : List ℕ → List ℕ → List ℕ
 settings_line place rule = codes "settings " ++ (place ++ (codes " " ++ (rule ++ codes "\n")))
 
--- what comes of the load of a file: its bytes are posted as they are, or it is refused
-abbrev pub triggering : List ℕ → Result (Option (Vec ℕ Global)) FileFault → Plan
-triggering path (Ok (Some text)) = once (new_task_call (vec_items text)) new_line
-triggering path (Ok None) = say (settings_line path (codes "absent")) (end 3)
-triggering path (Err fault.TooLong) = say (settings_line path (codes "count")) (end 3)
-triggering path (Err fault.Failed) = end 4
-triggering path (Err fault.Memory) = end 5
+-- a file is refused, by a rule
+abbrev pub refusing : List ℕ → List ℕ → Plan
+refusing path rule = say (settings_line path rule) (end 3)
 
--- a file of at most 65536 bytes is loaded, once, and what comes of it is done
-pub record Triggers (server : Server) (path : List ℕ) (f g : FilesState) (w v : World) (status : ℕ) : Type 0 where
-  pub loaded : Result (Option (Vec ℕ Global)) FileFault
-  pub loads : Loads f g path 65536 loaded
-  pub follows : Follows server (triggering path loaded) w v status
+-- what follows the load of a file: its bytes, or what is done where there is none, or where it is too long; a fault of the files has status 4, and want of memory 5
+abbrev pub once_loaded : Plan → Plan → (List ℕ → Plan) → Loaded → Plan
+once_loaded absent long next (Ok (Some text)) = next (vec_items text)
+once_loaded absent long next (Ok None) = absent
+once_loaded absent long next (Err fault.TooLong) = long
+once_loaded absent long next (Err fault.Failed) = end 4
+once_loaded absent long next (Err fault.Memory) = end 5
+
+-- a file of at most 65536 bytes is loaded, and its bytes are posted as they are
+abbrev pub triggering : List ℕ → Plan
+triggering path = load path 65536 (once_loaded (refusing path (codes "absent")) (refusing path (codes "count")) (λ text. once (new_task_call text) new_line))
 
 -- ---- the result of a task, and its output
 
@@ -169,12 +167,18 @@ abbrev pub pause : ℕ → ℕ → Plan → Plan
 pause every zero next = next
 pause every (suc left) next = wait every next
 
--- the task is asked for at most so many times, until its state is final
+-- the task is asked for at most so many times, until its state is final, and then something follows
+abbrev pub awaiting : List ℕ → ℕ → (TaskView → Plan) → ℕ → Plan
+awaiting id every next zero = end 8
+awaiting id every next (suc left) = polling id (λ task. if is_final task.state then next task else pause every left (awaiting id every next left))
+
 abbrev pub collecting : List ℕ → ℕ → ℕ → Plan
-collecting id every zero = end 8
-collecting id every (suc left) = polling id (λ task. if is_final task.state then delivering id task else pause every left (collecting id every left))
+collecting id every polls = awaiting id every (delivering id) polls
 
 -- ---- what each command promises
+
+abbrev pub Triggers : Server → List ℕ → World → World → ℕ → Type 0
+Triggers server path w v status = Follows server (triggering path) w v status
 
 abbrev pub Cancels : Server → List ℕ → Bool → World → World → ℕ → Type 0
 Cancels server id kill w v status = Follows server (canceling id kill) w v status

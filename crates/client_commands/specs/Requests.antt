@@ -2,13 +2,12 @@
 use Rattle.std.specs.Prelude.{◌≡◌, ℕ, Bool, List, [], Option, Some, None, Result, Ok, codes, vec_items}
 use Rattle.serde_json.specs.Data.{Data, boolean, string, object, member, no_members}
 use Rattle.json_values.specs.Values.{whole}
-use Rattle.task_props.specs.declared.prop_fault.PropFault.{PropFault}
 use Rattle.swarm_model.specs.declared.pool_settings.Settings.{Settings}
 use Rattle.swarm_model.specs.declared.request.Request.{Request}
 use Rattle.swarm_model.specs.declared.request.Request.TheVariants as ask
 use Rattle.swarm_model.specs.declared.task_state.TaskState.{TaskState}
 use Rattle.swarm_model.specs.States.{state_name}
-use Rattle.json_fields.specs.Readings.{at, ◌>>=◌}
+use Rattle.json_fields.specs.Readings.{reading, at, ◌>>=◌}
 use Rattle.json_fields.specs.Ids.{id_of, task_of_id, try_of_id}
 use Rattle.routes.specs.declared.route.Route.{Route}
 use Rattle.routes.specs.declared.route.Route.TheVariants as route
@@ -54,13 +53,15 @@ bots_data pool limit = object (member (codes "limit") (whole limit) (member (cod
 
 -- ---- what is read in them
 
--- what is known of a body: its bytes, or what the server reads it as, under any settings
+-- what is known of a body: its bytes, the JSON value that is read of it, or what the server reads it as, under any settings
 pub data Body : Type 0 where
   bytes : List ℕ → Body
+  value : Option Data → Body
   meaning : (Settings → Result Asked WireFault) → Body
 
 abbrev pub IsBody : Route → Body → List ℕ → Type 0
 IsBody route (bytes body) text = text ≡ body
+IsBody route (value is) text = reading text ≡ is
 IsBody route (meaning asks) text = (settings : Settings) (parts : Parts) → asked_of settings route parts text ≡ asks settings
 
 -- a request to the pool at the place of an id
@@ -90,9 +91,13 @@ pub record Posts (call : Call) (post : Post) : Type 0 where
   pub path : call.path ≡ post.path.now
   pub body : IsBody call.route call.body (vec_items post.body)
 
--- a task is asked for as a text has it
+-- a task is asked for by a body of which this is known
+abbrev pub task_call : Body → Call
+task_call body = record { route = route.NewTask; path = codes "/prpc/swarming.v2.Tasks/NewTask"; body = body }
+
+-- as a text has it
 abbrev pub new_task_call : List ℕ → Call
-new_task_call text = record { route = route.NewTask; path = codes "/prpc/swarming.v2.Tasks/NewTask"; body = bytes text }
+new_task_call text = task_call (bytes text)
 
 abbrev pub cancel_call : List ℕ → Bool → Call
 cancel_call id kill = record {

@@ -1,15 +1,20 @@
 -- Parts of a plan that were carried out.
-use Rattle.std.specs.Prelude.{◌≡◌, ℕ, List, Option, Result, Ok, Err, MatchResult}
+use Rattle.std.specs.Prelude.{ℕ, List, Option, Result, Ok, Err}
 use Rattle.sw_base.specs.Link.{LinkState}
 use Rattle.sw_base.specs.Dialers.{DialerState}
+use Rattle.sw_base.specs.Files.{FilesState}
 use Rattle.swarm_model.specs.declared.reply.Reply.{Reply}
 use Rattle.client_commands.specs.declared.asking.Answer.{Answer}
 use Rattle.client_commands.specs.declared.server.Server.{Server}
-use Rattle.client_commands.specs.Requests.{Call, IsBody}
+use Rattle.client_commands.specs.Requests.{Call}
+pub use Rattle.client_commands.specs.Plans.{Aside}
 use Rattle.client_commands.specs.Plans.{Plan, World, Follows, ask, after}
 
-abbrev pub world : DialerState → LinkState → Option ℕ → World
-world dialer console waited = record { dialer = dialer; console = console; waited = waited }
+abbrev pub aside_of : Option ℕ → FilesState → Aside
+aside_of waited files = record { waited = waited; files = files }
+
+abbrev pub world : DialerState → LinkState → Aside → World
+world dialer console aside = record { dialer = dialer; console = console; aside = aside }
 
 -- whoever follows the later plan from the later world follows the earlier one from the earlier world
 abbrev pub Leads : Server → Plan → World → Plan → World → Type 0

@@ -1,7 +1,10 @@
 //! One exchange of a command.
-ghost use Rattle.std.specs.Prelude.{ℕ, Option};
+ghost use Rattle.std.specs.Prelude.{ℕ};
+ghost use Rattle.sw_base.specs.Link.{LinkState};
+ghost use Rattle.server_calls.specs.declared.told.Told.{Told as SpecTold};
+ghost use Rattle.client_commands.specs.Plans.{Plan, ask as plan_ask, once_told};
 ghost use Rattle.client_commands.specs.Requests.{Call, Posts};
-ghost use Rattle.client_commands.specs.Steps.{world, Asks};
+ghost use Rattle.client_commands.specs.Steps.{world, Aside, Asks, Carries};
 
 use crate::post::Post;
 use crate::printing::print_code;
@@ -21,6 +24,30 @@ pub(crate) struct Answer {
     pub bytes: Seq<u8>,
 }
 
+/// Sends a request of a call, and answers what the reply to it tells. Where there is none, it answers
+/// the status of the command.
+pub(crate) fn send<W: Dialer>(
+    alloc: Global,
+    dialer: &mut W,
+    server: &Server,
+    post: &Post,
+) -> Result<Told, u8>
+    ensures { (call : Call) → Posts call post.now → (next : SpecTold → Plan) (console : LinkState) (aside : Aside) →
+        Carries server.now (plan_ask call (once_told next)) (world (W.state dialer.old) console aside) next (world (W.state dialer.new) console aside) result }
+{
+    let body = post.body.as_slice();
+    let Ok(request) = request_text(alloc, "POST", post.path, server.host, server.caller, body)
+    else {
+        return Err(5);
+    };
+    match exchange(alloc, dialer, server.address, &request, post.route) {
+        Exchanged::Told(told) => Ok(told),
+        Exchanged::NoReply => Err(9),
+        Exchanged::Lost => Err(4),
+        Exchanged::Memory => Err(5),
+    }
+}
+
 /// Sends a request of a call, and answers the reply to it. Where there is none, or a
 /// refusal, it tells that, and answers the status of the command.
 pub(crate) fn ask<W: Dialer, L: Link>(
@@ -30,16 +57,11 @@ pub(crate) fn ask<W: Dialer, L: Link>(
     server: &Server,
     post: &Post,
 ) -> Result<Answer, u8>
-    ensures { (call : Call) (waited : Option ℕ) → Posts call post.now →
-        Asks server.now call (world (W.state dialer.old) (L.state console.old) waited) (world (W.state dialer.new) (L.state console.new) waited) result }
+    ensures { (call : Call) (aside : Aside) → Posts call post.now →
+        Asks server.now call (world (W.state dialer.old) (L.state console.old) aside) (world (W.state dialer.new) (L.state console.new) aside) result }
 {
-    let body = post.body.as_slice();
-    let Ok(request) = request_text(alloc, "POST", post.path, server.host, server.caller, body)
-    else {
-        return Err(5);
-    };
-    match exchange(alloc, dialer, server.address, &request, post.route) {
-        Exchanged::Told(
+    match send(alloc, dialer, server, post) {
+        Ok(
             Told::Good {
                 place,
                 reply,
@@ -50,9 +72,7 @@ pub(crate) fn ask<W: Dialer, L: Link>(
             reply,
             bytes,
         }),
-        Exchanged::Told(Told::No { code, .. }) => Err(print_code(alloc, console, code.name())),
-        Exchanged::NoReply => Err(9),
-        Exchanged::Lost => Err(4),
-        Exchanged::Memory => Err(5),
+        Ok(Told::No { code, .. }) => Err(print_code(alloc, console, code.name())),
+        Err(status) => Err(status),
     }
 }

@@ -3,7 +3,7 @@ ghost use Rattle.std.specs.Prelude.{◌≡◌, ◌≤◌, ℕ, IfOk, Option, str
 ghost use Rattle.serde_json.specs.View.{view};
 ghost use Rattle.client_commands.specs.Commands.{ListsBots, bot_line, bot_word as spec_bot_word, run_word as spec_run_word, bot_lines as spec_bot_lines};
 ghost use Rattle.client_commands.specs.Requests.{Posts, bots_call, bots_data};
-ghost use Rattle.client_commands.specs.Steps.{world};
+ghost use Rattle.client_commands.specs.Steps.{world, Aside};
 
 use crate::columns::push_left;
 use crate::ids::run_id;
@@ -105,8 +105,8 @@ pub fn list_bots<W: Dialer, L: Link>(
 ) -> u8
     requires some { 1 ≤ limit }
     requires few { limit ≤ 200 }
-    ensures { (waited : Option ℕ) → ListsBots server.now pool.now limit
-        (world (W.state dialer.old) (L.state console.old) waited) (world (W.state dialer.new) (L.state console.new) waited) result }
+    ensures { (aside : Aside) → ListsBots server.now pool.now limit
+        (world (W.state dialer.old) (L.state console.old) aside) (world (W.state dialer.new) (L.state console.new) aside) result }
 {
     let post = bots_post(alloc, pool, limit);
     print_answer(alloc, dialer, console, server, post, &BotLines)

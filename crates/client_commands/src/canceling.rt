@@ -3,7 +3,7 @@ ghost use Rattle.std.specs.Prelude.{◌≡◌, ℕ, IfOk, Option, string_bytes};
 ghost use Rattle.serde_json.specs.View.{view};
 ghost use Rattle.client_commands.specs.Commands.{Cancels, cancel_line as spec_cancel_line, canceled_text, flag_word as spec_flag_word};
 ghost use Rattle.client_commands.specs.Requests.{Posts, cancel_call, cancel_data};
-ghost use Rattle.client_commands.specs.Steps.{world};
+ghost use Rattle.client_commands.specs.Steps.{world, Aside};
 
 use crate::once::{ShowReply, print_answer};
 use crate::post::{Post, post_of};
@@ -78,8 +78,8 @@ pub fn cancel<W: Dialer, L: Link>(
     id: &str,
     kill: bool,
 ) -> u8
-    ensures { (waited : Option ℕ) → Cancels server.now id.now kill
-        (world (W.state dialer.old) (L.state console.old) waited) (world (W.state dialer.new) (L.state console.new) waited) result }
+    ensures { (aside : Aside) → Cancels server.now id.now kill
+        (world (W.state dialer.old) (L.state console.old) aside) (world (W.state dialer.new) (L.state console.new) aside) result }
 {
     let post = cancel_post(alloc, id, kill);
     print_answer(alloc, dialer, console, server, post, &CancelLine)

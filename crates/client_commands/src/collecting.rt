@@ -1,8 +1,9 @@
 //! Collecting what a task has come to, and its output.
 ghost use Rattle.std.specs.Prelude.{◌≡◌, ℕ, IfOk, Option, string_bytes};
+ghost use Rattle.sw_base.specs.Files.{FilesState};
 ghost use Rattle.client_commands.specs.Commands.{Collects, delivering, exit_word as spec_exit_word, result_line as spec_result_line};
 ghost use Rattle.client_commands.specs.Plans.{Follows};
-ghost use Rattle.client_commands.specs.Steps.{world};
+ghost use Rattle.client_commands.specs.Steps.{world, Aside, aside_of};
 
 use crate::output::{pieces_of, print_output};
 use crate::polls::{await_end, result_post};
@@ -22,7 +23,7 @@ fn exit_word(alloc: Global, exit_code: Option<i32>) -> Result<String, AllocError
 }
 
 #[tactic(auto, unfolding(crate::specs::Commands::result_line))]
-fn result_line(alloc: Global, id: &str, task: &TaskView) -> Result<String, AllocError>
+pub(crate) fn result_line(alloc: Global, id: &str, task: &TaskView) -> Result<String, AllocError>
     ensures { IfOk result (λ line. string_bytes line ≡ spec_result_line id.now task.now) }
 {
     let state = task.state.name();
@@ -39,8 +40,8 @@ fn deliver<W: Dialer, L: Link>(
     id: &str,
     task: &TaskView,
 ) -> u8
-    ensures { (waited : Option ℕ) → Follows server.now (delivering id.now task.now)
-        (world (W.state dialer.old) (L.state console.old) waited) (world (W.state dialer.new) (L.state console.new) waited) result }
+    ensures { (aside : Aside) → Follows server.now (delivering id.now task.now)
+        (world (W.state dialer.old) (L.state console.old) aside) (world (W.state dialer.new) (L.state console.new) aside) result }
 {
     let Ok(line) = result_line(alloc, id, task) else {
         return 5;
@@ -71,8 +72,8 @@ pub fn collect<W: Dialer, L: Link, C: Clock>(
     polls: u32,
     every: u32,
 ) -> u8
-    ensures { Collects server.now id.now polls every
-        (world (W.state dialer.old) (L.state console.old) (C.waited clock.old)) (world (W.state dialer.new) (L.state console.new) (C.waited clock.new)) result }
+    ensures { (files : FilesState) → Collects server.now id.now polls every
+        (world (W.state dialer.old) (L.state console.old) (aside_of (C.waited clock.old) files)) (world (W.state dialer.new) (L.state console.new) (aside_of (C.waited clock.new) files)) result }
 {
     let Ok(post) = result_post(alloc, id) else {
         return 5;

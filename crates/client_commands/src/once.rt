@@ -5,7 +5,7 @@ ghost use Rattle.client_commands.specs.declared.server.Server.{Server as SpecSer
 ghost use Rattle.client_commands.specs.Commands.{printed, once as spec_once};
 ghost use Rattle.client_commands.specs.Plans.{Follows};
 ghost use Rattle.client_commands.specs.Requests.{Call, Posts};
-ghost use Rattle.client_commands.specs.Steps.{world};
+ghost use Rattle.client_commands.specs.Steps.{world, Aside};
 
 use crate::asking::ask;
 use crate::post::Post;
@@ -34,8 +34,8 @@ fn print_reply<L: Link, S: ShowReply>(
     reply: &Reply,
     shown: &S,
 ) -> u8
-    ensures { (server : SpecServer) (dialer : DialerState) (waited : Option ℕ) →
-        Follows server (printed (S.text shown.now place reply.now)) (world dialer (L.state console.old) waited) (world dialer (L.state console.new) waited) result }
+    ensures { (server : SpecServer) (dialer : DialerState) (aside : Aside) →
+        Follows server (printed (S.text shown.now place reply.now)) (world dialer (L.state console.old) aside) (world dialer (L.state console.new) aside) result }
 {
     match shown.show(alloc, place, reply) {
         Ok(Some(text)) => print_last(console, &text, 0),
@@ -53,8 +53,8 @@ pub(crate) fn print_answer<W: Dialer, L: Link, S: ShowReply>(
     post: Result<Post, AllocError>,
     shown: &S,
 ) -> u8
-    ensures { (call : Call) (waited : Option ℕ) → IfOk post (Posts call) →
-        Follows server.now (spec_once call (S.text shown.now)) (world (W.state dialer.old) (L.state console.old) waited) (world (W.state dialer.new) (L.state console.new) waited) result }
+    ensures { (call : Call) (aside : Aside) → IfOk post (Posts call) →
+        Follows server.now (spec_once call (S.text shown.now)) (world (W.state dialer.old) (L.state console.old) aside) (world (W.state dialer.new) (L.state console.new) aside) result }
 {
     let Ok(post) = post else {
         return 5;

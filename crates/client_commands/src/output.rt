@@ -6,7 +6,7 @@ ghost use Rattle.client_commands.specs.declared.server.Server.{Server as SpecSer
 ghost use Rattle.client_commands.specs.Commands.{fetched, fetching, is_output as spec_is_output, pieces_of as spec_pieces_of};
 ghost use Rattle.client_commands.specs.Plans.{Plan, Follows, ask as plan_ask, after};
 ghost use Rattle.client_commands.specs.Requests.{Posts, stdout_call, stdout_data};
-ghost use Rattle.client_commands.specs.Steps.{world, Carries};
+ghost use Rattle.client_commands.specs.Steps.{world, Aside, Carries};
 
 use crate::asking::ask;
 use crate::post::{Post, post_of};
@@ -45,8 +45,8 @@ fn is_output(reply: &Reply) -> bool
 
 /// Prints the bytes that come with a reply.
 fn print_bytes<L: Link>(console: &mut L, reply: &Reply, bytes: &[u8]) -> Result<(), u8>
-    ensures { (server : SpecServer) (place : ℕ) (next : Plan) (dialer : DialerState) (waited : Option ℕ) →
-        Carries server (fetched next place reply.now bytes.now) (world dialer (L.state console.old) waited) (λ _. next) (world dialer (L.state console.new) waited) result }
+    ensures { (server : SpecServer) (place : ℕ) (next : Plan) (dialer : DialerState) (aside : Aside) →
+        Carries server (fetched next place reply.now bytes.now) (world dialer (L.state console.old) aside) (λ _. next) (world dialer (L.state console.new) aside) result }
 {
     if is_output(reply) {
         print_part(console, bytes)
@@ -84,9 +84,9 @@ fn print_piece<W: Dialer, L: Link>(
     offset: u32,
 ) -> Result<(), u8>
     requires { offset ≤ 67108864 }
-    ensures { (waited : Option ℕ) (next : Plan) →
-        Carries server.now (plan_ask (stdout_call id.now offset) (after (fetched next))) (world (W.state dialer.old) (L.state console.old) waited) (λ _. next)
-        (world (W.state dialer.new) (L.state console.new) waited) result }
+    ensures { (aside : Aside) (next : Plan) →
+        Carries server.now (plan_ask (stdout_call id.now offset) (after (fetched next))) (world (W.state dialer.old) (L.state console.old) aside) (λ _. next)
+        (world (W.state dialer.new) (L.state console.new) aside) result }
 {
     let Ok(post) = stdout_post(alloc, id, offset) else {
         return Err(5);
@@ -107,8 +107,8 @@ pub(crate) fn print_output<W: Dialer, L: Link>(
     pieces: u32,
 ) -> u8
     requires { pieces ≤ 1024 }
-    ensures { (waited : Option ℕ) → Follows server.now (fetching id.now pieces 0)
-        (world (W.state dialer.old) (L.state console.old) waited) (world (W.state dialer.new) (L.state console.new) waited) result }
+    ensures { (aside : Aside) → Follows server.now (fetching id.now pieces 0)
+        (world (W.state dialer.old) (L.state console.old) aside) (world (W.state dialer.new) (L.state console.new) aside) result }
 {
     let mut left = pieces;
     let mut offset = 0;

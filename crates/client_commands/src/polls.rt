@@ -3,12 +3,13 @@ ghost use Rattle.std.specs.Prelude.{◌≡◌, ℕ, List, IfOk, Option};
 ghost use Rattle.serde_json.specs.View.{view};
 ghost use Rattle.sw_base.specs.Link.{LinkState};
 ghost use Rattle.sw_base.specs.Dialers.{DialerState};
+ghost use Rattle.sw_base.specs.Files.{FilesState};
 ghost use Rattle.client_commands.specs.declared.server.Server.{Server as SpecServer};
 ghost use Rattle.swarm_model.specs.declared.task_view.TaskView.{TaskView as SpecTaskView};
-ghost use Rattle.client_commands.specs.Commands.{polling, delivering, collecting, pause as spec_pause, task_in as spec_task_in};
+ghost use Rattle.client_commands.specs.Commands.{polling, awaiting, pause as spec_pause, task_in as spec_task_in};
 ghost use Rattle.client_commands.specs.Plans.{Plan};
 ghost use Rattle.client_commands.specs.Requests.{Posts, id_data, result_call};
-ghost use Rattle.client_commands.specs.Steps.{world, Carries, Leads};
+ghost use Rattle.client_commands.specs.Steps.{world, Aside, Carries, Leads, aside_of};
 
 use crate::asking::ask;
 use crate::post::{Post, post_of};
@@ -55,8 +56,8 @@ fn poll<W: Dialer, L: Link>(
     server: &Server,
     post: &Post,
 ) -> Result<TaskView, u8>
-    ensures { (id : List ℕ) (waited : Option ℕ) (next : SpecTaskView → Plan) → Posts (result_call id) post.now →
-        Carries server.now (polling id next) (world (W.state dialer.old) (L.state console.old) waited) next (world (W.state dialer.new) (L.state console.new) waited) result }
+    ensures { (id : List ℕ) (aside : Aside) (next : SpecTaskView → Plan) → Posts (result_call id) post.now →
+        Carries server.now (polling id next) (world (W.state dialer.old) (L.state console.old) aside) next (world (W.state dialer.new) (L.state console.new) aside) result }
 {
     match ask(alloc, dialer, console, server, post) {
         Ok(answer) => match task_in(answer.reply) {
@@ -69,8 +70,8 @@ fn poll<W: Dialer, L: Link>(
 
 /// Waits so many seconds, unless no poll is left.
 fn pause<C: Clock>(clock: &mut C, every: u32, left: u32)
-    ensures { (server : SpecServer) (next : Plan) (dialer : DialerState) (console : LinkState) →
-        Leads server (spec_pause every left next) (world dialer console (C.waited clock.old)) next (world dialer console (C.waited clock.new)) }
+    ensures { (server : SpecServer) (next : Plan) (dialer : DialerState) (console : LinkState) (files : FilesState) →
+        Leads server (spec_pause every left next) (world dialer console (aside_of (C.waited clock.old) files)) next (world dialer console (aside_of (C.waited clock.new) files)) }
 {
     if left > 0 {
         clock.wait(u64::from(every));
@@ -89,9 +90,9 @@ pub(crate) fn await_end<W: Dialer, L: Link, C: Clock>(
     polls: u32,
     every: u32,
 ) -> Result<TaskView, u8>
-    ensures { (id : List ℕ) → Posts (result_call id) post.now →
-        Carries server.now (collecting id every polls) (world (W.state dialer.old) (L.state console.old) (C.waited clock.old)) (delivering id)
-        (world (W.state dialer.new) (L.state console.new) (C.waited clock.new)) result }
+    ensures { (id : List ℕ) (files : FilesState) (next : SpecTaskView → Plan) → Posts (result_call id) post.now →
+        Carries server.now (awaiting id every next polls) (world (W.state dialer.old) (L.state console.old) (aside_of (C.waited clock.old) files)) next
+        (world (W.state dialer.new) (L.state console.new) (aside_of (C.waited clock.new) files)) result }
 {
     let mut left = polls;
     'polls: while left > 0 {

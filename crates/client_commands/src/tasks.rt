@@ -3,7 +3,7 @@ ghost use Rattle.std.specs.Prelude.{◌≡◌, ◌≤◌, ℕ, IfOk, Option, str
 ghost use Rattle.serde_json.specs.View.{view};
 ghost use Rattle.client_commands.specs.Commands.{ListsTasks, task_line, task_lines as spec_task_lines};
 ghost use Rattle.client_commands.specs.Requests.{Posts, state_word as spec_state_word, tasks_call, tasks_data};
-ghost use Rattle.client_commands.specs.Steps.{world};
+ghost use Rattle.client_commands.specs.Steps.{world, Aside};
 
 use crate::columns::{push_left, push_right};
 use crate::ids::task_id;
@@ -105,8 +105,8 @@ pub fn list_tasks<W: Dialer, L: Link>(
 ) -> u8
     requires some { 1 ≤ limit }
     requires few { limit ≤ 200 }
-    ensures { (waited : Option ℕ) → ListsTasks server.now pool.now state limit
-        (world (W.state dialer.old) (L.state console.old) waited) (world (W.state dialer.new) (L.state console.new) waited) result }
+    ensures { (aside : Aside) → ListsTasks server.now pool.now state limit
+        (world (W.state dialer.old) (L.state console.old) aside) (world (W.state dialer.new) (L.state console.new) aside) result }
 {
     let post = tasks_post(alloc, pool, state, limit);
     print_answer(alloc, dialer, console, server, post, &TaskLines)

@@ -2,7 +2,7 @@
 ghost use Rattle.std.specs.Prelude.{◌≡◌, ℕ, IfOk, Option, string_bytes, vec_items};
 ghost use Rattle.client_commands.specs.Commands.{Triggers, new_line as spec_new_line, new_text};
 ghost use Rattle.client_commands.specs.Requests.{Posts, new_task_call};
-ghost use Rattle.client_commands.specs.Steps.{world};
+ghost use Rattle.client_commands.specs.Steps.{world, aside_of};
 
 use crate::ids::task_id;
 use crate::once::{ShowReply, print_answer};
@@ -46,7 +46,7 @@ impl ShowReply for NewLine {
 }
 
 /// The request for a new task, with this body.
-fn new_task_post(body: Vec<u8>) -> Post
+pub(crate) fn new_task_post(body: Vec<u8>) -> Post
     ensures { Posts (new_task_call (vec_items body)) result }
 {
     Post {
@@ -66,8 +66,8 @@ pub fn trigger<W: Dialer, L: Link, F: Files>(
     server: &Server,
     path: &str,
 ) -> u8
-    ensures { (waited : Option ℕ) → Triggers server.now path.now (F.state files.old) (F.state files.new)
-        (world (W.state dialer.old) (L.state console.old) waited) (world (W.state dialer.new) (L.state console.new) waited) result }
+    ensures { (waited : Option ℕ) → Triggers server.now path.now
+        (world (W.state dialer.old) (L.state console.old) (aside_of waited (F.state files.old))) (world (W.state dialer.new) (L.state console.new) (aside_of waited (F.state files.new))) result }
 {
     match files.load(alloc, path, BODY_LIMIT) {
         Ok(Some(body)) => {

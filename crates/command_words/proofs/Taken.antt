@@ -13,7 +13,7 @@ use Rattle.clap.specs.Takes.{values_pass}
 use Rattle.clap.specs.Faults.{defaults_fault, entered_fault, fault_of, level_fault, settle_fault, walk_fault}
 use Rattle.clap.specs.declared.builder.value_parser.ValueParser.TheVariants as vp
 use Rattle.command_words.specs.Values.{both_of, client_in, number_at, number_in}
-use Rattle.command_words.specs.ClientWork.{WorkValue, bots_app, bots_in, cancel_app, cancel_in, collect_app, collect_in, tasks_app, tasks_in, trigger_app, trigger_in}
+use Rattle.command_words.specs.ClientWork.{WorkValue, bots_app, bots_in, cancel_app, cancel_in, collect_app, collect_batch_app, collect_batch_in, collect_in, spawn_tasks_app, spawn_tasks_in, tasks_app, tasks_in, trigger_app, trigger_in}
 use Rattle.command_words.specs.Grammar.{bot_app, checkpoint_app, drill_app, serve_app, swarm_app}
 use Rattle.command_words.specs.declared.command.Command.{Command}
 use Rattle.command_words.specs.Commands.{value_of, bot_in, checkpoint_in, client_with, command_in, drill_in, serve_in}
@@ -144,6 +144,27 @@ cancel_some rows l =
 cancel_own : Each (Own (leaf cancel_app).rules) (leaf cancel_app).rules
 cancel_own = (own _ _ refl refl refl, (own _ _ refl refl refl, (own _ _ refl refl refl, (own _ _ refl refl refl, (own _ _ refl refl refl, tt)))))
 
+spawn_tasks_some : (rows : List Row) → Leaves (leaf spawn_tasks_app).rules rows → is_some (client_with rows (spawn_tasks_in rows)) ≡ true
+spawn_tasks_some rows l =
+    let c = (leaf spawn_tasks_app).rules in
+    client_command_some c rows l.goods _ _ refl refl (l.required.0 refl) (l.required.1.0 refl) (spawn_tasks_in rows)
+    (map_some _ _ (both_some _ _ (text_some c rows l.goods (codes "name") _ refl (l.required.1.1.0 refl))
+    (text_some c rows l.goods (codes "FILE") _ refl (l.required.1.1.1.0 refl))))
+
+spawn_tasks_own : Each (Own (leaf spawn_tasks_app).rules) (leaf spawn_tasks_app).rules
+spawn_tasks_own = (own _ _ refl refl refl, (own _ _ refl refl refl, (own _ _ refl refl refl, (own _ _ refl refl refl, (own _ _ refl refl refl, tt)))))
+
+collect_batch_some : (rows : List Row) → Leaves (leaf collect_batch_app).rules rows → is_some (client_with rows (collect_batch_in rows)) ≡ true
+collect_batch_some rows l =
+    let c = (leaf collect_batch_app).rules in
+    client_command_some c rows l.goods _ _ refl refl (l.required.0 refl) (l.required.1.0 refl) (collect_batch_in rows)
+    (map_some _ _ (both_some _ _ (both_some _ _ (number_some c rows l.goods (codes "polls") _ 1 100000 refl refl (l.defaults.1.1.0 refl))
+    (number_some c rows l.goods (codes "every") _ 0 60 refl refl (l.defaults.1.1.1.0 refl)))
+    (text_some c rows l.goods (codes "FILE") _ refl (l.required.1.1.1.1.0 refl))))
+
+collect_batch_own : Each (Own (leaf collect_batch_app).rules) (leaf collect_batch_app).rules
+collect_batch_own = (own _ _ refl refl refl, (own _ _ refl refl refl, (own _ _ refl refl refl, (own _ _ refl refl refl, (own _ _ refl refl refl, (own _ _ refl refl refl, tt))))))
+
 tasks_some : (rows : List Row) → Leaves (leaf tasks_app).rules rows → is_some (client_with rows (tasks_in rows)) ≡ true
 tasks_some rows l =
     let c = (leaf tasks_app).rules in
@@ -206,14 +227,20 @@ subs_ask = (
             (
               (λ name a n words f. cancel_some _ (level_leaves (leaf cancel_app) cancel_own refl words f)),
               (
-                (λ name a n words f. tasks_some _ (level_leaves (leaf tasks_app) tasks_own refl words f)),
+                (λ name a n words f. spawn_tasks_some _ (level_leaves (leaf spawn_tasks_app) spawn_tasks_own refl words f)),
                 (
-                  (λ name a n words f. bots_some _ (level_leaves (leaf bots_app) bots_own refl words f)),
+                  (λ name a n words f. collect_batch_some _ (level_leaves (leaf collect_batch_app) collect_batch_own refl words f)),
                   (
-                    (λ name a n words f. drill_some _ (level_leaves (leaf drill_app) drill_own refl words f)),
+                    (λ name a n words f. tasks_some _ (level_leaves (leaf tasks_app) tasks_own refl words f)),
                     (
-                      (λ name a n words f. absurd (is_help name true a n)),
-                      tt,
+                      (λ name a n words f. bots_some _ (level_leaves (leaf bots_app) bots_own refl words f)),
+                      (
+                        (λ name a n words f. drill_some _ (level_leaves (leaf drill_app) drill_own refl words f)),
+                        (
+                          (λ name a n words f. absurd (is_help name true a n)),
+                          tt,
+                        ),
+                      ),
                     ),
                   ),
                 ),

@@ -37,6 +37,7 @@ is_printed option_fault.Server unfit told = made (codes "server") unfit told
 is_printed option_fault.Caller unfit told = made (codes "caller") unfit told
 is_printed option_fault.Id unfit told = made (codes "id") unfit told
 is_printed option_fault.State unfit told = made (codes "state") unfit told
+is_printed option_fault.Name unfit told = made (codes "name") unfit told
 is_printed option_fault.Dimensions unfit told = made (codes "dimensions") unfit told
 
 module _ (files : FilesState) (store : StoreState) (s t : LinkState) (clock : ℕ → Option (List ℕ)) (listener : ListenerState) (dialer : DialerState) (waited : Option ℕ) (runner : RunnerState) (status : ℕ) where

@@ -1,5 +1,5 @@
 -- The command of a bot.
-use Rattle.std.specs.Prelude.{◌≡◌, ℕ, List, [], ◌∷◌, ◌++◌, codes, decimal, Option, Some, None, is_some, Ok, Err}
+use Rattle.std.specs.Prelude.{◌≡◌, ℕ, List, [], ◌∷◌, ◌++◌, codes, decimal, Some, None, is_some, Ok, Err}
 use Rattle.sw_base.specs.declared.start_fault.StartFault.TheVariants as fault
 use Rattle.link_writer.specs.Printing.{Prints}
 use Rattle.client_requests.specs.Addresses.{address_of}

@@ -1,7 +1,6 @@
 -- The commands of a client.
 use Rattle.std.specs.Prelude.{◌≡◌, ⊤, ℕ, Bool, true, false, ◌||◌, List, [], ◌∷◌, codes, Option, Some, None, is_some, Result, Ok, Err, if◌then◌else◌}
 use Rattle.dimensions.specs.Alike.{same}
-use Rattle.sw_base.specs.Files.{FilesState}
 use Rattle.sw_base.specs.Link.{LinkState}
 use Rattle.link_writer.specs.Printing.{Prints}
 use Rattle.json_fields.specs.Ids.{id_of}
@@ -11,8 +10,10 @@ use Rattle.swarm_model.specs.declared.task_state.TaskState.{TaskState}
 use Rattle.swarm_model.specs.States.{state_named}
 use Rattle.client_commands.specs.declared.server.Server.{Server}
 use Rattle.client_commands.specs.Commands.{Triggers, Cancels, Collects, ListsTasks, ListsBots, settings_line}
+use Rattle.client_commands.specs.Batches.{SpawnsTasks, CollectsBatch}
 use Rattle.client_commands.specs.Plans.{World}
-use Rattle.command_words.specs.ClientWork.{WorkValue, trigger, collect, cancel, tasks, bots}
+use Rattle.swarm_batch.specs.Names.{is_batch_name}
+use Rattle.command_words.specs.ClientWork.{WorkValue, trigger, collect, cancel, spawn_tasks, collect_batch, tasks, bots}
 use Rattle.remote_commands.specs.declared.option_fault.OptionFault.{OptionFault}
 use Rattle.remote_commands.specs.declared.option_fault.OptionFault.TheVariants as option_fault
 use Rattle.remote_commands.specs.Streams.{PrintsMade}
@@ -35,6 +36,9 @@ caller_test caller = (codes "caller", is_caller caller)
 abbrev pub id_test : List ℕ → OptionTest
 id_test id = (codes "id", succeeds (id_of id))
 
+abbrev pub batch_name_test : List ℕ → OptionTest
+batch_name_test name = (codes "name", is_batch_name name)
+
 -- all states, or one of them by its name
 abbrev pub state_test : List ℕ → OptionTest
 state_test state = (codes "state", same state (codes "ALL") || is_some (state_named state))
@@ -52,23 +56,32 @@ abbrev pub work_tests : WorkValue → List OptionTest
 work_tests (trigger file) = []
 work_tests (collect polls every id) = id_test id ∷ []
 work_tests (cancel kill id) = id_test id ∷ []
+work_tests (spawn_tasks name file) = batch_name_test name ∷ []
+work_tests (collect_batch polls every file) = []
 work_tests (tasks pool state limit) = state_test state ∷ []
 work_tests (bots pool limit) = []
 
 abbrev pub client_tests : List ℕ → List ℕ → WorkValue → List OptionTest
 client_tests server caller work = server_test server ∷ caller_test caller ∷ work_tests work
 
+-- where a batch is named, its name is in its grammar
+abbrev pub NamesBatch : WorkValue → Type 0
+NamesBatch (spawn_tasks name file) = is_batch_name name ≡ true
+NamesBatch other = ⊤
+
 -- what a command of a client does at a server
-abbrev pub DoesWork : WorkValue → Server → FilesState → FilesState → World → World → ℕ → Type 0
-DoesWork (trigger file) by f g w v status = Triggers by file f g w v status
-DoesWork (collect polls every id) by f g w v status = Collects by id polls every w v status
-DoesWork (cancel kill id) by f g w v status = Cancels by id kill w v status
-DoesWork (tasks pool state limit) by f g w v status = ListsTasks by pool (wanted_state state) limit w v status
-DoesWork (bots pool limit) by f g w v status = ListsBots by pool limit w v status
+abbrev pub DoesWork : WorkValue → Server → World → World → ℕ → Type 0
+DoesWork (trigger file) by w v status = Triggers by file w v status
+DoesWork (collect polls every id) by w v status = Collects by id polls every w v status
+DoesWork (cancel kill id) by w v status = Cancels by id kill w v status
+DoesWork (spawn_tasks name file) by w v status = SpawnsTasks by name file w v status
+DoesWork (collect_batch polls every file) by w v status = CollectsBatch by file polls every w v status
+DoesWork (tasks pool state limit) by w v status = ListsTasks by pool (wanted_state state) limit w v status
+DoesWork (bots pool limit) by w v status = ListsBots by pool limit w v status
 
 -- what a client works with
 abbrev pub world_of : Environment → World
-world_of x = record { dialer = x.dialer; console = x.streams.console; waited = x.waited }
+world_of x = record { dialer = x.dialer; console = x.streams.console; aside = record { waited = x.waited; files = x.files } }
 
 -- it was done at the server that the words name, for their caller
 pub record DoneAt (server caller : List ℕ) (work : WorkValue) (x y : Environment) (status : ℕ) : Type 0 where
@@ -78,7 +91,7 @@ pub record DoneAt (server caller : List ℕ) (work : WorkValue) (x y : Environme
   pub dials : by.address.now ≡ address.0
   pub host_is : by.host.now ≡ address.1
   pub caller_is : by.caller.now ≡ caller
-  pub done : DoesWork work by x.files y.files (world_of x) (world_of y) status
+  pub done : DoesWork work by (world_of x) (world_of y) status
 
 -- the store, the listener and the runner are as before
 pub record AsideFromClient (x y : Environment) : Type 0 where
@@ -102,6 +115,7 @@ option_name option_fault.Server = codes "server"
 option_name option_fault.Caller = codes "caller"
 option_name option_fault.Id = codes "id"
 option_name option_fault.State = codes "state"
+option_name option_fault.Name = codes "name"
 option_name option_fault.Dimensions = codes "dimensions"
 
 -- the line for a fault is printed, where there is memory for it

@@ -4,14 +4,18 @@ ghost use Rattle.sw_base.specs.Listeners.{ListenerState};
 ghost use Rattle.swarm_keeper.specs.Stores.{StoreState};
 ghost use Rattle.runners.specs.Calls.{RunnerState};
 ghost use Rattle.client_requests.specs.Addresses.{address_of};
-ghost use Rattle.client_commands.specs.Steps.{world};
+ghost use Rattle.client_commands.specs.Steps.{aside_of, world};
 ghost use Rattle.command_words.specs.ClientWork.{HasWorkRanges, work_of};
-ghost use Rattle.remote_commands.specs.Clients.{DoesWork, Fits, RunsClient, client_tests, work_tests};
+ghost use Rattle.remote_commands.specs.Clients.{DoesWork, Fits, NamesBatch, RunsClient, client_tests, work_tests};
 ghost use Rattle.remote_commands.specs.Environment.{environment};
 
 use crate::option_fault::OptionFault;
-use crate::options::{check_id, check_state, print_option_fault, server_of, wanted_state};
-use client_commands::{Server, cancel, collect, list_bots, list_tasks, trigger};
+use crate::options::{
+    check_id, check_name, check_state, print_option_fault, server_of, wanted_state,
+};
+use client_commands::{
+    Server, cancel, collect, collect_batch, list_bots, list_tasks, spawn_tasks, trigger,
+};
 use client_requests::ServerAddress;
 use command_words::{Client, ClientWork};
 use std::alloc::Global;
@@ -19,14 +23,18 @@ use sw_base::{Clock, Dialer, Files, Link};
 
 /// Whether the options that the work has of its own are in their grammars.
 fn check_work(alloc: Global, work: &ClientWork) -> Result<(), OptionFault>
-    ensures { Fits (work_tests (work_of work.now)) result }
+    ensures fits { Fits (work_tests (work_of work.now)) result }
+    ensures names { IfOk result (λ _. NamesBatch (work_of work.now)) }
 {
     match work {
         ClientWork::Collect { id, .. } | ClientWork::Cancel { id, .. } => {
             check_id(alloc, id.as_str())
         }
+        ClientWork::SpawnTasks { name, .. } => check_name(name.as_str()),
         ClientWork::Tasks { state, .. } => check_state(state.as_str()),
-        ClientWork::Trigger { .. } | ClientWork::Bots { .. } => Ok(()),
+        ClientWork::Trigger { .. } | ClientWork::CollectBatch { .. } | ClientWork::Bots { .. } => {
+            Ok(())
+        }
     }
 }
 
@@ -34,6 +42,7 @@ fn check_work(alloc: Global, work: &ClientWork) -> Result<(), OptionFault>
 fn server_for(alloc: Global, words: &Client) -> Result<ServerAddress, OptionFault>
     ensures address { IfOk result (λ a. address_of (string_bytes words.now.server) ≡ Some (string_bytes a.dial, string_bytes a.host)) }
     ensures fits { Fits (client_tests (string_bytes words.now.server) (string_bytes words.now.caller) (work_of words.now.work)) result }
+    ensures names { IfOk result (λ _. NamesBatch (work_of words.now.work)) }
 {
     match server_of(alloc, words.server.as_str(), words.caller.as_str()) {
         Ok(address) => match check_work(alloc, &words.work) {
@@ -55,9 +64,10 @@ fn do_work<L: Link, C: Clock, F: Files, W: Dialer>(
     dialer: &mut W,
 ) -> u8
     requires ranges { HasWorkRanges (work_of work.now) }
-    ensures { DoesWork (work_of work.now) server.now (F.state files.old) (F.state files.new)
-        (world (W.state dialer.old) (L.state console.old) (C.waited clock.old))
-        (world (W.state dialer.new) (L.state console.new) (C.waited clock.new)) result }
+    requires names { NamesBatch (work_of work.now) }
+    ensures { DoesWork (work_of work.now) server.now
+        (world (W.state dialer.old) (L.state console.old) (aside_of (C.waited clock.old) (F.state files.old)))
+        (world (W.state dialer.new) (L.state console.new) (aside_of (C.waited clock.new) (F.state files.new))) result }
 {
     match work {
         ClientWork::Trigger { file } => {
@@ -76,6 +86,26 @@ fn do_work<L: Link, C: Clock, F: Files, W: Dialer>(
         ClientWork::Cancel { kill, id } => {
             cancel(alloc, dialer, console, server, id.as_str(), *kill)
         }
+        ClientWork::SpawnTasks { name, file } => spawn_tasks(
+            alloc,
+            dialer,
+            console,
+            files,
+            server,
+            name.as_str(),
+            file.as_str(),
+        ),
+        ClientWork::CollectBatch { polls, every, file } => collect_batch(
+            alloc,
+            dialer,
+            console,
+            files,
+            clock,
+            server,
+            file.as_str(),
+            *polls,
+            *every,
+        ),
         ClientWork::Tasks { pool, state, limit } => {
             let wanted = wanted_state(state.as_str());
             list_tasks(

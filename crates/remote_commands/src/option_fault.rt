@@ -10,6 +10,8 @@ pub(crate) enum OptionFault {
     Id,
     /// The state is neither `ALL` nor a state's name.
     State,
+    /// The name is none of a batch.
+    Name,
     /// The dimensions are none that the bot may have.
     Dimensions,
 }

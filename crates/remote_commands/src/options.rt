@@ -3,7 +3,7 @@ ghost use Rattle.std.specs.Prelude.{◌≡◌, ◌∷◌, [], None, Some, Err, I
 ghost use Rattle.client_requests.specs.Addresses.{address_of};
 ghost use Rattle.client_commands.specs.Commands.{settings_line as spec_settings_line};
 ghost use Rattle.remote_commands.specs.Streams.{PrintsMade};
-ghost use Rattle.remote_commands.specs.Clients.{Fits, PrintsOptionFault, server_test, caller_test, id_test, state_test, wanted_state};
+ghost use Rattle.remote_commands.specs.Clients.{Fits, PrintsOptionFault, batch_name_test, server_test, caller_test, id_test, state_test, wanted_state};
 
 use crate::option_fault::OptionFault;
 use client_commands::settings_line;
@@ -13,6 +13,7 @@ use link_writer::print;
 use request_head::is_caller;
 use std::alloc::Global;
 use sw_base::Link;
+use swarm_batch::is_batch_name;
 use swarm_model::TaskState;
 use task_props::PropFault;
 
@@ -56,6 +57,17 @@ pub(crate) fn check_id(alloc: Global, id: &str) -> Result<(), OptionFault>
         Ok(_) => Ok(()),
         Err(PropFault::Memory) => Err(OptionFault::Memory),
         Err(_) => Err(OptionFault::Id),
+    }
+}
+
+/// Whether the name of a batch is in its grammar.
+pub(crate) fn check_name(name: &str) -> Result<(), OptionFault>
+    ensures { Fits (batch_name_test name.now ∷ []) result }
+{
+    if is_batch_name(name.as_bytes()) {
+        Ok(())
+    } else {
+        Err(OptionFault::Name)
     }
 }
 
@@ -103,6 +115,7 @@ pub(crate) fn print_option_fault<L: Link>(alloc: Global, console: &mut L, why: O
         OptionFault::Caller => print_grammar(alloc, console, "caller"),
         OptionFault::Id => print_grammar(alloc, console, "id"),
         OptionFault::State => print_grammar(alloc, console, "state"),
+        OptionFault::Name => print_grammar(alloc, console, "name"),
         OptionFault::Dimensions => print_grammar(alloc, console, "dimensions"),
     }
 }

@@ -32,6 +32,6 @@ pub use laws::{
     a_batch_is_read_again, a_progress_is_read, each_line_has_a_uuid, naming_changes_nothing_else,
     naming_keeps_the_task,
 };
-pub use mark::{Mark, Marked};
+pub use mark::{Mark, Marked, mark_line};
 pub use names::{is_batch_name, progress_name};
 pub use told::told_mark;

@@ -56,7 +56,7 @@ impl Mark {
 
 /// The line of progress of a mark, by the number of its line in the file.
 #[tactic(auto, unfolding(crate::specs::Marks::mark_line))]
-pub(crate) fn mark_line(alloc: Global, line: usize, mark: Mark) -> Result<String, AllocError>
+pub fn mark_line(alloc: Global, line: usize, mark: Mark) -> Result<String, AllocError>
     requires { is_mark mark ≡ true }
     ensures { IfOk result (λ text. string_bytes text ≡ spec_mark_line line mark) }
 {

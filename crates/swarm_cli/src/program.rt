@@ -171,12 +171,12 @@ fn carry_out<
 /// |---|---|
 /// | 0 | the command did its whole work: `bot` ran as many tasks as it may, or was told to end; the input of `session` ended between requests, its last request asked to close, or 65536 were answered; `serve` served as many connections as it may, or no more came; `checkpoint` made the records of all pools begin anew, and printed `pool NAME front C tasks T` for each; `drill` printed its counts |
 /// | 2 | the words are no command, or ask for help; the text that says so is printed |
-/// | 3 | the settings are refused, and `settings PLACE RULE` is printed, for `serve` with several workers also where they name a folder for the records, and for `checkpoint` where they name none; or the records of a pool are, and `store PLACE AT` is printed, or `store PLACE base AT` where it is a line of their base; or `checkpoint` finds more than 2^31 entries before a pool's records, and `store PLACE count` is printed; or an option of a client's command or of `bot` is out of its grammar, and `settings OPTION grammar` is printed; or the file of `trigger` is not there or too long |
-/// | 4 | a read, a write or a flush on the console failed, the file or the records could not be read, no connection could be accepted, the server could not be reached by a client's command, or the folder of `bot` could not be made |
+/// | 3 | the settings are refused, and `settings PLACE RULE` is printed, for `serve` with several workers also where they name a folder for the records, and for `checkpoint` where they name none; or the records of a pool are, and `store PLACE AT` is printed, or `store PLACE base AT` where it is a line of their base; or `checkpoint` finds more than 2^31 entries before a pool's records, and `store PLACE count` is printed; or an option of a client's command or of `bot` is out of its grammar, and `settings OPTION grammar` is printed; or the file of `trigger` or of a batch is not there or too long; or the file of a batch or its progress is refused, and `batch LINE RULE` is printed |
+/// | 4 | a read, a write or a flush on the console failed, the file or the records could not be read, the progress of a batch could not be saved, no connection could be accepted, the server could not be reached by a client's command, or the folder of `bot` could not be made |
 /// | 5 | there was no memory |
-/// | 6 | the server refused the request of a client's command, and the refusal's code is printed; or `bot` was refused for good |
+/// | 6 | the server refused the request of a client's command, and the refusal's code is printed; or each line of a batch is done and one was refused; or `bot` was refused for good |
 /// | 7 | the input of `session` ended inside a request, or a head was refused |
-/// | 8 | `collect` asked as often as it may, and the task has not ended; or `bot` used up its polls or its steps |
+/// | 8 | `collect` or `collect-batch` asked as often as it may, and the task has not ended; or `bot` used up its polls or its steps |
 /// | 9 | what the server sent is no reply |
 pub fn run<
     T: Threads + Wait + Sync,

@@ -5,12 +5,12 @@ use Rattle.client_commands.proofs.Following.{told_some, told_none}
 use Rattle.client_commands.proofs.polls.poll.Goals as goal
 
 pub returns-in-Some : goal.returns-in-Some
-returns-in-Some g c = λ id waited next posts v status f.
-    c.in-Ok.ensures (result_call id) waited posts (viewed next) v status (told_some next (task_in c.in-Ok.answer.reply) c.in-Some.task (search rules) f)
+returns-in-Some g c = λ id aside next posts v status f.
+    c.in-Ok.ensures (result_call id) aside posts (viewed next) v status (told_some next (task_in c.in-Ok.answer.reply) c.in-Some.task (search rules) f)
 
 pub returns-in-Ok : goal.returns-in-Ok
-returns-in-Ok g c = λ id waited next posts.
-    c.in-Ok.ensures (result_call id) waited posts (viewed next) _ _ (told_none next (task_in c.in-Ok.answer.reply) (search rules))
+returns-in-Ok g c = λ id aside next posts.
+    c.in-Ok.ensures (result_call id) aside posts (viewed next) _ _ (told_none next (task_in c.in-Ok.answer.reply) (search rules))
 
 pub returns : goal.returns
-returns g c = λ id waited next posts. c.in-Err.ensures (result_call id) waited posts (viewed next)
+returns g c = λ id aside next posts. c.in-Err.ensures (result_call id) aside posts (viewed next)

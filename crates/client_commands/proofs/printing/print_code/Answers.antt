@@ -7,4 +7,4 @@ pub returns-in-Ok : goal.returns-in-Ok
 returns-in-Ok g c = grind (arith, common_steps)
 
 pub returns-in-Err : goal.returns-in-Err
-returns-in-Err g c = λ server dialer waited. lacks_memory _ _
+returns-in-Err g c = λ server dialer aside. lacks_memory _ _

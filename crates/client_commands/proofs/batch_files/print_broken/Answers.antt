@@ -1,0 +1,5 @@
+use Rattle.client_commands.specs.Plans.{lacks_memory}
+use Rattle.client_commands.proofs.batch_files.print_broken.Goals as goal
+
+pub returns-in-Err : goal.returns-in-Err
+returns-in-Err g c = λ server dialer aside. lacks_memory _ _
