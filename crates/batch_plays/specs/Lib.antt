@@ -1,0 +1,5 @@
+pub mod Asking
+pub mod Saving
+pub mod World
+pub mod Turns
+pub mod Once

@@ -1,0 +1,2 @@
+mod NewMachines
+mod NextLines
