@@ -203,11 +203,12 @@ def make(asked, number):
     return fuzz_sessions.Maker(random.Random(f"{asked.seed} {number}"), not asked.without_records).session()
 
 
-def run(asked):
-    """Plays sessions as long as is asked, and prints the figures: the status of the check."""
+def run(asked, passed=0, failed=0):
+    """Plays sessions as long as is asked, and prints the figures: the status of the check. So many others have passed
+    and failed before."""
     if asked.machines:
         return fuzz_transcripts.run(asked, make)
-    began, passed, failed, requests, number = time.monotonic(), 0, 0, 0, asked.session or 0
+    began, requests, number = time.monotonic(), 0, asked.session or 0
     with tempfile.TemporaryDirectory(dir=MEMORY if os.access(MEMORY, os.W_OK) else None) as folder:
         programs = Programs(asked.program or records.built_program(), folder, find_clock())
         while True:
