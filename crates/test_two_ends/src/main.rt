@@ -26,19 +26,7 @@
 //! | `steps NAME ROW; ROW`, `do NAME` | names turns and expectations, and plays those of that name |
 //!
 //! A place counts from 0, or as `-1`, `-2` from the last one back. In a text that a command writes `\n` is
-//! the end of a line. What stands in a world is:
-//!
-//! | What | Text |
-//! |---|---|
-//! | `bot` | what the bot is to do next |
-//! | `sent` | how many requests it sent |
-//! | `asking` | the place of its present request, and the request; or `nothing` |
-//! | `got` | how many replies the pool gave, and the last one |
-//! | `run` | how many runs the bot was told of, and the newest: its claim, task and try, how often its command was started, and how many bytes it wrote |
-//! | `pending` | how many bytes of output wait |
-//! | `task N` | the state of a task; the try of its run, the length that is kept of its output, and how many bytes the last report dropped |
-//! | `lost N` | the same of its run that was lost and is tried once more |
-//! | `log`, `entry` | how many entries the log has; the kind of the last one |
+//! the end of a line. `world_text` has what may be asked of a world, and how it is written.
 #![tactic(auto)]
 
 mod action_text;

@@ -1,4 +1,16 @@
 //! What a world has, in words: the subjects of the expectations.
+//!
+//! | What | Text |
+//! |---|---|
+//! | `bot` | what the bot is to do next |
+//! | `sent` | how many requests it sent |
+//! | `asking` | the place of its present request, and the request; or `nothing` |
+//! | `got` | how many replies the pool gave, and the last one |
+//! | `run` | how many runs the bot was told of, and the newest: its claim, task and try, how often its command was started, and how many bytes it wrote |
+//! | `pending` | how many bytes of output wait |
+//! | `task N` | the state of a task; the try of its run, the length that is kept of its output, and how many bytes the last report dropped |
+//! | `lost N` | the same of its run that was lost and is tried once more |
+//! | `log`, `entry` | how many entries the log has; the kind of the last one |
 use crate::action_text::action_text;
 use crate::message_text::{reply_text, request_text};
 use crate::pool_text::{entry_text, lost_text, task_text};
