@@ -1,7 +1,4 @@
-mod Tasks
 mod Holding
-mod Entering
-mod NumberedTasks
 mod Following
 mod Moving
 mod Counts

@@ -1,9 +1,9 @@
 -- What a row brings that is loaded behind those before it.
-use Rattle.std.proofs.Common.{◌≡◌, ℕ, zero, suc, ◌+◌, ◌<◌, ◌^◌, true, List, [], ◌∷◌, ◌++◌, map, take, find, length, get_or, inl, inr, refl, sym, ap, ◌∙◌, subst, Option, Some, None, Result, Ok, Err, IfSome, IsTrue, arith}
+use Rattle.std.proofs.Common.{◌≡◌, ℕ, ◌+◌, ◌<◌, ◌^◌, true, List, [], ◌∷◌, ◌++◌, map, take, length, get_or, inl, inr, sym, ap, ◌∙◌, subst, Option, Some, None, Result, Ok, Err, IfSome, IsTrue, arith}
 use Rattle.std.specs.List.{All}
 use Rattle.std.specs.Option.{option_map}
 use Rattle.std.specs.Prelude.{OnOk}
-use Rattle.std.proofs.lemmas.List.{take_more, length-take-le}
+use Rattle.std.proofs.lemmas.List.{length-take-le}
 use Rattle.std.proofs.lemmas.List.Elements.{All-take}
 use Rattle.std.proofs.lemmas.List.Sums.{sum_by_more_le}
 use Rattle.blob_rows.specs.declared.blob_row.BlobRow.{BlobRow}
@@ -14,20 +14,16 @@ use Rattle.swarm_model.specs.declared.task_row.TaskRow.{TaskRow}
 use Rattle.swarm_model.specs.declared.bot_row.BotRow.{BotRow}
 use Rattle.swarm_model.specs.declared.deadline.Deadline.{Deadline}
 use Rattle.swarm_model.specs.declared.pool_state.PoolState.{PoolState}
-use Rattle.swarm_model.specs.Numbers.{AreNumbered}
 use Rattle.swarm_model.specs.BaseRules.{IsBase}
 use Rattle.swarm_model.specs.Deadlines.{bot_end, blob_end}
 use Rattle.swarm_model.specs.Effects.{no_of_task, no_of_bot}
-use Rattle.swarm_model.specs.Finding.{has_state, is_called}
+use Rattle.swarm_model.specs.Finding.{has_state}
 use Rattle.swarm_model.specs.History.{count_in, states, tally}
 use Rattle.swarm_model.specs.Settings.{keeps_rules}
 use Rattle.swarm_model.specs.Slices.{current_slice, kept_from}
-use Rattle.swarm_model.specs.Soundness.{IsSound, IsSoundTask, IsRightTry, AreClaimedApart, AreSentApart, AreNamedApart}
-use Rattle.swarm_model.proofs.Numbers.{number_at}
-use Rattle.pool_laws.proofs.Alike.{same_is}
-use Rattle.pool_laws.proofs.Lists.{Among, Found, each, find_is, number_within}
+use Rattle.swarm_model.specs.Soundness.{IsSoundTask, IsRightTry, AreClaimedApart, AreSentApart}
+use Rattle.pool_laws.proofs.Lists.{Among, each}
 use Rattle.row_changes.specs.Rows.{IsEarly, IsHeard}
-use Rattle.bot_registry.specs.Acting.{row_named}
 use Rattle.dim_queue.specs.Plain.{QueueState, SameWaits, Enters, IsAbsent}
 use Rattle.dim_queue.specs.Taking.{set_with}
 use Rattle.pool_index.specs.declared.claim_link.ClaimLink.{ClaimLink}
@@ -38,7 +34,7 @@ use Rattle.pool_index.specs.QueuedDeadlines.{DeadlineQueueState, Adds}
 use Rattle.pool_index.specs.Sources.{AreWith}
 use Rattle.pool_index.specs.Uuids as uuids
 use Rattle.index_laws.specs.BlobDeadlines.{AreBlobDeadlines}
-use Rattle.index_laws.specs.Loads.{with_task, with_bot, IsNextTask, IsNextBot, last_claim_link, lost_claim_link, AreNewClaims}
+use Rattle.index_laws.specs.Loads.{with_task, IsNextTask, IsNextBot, last_claim_link, lost_claim_link, AreNewClaims}
 use Rattle.index_laws.specs.RowDeadlines.{task_deadline, AreTaskDeadlines, AreBotDeadlines}
 use Rattle.index_laws.specs.TaskClaims.{AreClaims}
 use Rattle.index_laws.specs.TaskQueues.{waiting_of, AreQueued}
@@ -49,6 +45,7 @@ use Rattle.index_laws.proofs.Keys.{among_of}
 use Rattle.index_laws.proofs.Loading.{queue_gains, queue_is_free, claims_gain, claims_are_new, uuids_gain, uuid_is_new, sources_gain, uses_gain, counts_gain, task_deadlines_gain, bot_deadlines_gain, blob_deadlines_gain}
 use Rattle.index_laws.proofs.UsesAreFew.{uses_of_rows_weigh}
 use Rattle.pool_log.proofs.RowFacts.{all_early, all_heard}
+use Rattle.common_rows.proofs.LoadedRows.{numbered_take, next_number, more_rows}
 use Rattle.swarm_machine.specs.declared.indexes.Indexes.{Indexes}
 use Rattle.swarm_machine.specs.Counting.{shifted, AreShifted}
 use Rattle.swarm_machine.specs.Indexes.{AreIndexes}
@@ -76,41 +73,6 @@ may_load base rules is =
 pub on_ok : {T E : Type 0} {A B : Type 0} (r : Result T E) → OnOk r A → (A → B) → OnOk r B
 on_ok (Ok v) a f = f a
 on_ok (Err e) a f = a
-
--- ---- rows that are numbered by their places
-
-numbered_take : {R : Type 0} (number_of : R → ℕ) (n place : ℕ) (rows : List R) → AreNumbered number_of n rows → AreNumbered number_of n (take place rows)
-numbered_take number_of n zero rows are = tt
-numbered_take number_of n (suc place) [] are = tt
-numbered_take number_of n (suc place) (x ∷ rows) are = (are.0, numbered_take number_of (n + 1) place rows are.1)
-
--- the row at a place has the number behind those of the rows before it
-pub next_number : {R : Type 0} (number_of : R → ℕ) (place : ℕ) (rows : List R) (row : R) → AreNumbered number_of 1 rows → place < length rows → row ≡ get_or rows place row →
-    number_of row ≡ length (take place rows) + 1
-next_number number_of place rows row are low is =
-    let number : number_of row ≡ 1 + place = ap number_of is ∙ number_at number_of 1 place rows row are low in
-    let few : length (take place rows) ≡ place = length-take-le place rows (omega (arith, low)) in
-    omega (arith, number, few)
-
-pub more_rows : {R : Type 0} (rows : List R) (place : ℕ) (row : R) → place < length rows → row ≡ get_or rows place row → take (place + 1) rows ≡ take place rows ++ row ∷ []
-more_rows {R = R} rows place row low is = take_more rows place row low ∙ ap (λ (x : R). take place rows ++ x ∷ []) (sym is)
-
--- no bot before it has its name
-pub name_is_new : (bots : List BotRow) → AreNumbered no_of_bot 1 bots → All (λ bot. All (AreNamedApart bot) bots) bots → (place : ℕ) → place < length bots → (row : BotRow) → row ≡ get_or bots place row →
-    row_named (take place bots) row.name ≡ None
-name_is_new bots are named place low row is = by_found (row_named (take place bots) row.name) refl
-  where
-    apart : All (AreNamedApart row) (take place bots)
-    apart = All-take (AreNamedApart row) place bots (each (λ (bot : BotRow). All (AreNamedApart bot) bots) bots named row (among_of bots row (place, low, sym is)))
-
-    by_found : (r : Option BotRow) → row_named (take place bots) row.name ≡ r → r ≡ None
-    by_found None found = refl
-    by_found (Some y) found =
-        (let its : Found (is_called row.name) (take place bots) y = find_is (is_called row.name) (take place bots) y found in
-        let same : row.no ≡ y.no = each (AreNamedApart row) (take place bots) apart y its.among (sym (same_is y.name row.name its.passes)) in
-        let low_number = (number_within no_of_bot 1 (take place bots) (numbered_take no_of_bot 1 place bots are) y its.among).1 in
-        let own = next_number no_of_bot place bots row are low is in
-        absurd (omega (arith, same, low_number, own)))
 
 -- ---- a bot
 

@@ -1,4 +1,3 @@
-pub mod Changing
 pub mod Inside
 pub mod Counting
 pub mod TouchedBlobs

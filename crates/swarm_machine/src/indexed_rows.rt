@@ -7,7 +7,7 @@ ghost use Rattle.swarm_machine.specs.Indexes.{AreIndexes, IsMadeReady};
 
 use crate::indexes::{Indexes, touched_by};
 use crate::rows::Rows;
-use crate::{pages, sources};
+use crate::sources;
 use content_store::{Filled, Held};
 use dimensions::{BotDims, DimSet, Text};
 use ghost_values::GhostValue;
@@ -77,7 +77,7 @@ impl IndexedRows {
         ensures cost { steps.new ≤ steps.old + 1 }
         ensures free { IsNone result → steps.new ≡ steps.old }
     {
-        pages::task_of(&self.rows.tasks, number, steps)
+        common_rows::task_of(&self.rows.tasks, number, steps)
     }
 
     /// The row of a task that an index found.
@@ -125,7 +125,7 @@ impl ReadQueries for IndexedRows {
         below: Option<u32>,
         steps: &mut Steps<L>,
     ) -> Option<&TaskRow> {
-        pages::newest_below(&self.rows.tasks, wanted, below, steps)
+        common_rows::newest_below(&self.rows.tasks, wanted, below, steps)
     }
 
     fn bot_count(&self) -> usize {

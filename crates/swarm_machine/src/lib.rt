@@ -3,12 +3,12 @@
 //! [`Pool`] is a [`Machine`](swarm_model::Machine): the log is that of `pool_log`, over
 //! [`IndexedRows`]. They answer the queries of `pool_rules` by indexes that their invariant alone ties
 //! to the rows (`specs/Indexes.antt`, `specs/Invariant.antt`), so the contract is that of any rows.
-//! `indexed_rows.rt` has the queries, `rows.rt` the rows, which an entry changes
-//! (`changing_tasks.rt`), and `indexes.rt` the indexes. These are set anew for the rows that an
-//! entry touched (`touched.rt`): deadlines (`deadlines.rt`), queues (`queueing.rt`), sources of
+//! `indexed_rows.rt` has the queries, `rows.rt` the rows, of which those of tasks and bots change by
+//! `common_rows`, and `indexes.rt` the indexes. These are set anew for the rows that an entry
+//! touched (`touched.rt`): deadlines (`deadlines.rt`), queues (`queueing.rt`), sources of
 //! outcomes (`sources.rt`), uses of digests (`uses.rt`) and counts of states (`counting.rt`).
-//! `pages.rt` reads tasks one after another. A pool that opens from the rows of a base copies them
-//! (`loading_rows.rt`), and loads each index row by row (`loading_indexes.rt`).
+//! A pool that opens from the rows of a base copies them, and loads each index row by row
+//! (`loading_indexes.rt`).
 //!
 //! A task or a bot is found at its place by its number, and by bisection by its name, uuid or
 //! claim, and so is the newest source of a hash, and whether a blob is in use. A task whose run was
@@ -28,14 +28,11 @@
 //! that a rare state costs all of them; and a blob by its digest or number.
 #![tactic(auto)]
 
-mod changing_tasks;
 mod counting;
 mod deadlines;
 mod indexed_rows;
 mod indexes;
 mod loading_indexes;
-mod loading_rows;
-mod pages;
 mod queueing;
 mod rows;
 mod sources;

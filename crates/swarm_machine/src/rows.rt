@@ -7,12 +7,10 @@ ghost use Rattle.swarm_model.specs.Effects.{run_of_bot};
 ghost use Rattle.swarm_model.specs.History.{MayFollow};
 ghost use Rattle.swarm_model.specs.Soundness.{IsSound};
 ghost use Rattle.pool_changes.specs.Blobs.{AreBrought, fresh_in, held_in};
-ghost use Rattle.swarm_machine.specs.Changing.{run_to_end};
 ghost use Rattle.swarm_machine.specs.Inside.{state_of, IsReadyFor, IsOfSettings, IsAfter};
 
-use crate::changing_tasks::change_tasks;
-use crate::loading_rows::{load_bots, load_tasks};
 use bot_registry::Registry;
+use common_rows::{change_rows, load_bots, load_tasks};
 use content_store::Blobs;
 use dimensions::TryCopy;
 use pool_changes::{blob_effect, change_blobs, load_blobs};
@@ -78,20 +76,7 @@ impl Rows {
     pub fn run_of_bot(&self, b: u32) -> Option<u32>
         ensures { result ≡ run_of_bot (state_of self.now) b }
     {
-        match self.bots.bot(b) {
-            Some(bot) => bot.task,
-            None => None,
-        }
-    }
-
-    /// The run that ends where its bot comes with another session.
-    fn run_to_end(&self, kind: &EntryKind) -> Option<u32>
-        ensures { result ≡ run_to_end (state_of self.now) kind.now }
-    {
-        match kind {
-            EntryKind::Handshake { b, .. } => self.run_of_bot(*b),
-            _ => None,
-        }
+        common_rows::run_of_bot(&self.bots, b)
     }
 
     /// How many seconds a blob is kept.
@@ -115,9 +100,7 @@ impl Rows {
     {
         let effect = blob_effect(&entry.kind, self.fresh_in(&entry.kind));
         let life = self.blob_life();
-        let run = self.run_to_end(&entry.kind);
-        change_tasks(&mut self.tasks, run, entry);
-        self.bots.apply(entry);
+        change_rows(&mut self.tasks, &mut self.bots, entry);
         change_blobs(&mut self.blobs, life, entry.moment, effect, bytes);
         self.last = entry.moment;
     }

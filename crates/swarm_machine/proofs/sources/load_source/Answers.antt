@@ -1,5 +1,5 @@
 -- What was made ready is the link of the row.
-use Rattle.std.proofs.Common.{◌≡◌, List, Option, sym, ap, ◌∙◌, subst}
+use Rattle.std.proofs.Common.{◌≡◌, List, Option, ap, ◌∙◌, subst}
 use Rattle.std.specs.Option.{option_map}
 use Rattle.pool_index.specs.declared.source_link.SourceLink.{SourceLink}
 use Rattle.pool_index.specs.Sources.{AreWith}

@@ -1,5 +1,5 @@
 -- To list a digest leaves the counts.
-use Rattle.std.proofs.Common.{sym, ap, ◌∙◌, ℕ, ◌+◌, arith}
+use Rattle.std.proofs.Common.{ap, ◌∙◌, ℕ, ◌+◌, arith}
 use Rattle.swarm_machine.proofs.uses.load_use.Goals as goal
 
 pub add-requires-clause-small : goal.add-requires-clause-small

@@ -3,29 +3,21 @@ use Rattle.std.proofs.Common.{◌≡◌, ℕ, Bor, ap, refl, sym, ◌∙◌, Lis
 use Rattle.std.specs.Option.{option_map}
 use Rattle.blob_rows.specs.BlobRows.{BlobRowsState}
 use Rattle.content_store.specs.StoredRows.{rows_in}
-use Rattle.bot_registry.specs.Plain.{RegistryState}
 use Rattle.swarm_model.specs.declared.attempt.Chunk.{Chunk}
 use Rattle.swarm_model.specs.declared.pool_state.PoolState.{PoolState}
 use Rattle.swarm_model.specs.Effects.{life, blobs_in, with_rows, with_blobs, after}
 use Rattle.pool_changes.specs.declared.effects.BlobEffect.{BlobEffect}
 use Rattle.pool_changes.specs.Blobs.{held_in, blob_effect, effect_of, rows_with, held_with}
-use Rattle.pool_changes.proofs.BlobEffects.{with_blobs_is, held_is, can_change, keeps_short}
+use Rattle.pool_changes.proofs.BlobEffects.{with_blobs_is, held_is, can_change}
 use Rattle.swarm_machine.specs.Inside.{state_of}
-use Rattle.pool_log.proofs.RowFacts.{all_few}
-use Rattle.swarm_machine.proofs.Entering.{next_task, follows_bots}
+use Rattle.common_rows.proofs.Entering.{suits_tasks, follows_bots}
 use Rattle.swarm_machine.proofs.rows.Rows.apply.Goals as goal
 
-pub change_tasks-requires-clause-next : goal.change_tasks-requires-clause-next
-change_tasks-requires-clause-next c = next_task (state_of c.args.self.now) c.args.entry.now c.requires.follows
+pub change_rows-requires-clause-suits : goal.change_rows-requires-clause-suits
+change_rows-requires-clause-suits c = suits_tasks (state_of c.args.self.now) c.args.entry.now c.requires.sound c.requires.follows
 
-pub change_tasks-requires-clause-few : goal.change_tasks-requires-clause-few
-change_tasks-requires-clause-few c = all_few (state_of c.args.self.now) c.requires.sound
-
-pub change_tasks-requires-clause-short : goal.change_tasks-requires-clause-short
-change_tasks-requires-clause-short c = keeps_short (state_of c.args.self.now) c.args.entry.now c.requires.follows
-
-pub apply-requires-clause-follows : goal.apply-requires-clause-follows
-apply-requires-clause-follows c =
+pub change_rows-requires-clause-follows : goal.change_rows-requires-clause-follows
+change_rows-requires-clause-follows c =
     follows_bots (state_of c.args.self.now) c.args.entry.now c.args.self.now.bots refl c.requires.of_settings.bots c.requires.sound c.requires.follows
 
 pub change_blobs-requires-clause-may : goal.change_blobs-requires-clause-may
@@ -43,8 +35,8 @@ returns c =
     let k = e.kind in
     let bytes = option_map (λ (b : Bor (List ℕ)). b.now) c.args.bytes in
     let pool = c.requires.of_settings.blobs in
-    let tasks = c.change_tasks.ensures.rows s refl (sym c.requires.of_settings.tasks) c.run_to_end-run.ensures in
-    let bots = c.apply.ensures.rows s refl in
+    let tasks = c.change_rows.ensures.rows.of_tasks s refl refl (sym c.requires.of_settings.tasks) in
+    let bots = c.change_rows.ensures.rows.of_bots s refl in
     let effect : c.blob_effect-effect.result ≡ blob_effect s k = c.blob_effect-effect.ensures ∙ ap (λ (fresh : Option Chunk). effect_of fresh k) c.fresh_in.ensures in
     let own : rows_in old.blobs ≡ blobs_in s = λ i. (let x : BlobRowsState = record { rows = old.blobs.rows; placed = old.blobs.placed; units = pool.units i } in x) in
     let blobs : rows_in c.change_blobs.new.blobs ≡ rows_with (life s) m (blob_effect s k) (blobs_in s) =
@@ -56,8 +48,8 @@ returns c =
           ∙ ap (λ (p : PoolState). let x : PoolState = record p { last = m; tasks = (after s e).tasks; bots = (after s e).bots } in x) by_blob;
       held = c.change_blobs.ensures.held ∙ ap (λ (f : BlobEffect). held_with f old.blobs.rows bytes (held_in old.blobs)) effect ∙ held_is s k bytes (held_in old.blobs);
       of_settings = record {
-        tasks = c.change_tasks.ensures.retries ∙ c.requires.of_settings.tasks;
+        tasks = c.change_rows.ensures.retries ∙ c.requires.of_settings.tasks;
         blobs = record { units = c.change_blobs.ensures.units ∙ pool.units; names = c.change_blobs.ensures.names ∙ pool.names };
-        bots = ap (λ (r : RegistryState). r.most) c.apply.ensures.rest ∙ c.requires.of_settings.bots;
+        bots = c.change_rows.ensures.most ∙ c.requires.of_settings.bots;
       };
     }

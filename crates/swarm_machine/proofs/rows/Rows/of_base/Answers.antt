@@ -1,6 +1,4 @@
 -- The rows are those of the base.
-use Rattle.std.proofs.Common.{List, sym, subst, ap}
-use Rattle.std.specs.List.{All}
 use Rattle.swarm_machine.proofs.rows.Rows.of_base.Goals as goal
 
 pub load_tasks-requires : goal.load_tasks-requires

@@ -12,11 +12,7 @@ use swarm_model::{BotRow, TaskRow};
 use task_rows::TaskRows;
 
 /// The rows of these tasks, in a pool that retries so often.
-pub(crate) fn load_tasks(
-    alloc: Global,
-    retries: u32,
-    tasks: &[TaskRow],
-) -> Result<TaskRows, AllocError>
+pub fn load_tasks(alloc: Global, retries: u32, tasks: &[TaskRow]) -> Result<TaskRows, AllocError>
     requires { AreNumbered no_of_task 1 tasks.now }
     ensures rows { IfOk result (λ loaded. loaded.rows ≡ tasks.now) }
     ensures retries { IfOk result (λ loaded. loaded.retries ≡ retries) }
@@ -29,7 +25,7 @@ pub(crate) fn load_tasks(
 }
 
 /// The rows of these bots, of which there may be so many.
-pub(crate) fn load_bots(alloc: Global, most: u32, bots: &[BotRow]) -> Result<Registry, AllocError>
+pub fn load_bots(alloc: Global, most: u32, bots: &[BotRow]) -> Result<Registry, AllocError>
     requires numbered { AreNumbered no_of_bot 1 bots.now }
     requires few { length bots.now ≤ most }
     requires named { All (λ bot. All (AreNamedApart bot) bots.now) bots.now }

@@ -1,7 +1,7 @@
 -- The first tasks have the lowest numbers.
 use Rattle.std.proofs.lemmas.List.{take_min}
 use Rattle.pool_log.proofs.TasksBelow.{filter-is_listed}
-use Rattle.swarm_machine.proofs.pages.count_below.Goals as goal
+use Rattle.common_rows.proofs.pages.count_below.Goals as goal
 
 pub returns-in-Some-clause-first : goal.returns-in-Some-clause-first
 returns-in-Some-clause-first c wanted =

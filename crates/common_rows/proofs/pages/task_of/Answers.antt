@@ -4,8 +4,8 @@ use Rattle.std.proofs.lemmas.Option.{slice_get_read, slice_get_past}
 use Rattle.swarm_model.specs.Effects.{no_of_task}
 use Rattle.swarm_model.specs.Finding.{is_task}
 use Rattle.row_changes.proofs.Numbered.{none_at_zero}
-use Rattle.swarm_machine.proofs.NumberedTasks.{find_number}
-use Rattle.swarm_machine.proofs.pages.task_of.Goals as goal
+use Rattle.common_rows.proofs.NumberedTasks.{find_number}
+use Rattle.common_rows.proofs.pages.task_of.Goals as goal
 
 pub returns-then-number-eq0-clause-value : goal.returns-then-number-eq0-clause-value
 returns-then-number-eq0-clause-value g c =

@@ -1,12 +1,12 @@
 -- Each row is copied, has the number behind those before it, and a name that none of them has.
-use Rattle.std.proofs.Common.{◌≡◌, List, [], ◌∷◌, ◌++◌, None, length, take, sym, ap, subst, ◌∙◌, arith}
+use Rattle.std.proofs.Common.{◌≡◌, List, [], ◌∷◌, ◌++◌, length, take, sym, ap, ◌∙◌, arith}
 use Rattle.std.proofs.lemmas.List.{length-take-le}
 use Rattle.swarm_model.specs.declared.bot_row.BotRow.{BotRow}
 use Rattle.swarm_model.specs.Effects.{no_of_bot}
 use Rattle.bot_registry.specs.Acting.{row_named}
 use Rattle.bot_registry.specs.Plain.{RegistryState}
-use Rattle.swarm_machine.proofs.Loading.{next_number, more_rows, name_is_new}
-use Rattle.swarm_machine.proofs.loading_rows.load_bots.Goals as goal
+use Rattle.common_rows.proofs.LoadedRows.{next_number, more_rows, name_is_new}
+use Rattle.common_rows.proofs.loading.load_bots.Goals as goal
 
 pub load-requires : goal.load-requires
 load-requires c =

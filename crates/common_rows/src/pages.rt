@@ -47,7 +47,7 @@ fn task_at<'a, L: Ledger>(tasks: &'a TaskRows, place: usize, steps: &mut Steps<L
 }
 
 /// The task of a number, which is read for one step where there is one.
-pub(crate) fn task_of<'a, L: Ledger>(
+pub fn task_of<'a, L: Ledger>(
     tasks: &'a TaskRows,
     number: u32,
     steps: &mut Steps<L>,
@@ -93,7 +93,7 @@ fn newest<'a, L: Ledger>(
 
 /// The newest task in the state, or in any where none is named, below a number, where one is given.
 /// It reads the tasks from that number down to the one that it finds.
-pub(crate) fn newest_below<'a, L: Ledger>(
+pub fn newest_below<'a, L: Ledger>(
     tasks: &'a TaskRows,
     wanted: Option<TaskState>,
     below: Option<u32>,

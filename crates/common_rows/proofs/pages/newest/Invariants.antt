@@ -1,7 +1,7 @@
 -- None of the tasks that were read is wanted.
 use Rattle.std.proofs.Common.{◌≡◌, take, reverse, find}
 use Rattle.swarm_model.specs.Finding.{is_wanted}
-use Rattle.swarm_machine.proofs.pages.newest.Given as goal
+use Rattle.common_rows.proofs.pages.newest.Given as goal
 
 abbrev pub invariant-loop-place : goal.invariant-loop-place
 invariant-loop-place g l =

@@ -1,16 +1,10 @@
 -- Each kind of entry changes the rows by one call, or leaves them.
 use Rattle.std.proofs.Common.{refl, sym, subst, ap, ◌∙◌}
-use Rattle.dimensions.proofs.Found.{IfSome-find}
-use Rattle.row_changes.specs.Rows.{HasFewSlices}
-use Rattle.swarm_model.specs.Finding.{is_task}
 use Rattle.swarm_model.specs.Effects.{run_of_bot}
 use Rattle.task_rows.specs.Acting.{ComesFromRun}
-use Rattle.swarm_machine.specs.Changing.{run_to_end}
-use Rattle.swarm_machine.proofs.Tasks.{kept_by, none_lost}
-use Rattle.swarm_machine.proofs.changing_tasks.change_tasks.Goals as goal
-
-pub next_slice-requires-clause-few : goal.next_slice-requires-clause-few
-next_slice-requires-clause-few c = IfSome-find HasFewSlices (is_task c.in-Slice.t) c.args.tasks.now.rows c.requires.few
+use Rattle.common_rows.specs.Changing.{run_to_end}
+use Rattle.common_rows.proofs.Tasks.{kept_by, none_lost}
+use Rattle.common_rows.proofs.changing.change_tasks.Goals as goal
 
 pub returns-in-Slice-clause-rows : goal.returns-in-Slice-clause-rows
 returns-in-Slice-clause-rows c = λ s same tries run. c.next_slice.ensures.rows s same
@@ -39,12 +33,12 @@ returns-in-Silence-clause-rows c = λ s same tries run. c.finish-in-Silence.ensu
 pub returns-in-Some-run-clause-rows : goal.returns-in-Some-run-clause-rows
 returns-in-Some-run-clause-rows c = λ s same tries run.
     c.finish-in-Some-run.ensures.rows s same tries
-    (subst (ComesFromRun s c.in-Some-run.t) (sym c.in-Handshake.is) (sym (ap (run_to_end s) c.in-Handshake.is) ∙ sym run ∙ c.in-Some-run.is))
+    (subst (ComesFromRun s c.in-Some-run.t) (sym c.in-Handshake.is) (sym (ap (run_to_end s.bots) c.in-Handshake.is) ∙ sym run ∙ c.in-Some-run.is))
 
 pub returns-in-None-run-clause-rows : goal.returns-in-None-run-clause-rows
 returns-in-None-run-clause-rows c = λ s same tries run.
     kept_by c.args.tasks.now.rows s c.args.entry.now _ c.in-Handshake.is same
-    (none_lost s.settings.retries c.args.entry.now.moment (run_of_bot s c.in-Handshake.b) s.tasks (sym (ap (run_to_end s) c.in-Handshake.is) ∙ sym run ∙ c.in-None-run.is))
+    (none_lost s.settings.retries c.args.entry.now.moment (run_of_bot s c.in-Handshake.b) s.tasks (sym (ap (run_to_end s.bots) c.in-Handshake.is) ∙ sym run ∙ c.in-None-run.is))
 
 pub returns-in-Dead-clause-rows : goal.returns-in-Dead-clause-rows
 returns-in-Dead-clause-rows c = λ s same tries run. kept_by c.args.tasks.now.rows s c.args.entry.now _ c.in-Dead.is same refl

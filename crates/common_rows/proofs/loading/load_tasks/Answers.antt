@@ -3,8 +3,8 @@ use Rattle.std.proofs.Common.{◌≡◌, List, [], ◌∷◌, ◌++◌, length, 
 use Rattle.swarm_model.specs.declared.task_row.TaskRow.{TaskRow}
 use Rattle.swarm_model.specs.Effects.{no_of_task}
 use Rattle.task_rows.specs.Plain.{TaskRowsState}
-use Rattle.swarm_machine.proofs.Loading.{next_number, more_rows}
-use Rattle.swarm_machine.proofs.loading_rows.load_tasks.Goals as goal
+use Rattle.common_rows.proofs.LoadedRows.{next_number, more_rows}
+use Rattle.common_rows.proofs.loading.load_tasks.Goals as goal
 
 pub load-requires : goal.load-requires
 load-requires c =

@@ -3,7 +3,7 @@ use Rattle.std.proofs.Common.{List, take, reverse, slice_get, ap, sym, ◌∙◌
 use Rattle.swarm_model.specs.declared.task_row.TaskRow.{TaskRow}
 use Rattle.swarm_model.specs.Finding.{is_wanted}
 use Rattle.pool_log.proofs.Finding.{find-reverse}
-use Rattle.swarm_machine.proofs.pages.newest_below.Goals as goal
+use Rattle.common_rows.proofs.pages.newest_below.Goals as goal
 
 pub returns : goal.returns
 returns g c =

@@ -1,8 +1,8 @@
 -- The task at a place has the number after it.
 use Rattle.std.proofs.Common.{sym, ◌∙◌}
 use Rattle.std.proofs.lemmas.Option.{get_or_from_slice_get}
-use Rattle.swarm_machine.proofs.NumberedTasks.{find_at, some_at}
-use Rattle.swarm_machine.proofs.pages.task_at.Goals as goal
+use Rattle.common_rows.proofs.NumberedTasks.{find_at, some_at}
+use Rattle.common_rows.proofs.pages.task_at.Goals as goal
 
 pub unreachable-requires : goal.unreachable-requires
 unreachable-requires g c =

@@ -1,33 +1,39 @@
--- What an entry that may follow needs of the rows.
+-- An entry that may follow a pool suits its rows.
 use Rattle.std.proofs.Common.{◌≡◌, ℕ, ◌+◌, List, length, Option, Some, None, ◌⊎◌, inl, inr, refl, MatchOption, eqb-true, sym, ap, ◌∙◌, subst, arith}
+use Rattle.dimensions.proofs.Found.{IfSome-find}
 use Rattle.swarm_model.specs.declared.bot_row.BotRow.{BotRow}
 use Rattle.swarm_model.specs.declared.pool_state.PoolState.{PoolState}
 use Rattle.swarm_model.specs.declared.entry.Entry.{Entry}
 use Rattle.swarm_model.specs.declared.entry.EntryKind.{EntryKind}
 use Rattle.swarm_model.specs.declared.entry.EntryKind.TheVariants as kind
-use Rattle.swarm_model.specs.Finding.{bot_of}
+use Rattle.swarm_model.specs.Finding.{is_bot, is_task, bot_of}
 use Rattle.swarm_model.specs.History.{MayFollow}
 use Rattle.swarm_model.specs.Soundness.{IsSound}
 use Rattle.swarm_model.specs.Effects.{no_of_bot}
-use Rattle.swarm_model.specs.Finding.{is_bot}
+use Rattle.row_changes.specs.Rows.{HasFewSlices}
 use Rattle.pool_laws.proofs.Alike.{same_is}
 use Rattle.pool_laws.proofs.Lists.{Found, find_is, number_within}
 use Rattle.pool_laws.proofs.Preconditions.{Finds, IsOld, IsNewcomer}
 use Rattle.pool_laws.proofs.EntryPreconditions.{finds}
 use Rattle.pool_laws.proofs.Rows.{find_bot}
+use Rattle.pool_changes.specs.Blobs.{KeepsShort}
+use Rattle.pool_changes.proofs.BlobEffects.{keeps_short}
+use Rattle.pool_log.proofs.RowFacts.{all_few}
 use Rattle.bot_registry.specs.Plain.{RegistryState}
 use Rattle.bot_registry.specs.Acting.{row_of, row_named, Follows, IsNewBot}
-use Rattle.swarm_machine.specs.Changing.{IsNextTask}
+use Rattle.common_rows.specs.Suiting.{SuitsTasks}
 
--- a new task has the next number
-pub next_task : (s : PoolState) (e : Entry) → MayFollow s e → IsNextTask s.tasks e.kind
-next_task s e follows = of_kind e.kind (finds s e follows)
+-- the rows of tasks can take it
+pub suits_tasks : (s : PoolState) (e : Entry) → IsSound s → MayFollow s e → SuitsTasks s.tasks e.kind
+suits_tasks s e sound follows = of_kind e.kind (finds s e follows) (keeps_short s e follows)
   where
-    of_kind : (k : EntryKind) → Finds s k → IsNextTask s.tasks k
-    of_kind (kind.New t who request state slice from) f = f.next
-    of_kind k f = tt
+    of_kind : (k : EntryKind) → Finds s k → KeepsShort s.tasks k → SuitsTasks s.tasks k
+    of_kind (kind.New t who request state slice from) f short = f.next
+    of_kind (kind.Slice t to) f short = IfSome-find HasFewSlices (is_task t) s.tasks (all_few s sound)
+    of_kind (kind.Update b t try_no chunk last) f short = short
+    of_kind k f short = tt
 
--- a bot that comes is new, or known by its name
+-- so can those of bots: a bot that comes is new, or known by its name
 pub follows_bots : (s : PoolState) (e : Entry) (kept : RegistryState) → kept.rows ≡ s.bots → kept.most ≡ s.settings.most_bots → IsSound s → MayFollow s e → Follows kept e.kind
 follows_bots s e kept same most sound follows = of_kind e.kind (finds s e follows)
   where
@@ -53,3 +59,21 @@ follows_bots s e kept same most sound follows = of_kind e.kind (finds s e follow
     of_kind (kind.Handshake b id session dims q) f =
         subst (λ (rows : List BotRow). MatchOption (row_of rows b) (IsNewBot kept b id) (λ bot. bot.name ≡ id)) (sym same) (greets b id f (bot_of s b) refl)
     of_kind k f = tt
+
+-- what a registry can take, another one of the same rows can take
+pub follows_alike : (a b : RegistryState) (k : EntryKind) → a.rows ≡ b.rows → a.most ≡ b.most → Follows a k → Follows b k
+follows_alike a b (kind.Handshake n id session dims q) rows most follows = by_row (row_of a.rows n) (row_of b.rows n) (ap (λ (x : List BotRow). row_of x n) rows) follows
+  where
+    new : IsNewBot a n id → IsNewBot b n id
+    new its = record {
+      next = its.next ∙ ap (λ (x : List BotRow). length x + 1) rows;
+      fresh = ap (λ (x : List BotRow). row_named x id) (sym rows) ∙ its.fresh;
+      few = (let few = its.few in let count = ap (λ (x : List BotRow). length x) rows in omega (arith, few, count, most));
+    }
+
+    by_row : (r q : Option BotRow) → r ≡ q → MatchOption r (IsNewBot a n id) (λ bot. bot.name ≡ id) → MatchOption q (IsNewBot b n id) (λ bot. bot.name ≡ id)
+    by_row None None is its = new its
+    by_row None (Some y) is its = absurd (cc (is))
+    by_row (Some x) None is its = absurd (cc (is))
+    by_row (Some x) (Some y) is its = (let same : x ≡ y = cc (is) in subst (λ (z : BotRow). z.name ≡ id) same its)
+follows_alike a b k rows most follows = tt

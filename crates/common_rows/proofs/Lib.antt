@@ -1,0 +1,4 @@
+mod Tasks
+mod NumberedTasks
+pub mod LoadedRows
+pub mod Entering
