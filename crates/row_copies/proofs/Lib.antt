@@ -1,0 +1,2 @@
+pub mod RowsAlone
+pub mod Following
