@@ -26,8 +26,8 @@ use Rattle.swarm_http.specs.declared.reply.Refusal.{Refusal}
 use Rattle.swarm_http.specs.declared.request.Received.{Received}
 use Rattle.swarm_http.specs.declared.request.Incoming.{Incoming}
 use Rattle.swarm_http.specs.declared.request.Incoming.TheVariants as taken
-use Rattle.swarm_http.specs.Exchange.{HeadSays}
-use Rattle.swarm_http.specs.Answered.{IsPart, in_body, head_rule, IsRefused, no_head, by_head}
+use Rattle.swarm_http.specs.Served.{HeadSays}
+use Rattle.swarm_http.specs.Endings.{IsPart, in_body, head_rule, IsRefused, no_head, by_head}
 use Rattle.swarm_http.specs.Sends.{rule_of}
 use Rattle.swarm_http.specs.Takes.{IsLimit, IsHeld, IsReceived, StopsAs, IsIncoming, Takes}
 
@@ -75,8 +75,7 @@ received_whole {text = text} {rest = rest} {body = body} {head = head} says told
   text = text;
   body = body;
   head = head;
-  says = says;
-  size = sym told ∙ sym whole.length_is;
+  request = record { says = says; size = sym told ∙ sym whole.length_is };
   input_is = whole.input_is ∙ sym (append_assoc text body rest);
   held = held;
 }
@@ -144,7 +143,7 @@ held_short bytes (Some v) body is short = subst (λ l. length l ≤ 16777216) (s
 pub short_body : {s t : LinkState} {old new : List ℕ} {received : Received} → Takes s t old new (taken.Asks received) → IfSome received.body (λ v. length v.items ≤ 16777216)
 short_body {received = received} x =
     let r = x.outcome.0 in
-    held_short (λ v. v.items) received.body r.body r.held.body_is (subst (λ n. n ≤ 16777216) r.size (accepted_size r.head r.says.accepted))
+    held_short (λ v. v.items) received.body r.body r.held.body_is (subst (λ n. n ≤ 16777216) r.request.size (accepted_size r.head r.request.says.accepted))
 
 -- the head that is pending is refused, with nothing read
 pub refused_here : {s : LinkState} {pending : List ℕ} {method : Option Method} {why : Refusal} → IsRefused pending method (rule_of why)

@@ -1,16 +1,13 @@
 -- One request and its outcome.
-use Rattle.std.specs.Prelude.{◌≡◌, ◌==◌, ℕ, Bool, ◌≤◌, List, [], ◌∷◌, ◌++◌, length, filter, None, Some, IsTrue}
+use Rattle.std.specs.Prelude.{◌≡◌, ◌==◌, ℕ, Bool, List, [], ◌∷◌, ◌++◌, map, filter, IsTrue}
 use Rattle.std.specs.List.{flat_map}
 use Rattle.httparse.specs.Grammar.{RequestHead}
-use Rattle.link_reader.specs.Heads.{IsHeadEnd}
-use Rattle.request_head.specs.Heads.{IsHead}
-use Rattle.request_head.specs.HeadFields.{head_refusal, method_of, size_of, closes_of}
 use Rattle.swarm_model.specs.declared.pool_settings.Settings.{Settings}
 use Rattle.swarm_model.specs.declared.entry.Entry.{Entry}
 use Rattle.reply_bodies.specs.Bodies.{status_of}
 use Rattle.pool_doors.specs.Doors.{Logs, Writer}
-use Rattle.swarm_http.specs.Replies.{sent_to}
 use Rattle.swarm_http.specs.Outcomes.{Outcome, Acts, answer_of, shown_of, calls, moments_used, entries_at, is_keeper_stop}
+use Rattle.swarm_http.specs.Served.{Served, IsRequest, reply_bytes}
 
 -- a request as it stood on the link, what its head is, and its outcome
 pub record Exchange : Type 0 where
@@ -19,13 +16,16 @@ pub record Exchange : Type 0 where
   pub head : RequestHead
   pub outcome : Outcome
 
--- the bytes of the request
-abbrev pub request_bytes : Exchange → List ℕ
-request_bytes x = x.text ++ x.body
+-- the request, with the status and the bytes of its outcome's reply
+abbrev pub served_of : Exchange → Served
+served_of x = record { text = x.text; body = x.body; head = x.head; status = status_of (answer_of x.outcome); shown = shown_of x.outcome }
+
+abbrev pub served : List Exchange → List Served
+served xs = map served_of xs
 
 -- the bytes of its reply, which has no body where the method is HEAD
 abbrev pub reply_of : Exchange → List ℕ
-reply_of x = sent_to (Some (method_of x.head)) (shown_of x.outcome)
+reply_of x = reply_bytes (served_of x)
 
 -- the moments that it used
 abbrev pub moments_of : Exchange → List ℕ
@@ -43,21 +43,9 @@ fails_keeper x = is_keeper_stop x.outcome
 abbrev pub is_accepted : Exchange → Bool
 is_accepted x = status_of (answer_of x.outcome) == 200
 
--- it asks to close the connection
-abbrev pub closes : Exchange → Bool
-closes x = closes_of x.head
-
--- the text is this head, up to the first blank line, and the head isn't refused
-pub record HeadSays (text : List ℕ) (head : RequestHead) : Type 0 where
-  pub short : length text ≤ 16384
-  pub ends : IsHeadEnd text (length text)
-  pub is_head : IsHead text head
-  pub accepted : head_refusal head ≡ None
-
--- the body has the size that the head tells, and the logs went from `old` to `new`
+-- the text is its head, the body has the size that the head tells, and the logs went from `old` to `new`
 pub record IsExchange (settings : Settings) (writer : Writer) (x : Exchange) (old new : Logs) : Type 0 where
-  pub says : HeadSays x.text x.head
-  pub size : size_of x.head ≡ length x.body
+  pub request : IsRequest x.text x.body x.head
   pub acts : Acts settings writer x.head x.body x.outcome old new
 
 -- one exchange after another

@@ -2,6 +2,9 @@ pub mod Replies
 pub mod Permissions
 pub mod Requests
 pub mod Outcomes
+pub mod Served
+pub mod Endings
+pub mod Conversing
 pub mod Exchange
 pub mod Statuses
 pub mod Answered

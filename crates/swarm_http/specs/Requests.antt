@@ -1,5 +1,5 @@
 -- What a request asks, or why it is refused before any pool is asked.
-use Rattle.std.specs.Prelude.{ℕ, List, Option, Some, None, Result, Ok, Err, codes}
+use Rattle.std.specs.Prelude.{ℕ, Bool, true, false, if◌then◌else◌, List, Option, Some, None, Result, Ok, Err, codes}
 use Rattle.httparse.specs.Grammar.{RequestHead}
 use Rattle.request_head.specs.declared.method.Method.{Method}
 use Rattle.request_head.specs.declared.method.Method.TheVariants.{Get, Head, Post, Put, Other}
@@ -20,6 +20,8 @@ use Rattle.swarm_wire.specs.declared.parts.Parts.{Parts}
 use Rattle.swarm_wire.specs.declared.asked.WireFault.{WireFault}
 use Rattle.swarm_wire.specs.declared.asked.WireFault.TheVariants as fault
 use Rattle.swarm_wire.specs.Asking.{asked_of}
+use Rattle.swarm_http.specs.declared.served_calls.ServedCalls.{ServedCalls}
+use Rattle.swarm_http.specs.declared.served_calls.ServedCalls.TheVariants.{All, Boards}
 use Rattle.swarm_http.specs.Permissions.{permitted}
 
 -- the value, and what follows from it
@@ -92,3 +94,32 @@ request_of settings head body =
     and_then (routed (resource_of head.target) (method_of head)) (λ route.
     and_then (called_by (caller_of head)) (λ who.
     and_then (with_front (after_of head) (asked_of settings route (parts_of head.target) body)) (permitted_request settings who)))
+
+-- ---- where only some calls are served
+
+-- a call that boards serve
+abbrev pub is_board_call : Route → Bool
+is_board_call route.CountTasks = true
+is_board_call route.ListTasks = true
+is_board_call route.GetResult = true
+is_board_call route.ListBots = true
+is_board_call route.GetBot = true
+is_board_call _ = false
+
+-- what stands at a target where these calls are served
+abbrev pub among : ServedCalls → Option Resource → Option Resource
+among All resource = resource
+among Boards None = None
+among Boards (Some Blob) = None
+among Boards (Some (Call call)) = if is_board_call call then Some (Call call) else None
+
+-- the request that a head and a body mean where these calls are served, or the first refusal
+abbrev pub request_among : ServedCalls → Settings → RequestHead → List ℕ → Result CallerRequest Rule
+request_among serves settings head body =
+    and_then (routed (among serves (resource_of head.target)) (method_of head)) (λ route.
+    and_then (called_by (caller_of head)) (λ who.
+    and_then (with_front (after_of head) (asked_of settings route (parts_of head.target) body)) (permitted_request settings who)))
+
+-- the request that they mean to a board
+abbrev pub board_request_of : Settings → RequestHead → List ℕ → Result CallerRequest Rule
+board_request_of settings head body = request_among Boards settings head body

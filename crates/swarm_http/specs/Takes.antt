@@ -1,12 +1,12 @@
 -- What is read for the next request.
-use Rattle.std.specs.Prelude.{◌≡◌, ◌⊎◌, ℕ, List, [], ◌++◌, length, Option, Some, None, IfSome, ⊤}
+use Rattle.std.specs.Prelude.{◌≡◌, ◌⊎◌, ℕ, List, [], ◌++◌, Option, Some, None, IfSome, ⊤}
 use Rattle.std.specs.Io.KnownBytes.{IsAtEnd}
 use Rattle.sw_base.specs.Faults.{Rose}
 use Rattle.sw_base.specs.Link.{LinkState, Moves, SameOutput}
 use Rattle.swarm_http.specs.declared.ended.Ended.{Ended}
 use Rattle.swarm_http.specs.declared.ended.Ended.TheVariants.{Closed, LastAsked, CutShort, BadHead, Retired, ReadFault, WriteFault, Memory}
 use Rattle.httparse.specs.Grammar.{RequestHead}
-use Rattle.request_head.specs.HeadFields.{method_of, size_of, closes_of, caller_of, after_of}
+use Rattle.request_head.specs.HeadFields.{method_of, closes_of, caller_of, after_of}
 use Rattle.routes.specs.Routes.{resource_of}
 use Rattle.swarm_http.specs.declared.request.Caller.{Caller}
 use Rattle.swarm_http.specs.declared.request.Caller.TheVariants.{Unnamed, Named, NoMemory}
@@ -15,8 +15,8 @@ use Rattle.swarm_http.specs.declared.request.Received.{Received}
 use Rattle.swarm_http.specs.declared.request.Incoming.{Incoming}
 use Rattle.swarm_http.specs.declared.request.Incoming.TheVariants as taken
 use Rattle.swarm_http.specs.Requests.{parts_of}
-use Rattle.swarm_http.specs.Exchange.{HeadSays}
-use Rattle.swarm_http.specs.Answered.{IsPart, IsRefused}
+use Rattle.swarm_http.specs.Served.{IsRequest}
+use Rattle.swarm_http.specs.Endings.{IsPart, IsRefused}
 use Rattle.swarm_http.specs.Sends.{rule_of}
 
 -- no read failed
@@ -63,8 +63,7 @@ pub record IsReceived (received : Received) (input rest : List ℕ) : Type 0 whe
   pub text : List ℕ
   pub body : List ℕ
   pub head : RequestHead
-  pub says : HeadSays text head
-  pub size : size_of head ≡ length body
+  pub request : IsRequest text body head
   pub input_is : input ≡ (text ++ body) ++ rest
   pub held : IsHeld received body head
 

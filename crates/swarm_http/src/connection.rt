@@ -1,21 +1,18 @@
-//! One connection.
-ghost use Rattle.std.specs.Prelude.{◌≡◌, ◌<◌, ◌≤◌, ◌+◌, ◌^◌, [], IfOk, IsTrue};
+//! One connection, whatever answers its requests.
+ghost use Rattle.std.specs.Prelude.{◌≡◌, ◌≤◌, ◌+◌, ℕ, Bool, [], IfOk, IsTrue};
 ghost use Rattle.sw_base.specs.Link.{IsClean};
 ghost use Rattle.swarm_model.specs.Settings.{are_settings};
-ghost use Rattle.swarm_http.specs.Answered.{IsAnswered, KeepsDoor};
-ghost use Rattle.swarm_http.specs.Counting.{IsCounted};
+ghost use Rattle.swarm_http.specs.Conversing.{Converses};
 ghost use Rattle.swarm_http.specs.Steps.{IsStep, count_of};
 
-use crate::answer::answer_request;
 use crate::reply::ReplyBytes;
 use crate::request::{Incoming, take_request};
 use crate::send::send_shown;
-use crate::{ConnectionCounts, Ended};
+use crate::{ConnectionCounts, Ended, Replies};
 use link_reader::Pending;
-use pool_doors::Door;
 use routes::Routes;
 use std::alloc::{AllocError, Global};
-use sw_base::{Clock, Link};
+use sw_base::Link;
 use swarm_model::Settings;
 
 /// Whether a connection goes on after a request.
@@ -44,29 +41,27 @@ fn begin(alloc: Global) -> Result<(Pending, Routes), AllocError>
     Ok((Pending::new(alloc)?, Routes::new(alloc)?))
 }
 
-fn serve_one<D: Door, L: Link, C: Clock>(
+fn serve_one<D, C, R: Replies<D, C>, L: Link>(
     alloc: Global,
     settings: &Settings,
     routes: &Routes,
     pending: &mut Pending,
-    door: &mut D,
+    desk: &mut D,
     clock: &mut C,
     link: &mut L,
 ) -> Step
-    requires settings { (D.state door.old).settings ≡ settings.now }
     requires rules { IsTrue (are_settings settings.now) }
-    requires calls { (D.state door.old).calls < 2 ^ 40 }
+    requires may { (n : ℕ) × R.may settings.now (n + 1) (desk.old, clock.old) }
     requires clean { IsClean (L.state link.old) }
-    ensures step { IsStep pending.old pending.new
-        (record { link = L.state link.old; clock = C.ahead clock.old; door = D.state door.old })
-        (record { link = L.state link.new; clock = C.ahead clock.new; door = D.state door.new }) result }
-    ensures door { KeepsDoor 1 (D.state door.old) (D.state door.new) }
+    ensures step { IsStep R.does pending.old pending.new (desk.old, clock.old) (desk.new, clock.new) (L.state link.old) (L.state link.new) result }
+    ensures may { (accepted : Bool) → result ≡ Step.Next accepted →
+        (n : ℕ) → R.may settings.now (n + 1) (desk.old, clock.old) → R.may settings.now n (desk.new, clock.new) }
 {
     match take_request(alloc, routes, pending, link) {
         Incoming::Asks(received) => {
             let method = received.line.method;
             let closes = received.line.closes;
-            let shown = answer_request(alloc, settings, received, door, clock);
+            let shown = R::answer(alloc, settings, received, desk, clock);
             let accepted = shown.is_accepted();
             match send_shown(link, shown, Some(method)) {
                 Ok(()) if closes => Step::End {
@@ -113,23 +108,19 @@ fn count_of(test: bool) -> u32
     if test { 1 } else { 0 }
 }
 
-/// Answers the requests that come over a link, until it ends or has asked 65536 times, and counts
-/// them.
-pub fn counted_session<D: Door, L: Link, C: Clock>(
+/// Answers the requests that come over a link by `R`, until it ends or has asked 65536 times, and
+/// counts them.
+pub fn converse<D, C, R: Replies<D, C>, L: Link>(
     alloc: Global,
     settings: &Settings,
-    door: &mut D,
+    desk: &mut D,
     clock: &mut C,
     link: &mut L,
 ) -> ConnectionCounts
-    requires settings { (D.state door.old).settings ≡ settings.now }
     requires rules { IsTrue (are_settings settings.now) }
-    requires calls { (D.state door.old).calls + 65536 ≤ 2 ^ 40 }
+    requires may { R.may settings.now 65536 (desk.old, clock.old) }
     requires clean { IsClean (L.state link.old) }
-    ensures counted { IsCounted
-        (record { link = L.state link.old; clock = C.ahead clock.old; door = D.state door.old })
-        (record { link = L.state link.new; clock = C.ahead clock.new; door = D.state door.new }) result }
-    ensures door { KeepsDoor 65536 (D.state door.old) (D.state door.new) }
+    ensures { Converses R.does (desk.old, clock.old) (desk.new, clock.new) (L.state link.old) (L.state link.new) result }
 {
     let Ok((mut pending, routes)) = begin(alloc) else {
         return ConnectionCounts {
@@ -140,7 +131,7 @@ pub fn counted_session<D: Door, L: Link, C: Clock>(
     };
     let mut good = 0;
     'requests: for turn in 0..REQUEST_LIMIT {
-        match serve_one(alloc, settings, &routes, &mut pending, door, clock, link) {
+        match serve_one::<D, C, R, L>(alloc, settings, &routes, &mut pending, desk, clock, link) {
             Step::Next { accepted } => good += count_of(accepted),
             Step::End {
                 ended,
@@ -160,24 +151,4 @@ pub fn counted_session<D: Door, L: Link, C: Clock>(
         requests: REQUEST_LIMIT,
         accepted: good,
     }
-}
-
-/// Answers the requests that come over a link, until it ends or has asked 65536 times.
-pub fn session<D: Door, L: Link, C: Clock>(
-    alloc: Global,
-    settings: &Settings,
-    door: &mut D,
-    clock: &mut C,
-    link: &mut L,
-) -> Ended
-    requires settings { (D.state door.old).settings ≡ settings.now }
-    requires rules { IsTrue (are_settings settings.now) }
-    requires calls { (D.state door.old).calls + 65536 ≤ 2 ^ 40 }
-    requires clean { IsClean (L.state link.old) }
-    ensures answered { IsAnswered
-        (record { link = L.state link.old; clock = C.ahead clock.old; door = D.state door.old })
-        (record { link = L.state link.new; clock = C.ahead clock.new; door = D.state door.new }) result }
-    ensures door { KeepsDoor 65536 (D.state door.old) (D.state door.new) }
-{
-    counted_session(alloc, settings, door, clock, link).ended
 }

@@ -11,6 +11,11 @@
 //! of a reply are `shown` of `specs/Replies.antt`. What a request means, or the refusal that it gets
 //! before any pool is asked, is `request_of` of `specs/Requests.antt`.
 //!
+//! [`session`] is [`converse`] over a door. [`converse`] is the same loop whatever answers: it knows
+//! [`Replies`] alone, whose marker for a door stands in `src/door_session.rt`, and its contract,
+//! `Converses` of `specs/Conversing.antt`, says of each request that it did what the marker says.
+//! [`read_call`] reads what a request asks of a pool, of all calls or of those that boards serve.
+//!
 //! The crate passes on the link and the clock of `sw_base` and the door of `pool_doors`, which a
 //! caller of [`session`] needs.
 #![tactic(auto)]
@@ -18,16 +23,26 @@
 mod answer;
 mod connection;
 mod connection_counts;
+mod door_session;
 mod ended;
 mod laws;
 mod permitting;
+mod pool_call;
+mod replies;
 mod reply;
 mod request;
 mod send;
+mod served_calls;
 
-pub use connection::{counted_session, session};
+pub use connection::converse;
 pub use connection_counts::ConnectionCounts;
+pub use door_session::{counted_session, session};
 pub use ended::Ended;
 pub use laws::a_reply_begins_with_its_status;
+pub use pool_call::{PoolCall, read_call};
 pub use pool_doors::{Answered, CallFault, Door};
+pub use replies::Replies;
+pub use reply::{Refusal, ReplyBytes, whole_reply};
+pub use request::{Caller, Received, RequestLine};
+pub use served_calls::ServedCalls;
 pub use sw_base::{Clock, ConsoleLink, Failed, Link, MemoryLink, StepClock, SystemClock};

@@ -1,5 +1,6 @@
 //! The permission that a request needs before its pool is asked.
 ghost use Rattle.std.specs.Prelude.{◌≡◌, ◌<◌, Err, IfErr, Ok, OnOk, length};
+ghost use Rattle.swarm_wire.specs.declared.asked.Asked.{Asked};
 ghost use Rattle.swarm_http.specs.Permissions.{permission_of as spec_permission_of, permitted};
 ghost use Rattle.swarm_http.specs.Steps.{IsRejection};
 
@@ -34,7 +35,7 @@ pub fn permission_of(request: &Request) -> Option<Permission>
 
 /// The refusal of a caller to whom the pool of this name doesn't give the permission.
 fn denied(alloc: Global, permission: Permission, pool: &Text) -> ReplyBytes
-    ensures { IsRejection result (Err (Rule.Denied permission pool.now)) }
+    ensures { IsRejection {A = Asked} result (Err (Rule.Denied permission pool.now)) }
 {
     match pool.try_copy(alloc) {
         Ok(pool) => refusal_reply(alloc, Rule::Denied { permission, pool }),

@@ -2,6 +2,7 @@
 ghost use Rattle.std.specs.Prelude.{◌≡◌, ◌==◌, ◌<◌, ◌++◌, [], Err, None, Some, IfOk, OnOk, get_or, string_bytes};
 ghost use Rattle.http.specs.StatusCode.{IsStatusCode};
 ghost use Rattle.reply_bodies.specs.Bodies.{status_of as spec_status_of};
+ghost use Rattle.swarm_wire.specs.declared.asked.Asked.{Asked};
 ghost use Rattle.swarm_http.specs.Replies.{phrase_of as spec_phrase_of, head_with, reply_with, shown};
 ghost use Rattle.swarm_http.specs.Sends.{status_in, shown_in};
 ghost use Rattle.swarm_http.specs.Steps.{IsRejection};
@@ -229,7 +230,7 @@ pub fn whole_reply(
 
 /// The reply of a refusal, or that for want of memory.
 pub fn refusal_reply(alloc: Global, why: Rule) -> ReplyBytes
-    ensures { IsRejection result (Err why) }
+    ensures { IsRejection {A = Asked} result (Err why) }
 {
     let reply = Reply::No(why);
     let pieces = Seq::new(alloc);

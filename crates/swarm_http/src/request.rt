@@ -9,9 +9,9 @@ ghost use Rattle.request_head.specs.HeadChecks.{IsHeadOf};
 ghost use Rattle.swarm_model.specs.declared.rule.Rule.TheVariants as Rule;
 ghost use Rattle.routes.specs.Routes.{pool_part, digest_part};
 ghost use Rattle.swarm_http.specs.Requests.{parts_of};
-ghost use Rattle.swarm_http.specs.Answered.{head_rule};
+ghost use Rattle.swarm_http.specs.Endings.{head_rule};
 ghost use Rattle.swarm_http.specs.Sends.{rule_of};
-ghost use Rattle.swarm_http.specs.Exchange.{HeadSays};
+ghost use Rattle.swarm_http.specs.Served.{HeadSays};
 ghost use Rattle.swarm_http.specs.Takes.{IsCaller, IsRequestLine, IsLimit, Takes};
 
 use crate::Ended;

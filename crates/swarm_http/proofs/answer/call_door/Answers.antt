@@ -9,46 +9,46 @@ use Rattle.swarm_http.proofs.Keepers.{stop_counted}
 use Rattle.swarm_http.proofs.answer.call_door.Goals as goal
 
 pub returns-in-Ok-whole_reply-clause-answers : goal.returns-in-Ok-whole_reply-clause-answers
-returns-in-Ok-whole_reply-clause-answers g c = λ head body same means.
+returns-in-Ok-whole_reply-clause-answers g c = λ head body seen means.
     let d = c.in-Ok.ensures in
     let s = g.D.Door.state c.args.door.now in
-    let the_call : DoorCall = record { asks = record { who = c.args.who.now; asked = c.args.asked.now }; moment = c.now-moment.result; growth = d.growth } in
+    let the_call : DoorCall = record { asks = record { who = c.args.call.now.who; asked = c.args.call.now.asked }; moment = c.now-moment.result; growth = d.growth } in
     record {
       outcome = answered the_call c.in-Ok.answered;
-      acts = is_called s.settings s.writer head body the_call c.args.after c.front_of.result (Ok c.in-Ok.answered) s.seen (g.D.Door.state c.call.new.self).seen
-          same c.front_of.ensures means d.done d.elsewhere;
+      acts = is_called s.settings s.writer head body the_call c.args.call.now.after (Ok c.in-Ok.answered) s.seen (g.D.Door.state c.call.new.self).seen
+          seen means d.done d.elsewhere;
       moments = c.now-moment.ensures.moments;
       keeper = d.faults;
-      status = c.in-Ok-whole_reply.ensures.status;
-      shown = c.in-Ok-whole_reply.ensures.text;
+      status_is = c.in-Ok-whole_reply.ensures.status;
+      shown_is = c.in-Ok-whole_reply.ensures.text;
     }
 
 pub returns-in-Ok-clause-answers : goal.returns-in-Ok-clause-answers
-returns-in-Ok-clause-answers g c = λ head body same means.
+returns-in-Ok-clause-answers g c = λ head body seen means.
     let d = c.in-Ok.ensures in
     let s = g.D.Door.state c.args.door.now in
-    let the_call : DoorCall = record { asks = record { who = c.args.who.now; asked = c.args.asked.now }; moment = c.now-moment.result; growth = d.growth } in
+    let the_call : DoorCall = record { asks = record { who = c.args.call.now.who; asked = c.args.call.now.asked }; moment = c.now-moment.result; growth = d.growth } in
     record {
       outcome = no_reply_memory the_call c.in-Ok.answered;
-      acts = is_called s.settings s.writer head body the_call c.args.after c.front_of.result (Ok c.in-Ok.answered) s.seen (g.D.Door.state c.call.new.self).seen
-          same c.front_of.ensures means d.done d.elsewhere;
+      acts = is_called s.settings s.writer head body the_call c.args.call.now.after (Ok c.in-Ok.answered) s.seen (g.D.Door.state c.call.new.self).seen
+          seen means d.done d.elsewhere;
       moments = c.now-moment.ensures.moments;
       keeper = d.faults;
-      status = refl;
-      shown = refl;
+      status_is = refl;
+      shown_is = refl;
     }
 
 pub returns-clause-answers : goal.returns-clause-answers
-returns-clause-answers g c = λ head body same means.
+returns-clause-answers g c = λ head body seen means.
     let d = c.in-Err.ensures in
     let s = g.D.Door.state c.args.door.now in
-    let the_call : DoorCall = record { asks = record { who = c.args.who.now; asked = c.args.asked.now }; moment = c.now-moment.result; growth = d.growth } in
+    let the_call : DoorCall = record { asks = record { who = c.args.call.now.who; asked = c.args.call.now.asked }; moment = c.now-moment.result; growth = d.growth } in
     record {
       outcome = aborted the_call c.in-Err.why;
-      acts = is_called s.settings s.writer head body the_call c.args.after c.front_of.result (Err c.in-Err.why) s.seen (g.D.Door.state c.call.new.self).seen
-          same c.front_of.ensures means d.done d.elsewhere;
+      acts = is_called s.settings s.writer head body the_call c.args.call.now.after (Err c.in-Err.why) s.seen (g.D.Door.state c.call.new.self).seen
+          seen means d.done d.elsewhere;
       moments = c.now-moment.ensures.moments;
       keeper = stop_counted the_call c.in-Err.why s.faults (g.D.Door.state c.call.new.self).faults d.keeper d.faults;
-      status = ap (λ rule. status_of (reply.No rule)) c.stop_refusal.ensures;
-      shown = ap (refusal None) c.stop_refusal.ensures;
+      status_is = ap (λ rule. status_of (reply.No rule)) c.stop_refusal.ensures;
+      shown_is = ap (refusal None) c.stop_refusal.ensures;
     }

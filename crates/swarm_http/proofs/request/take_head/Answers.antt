@@ -1,5 +1,5 @@
 use Rattle.std.proofs.Common.{◌∙◌, Some, ap, sym, subst}
-use Rattle.swarm_http.specs.Answered.{IsRefused}
+use Rattle.swarm_http.specs.Endings.{IsRefused}
 use Rattle.swarm_http.proofs.Requests.{says_head, refused_here, none_refused, cause_refused, limit_is}
 use Rattle.swarm_http.proofs.request.take_head.Goals as goal
 
