@@ -4,9 +4,10 @@ use Rattle.swarm_model.specs.declared.answer.Answer.{Answer}
 use Rattle.swarm_model.specs.declared.entry.Entry.{Entry}
 use Rattle.swarm_model.specs.declared.request.Request.{Request}
 use Rattle.swarm_model.specs.Answers.{answer}
-use Rattle.swarm_model.specs.Bases.{empty_base}
+use Rattle.swarm_model.specs.Bases.{Base, empty_base}
 use Rattle.swarm_model.specs.Deadlines.{due_entry}
-use Rattle.swarm_model.specs.MachineState.{MachineState}
+use Rattle.swarm_model.specs.History.{IsLegal}
+use Rattle.swarm_model.specs.MachineState.{MachineState, IsHistory}
 use Rattle.swarm_history.specs.Settling.{Adds, IsUnchanged}
 use Rattle.turnstile.specs.declared.pass.Pass.{Pass}
 use Rattle.turnstile.specs.declared.turn.Turn.{Turn}
@@ -86,7 +87,7 @@ module _ {V : Type 0} (state : V → MachineState) where
       same : ready.raised.0 ≡ v
       same = Holds-one t ready.raised.0 v ready.raised.1 is
 
-      log_is : (state v).log ≡ raised t
+      pub log_is : (state v).log ≡ raised t
       log_is = ap (λ x. (state x).log) (sym same) ∙ ready.raised.2
 
       lasting_is : lasting_of (state v) ≡ fixed_of (λ x. lasting_of (state x)) (lock_of t)
@@ -94,6 +95,17 @@ module _ {V : Type 0} (state : V → MachineState) where
 
       pub standing_is : IsStanding (lasting_of (state v))
       standing_is = subst IsStanding (sym lasting_is) ready.standing
+
+      start_is : (state v).start ≡ empty_base (fixed_of (λ x. lasting_of (state x)) (lock_of t)).settings
+      start_is = ap (λ (k : MachineState). k.start) (sym (kept_is t v is)) ∙ start_now
+
+      pub nothing_led : (state v).start.count ≡ 0
+      nothing_led = ap (λ (b : Base). b.count) start_is
+
+      pub legal_is : IsHistory (state v) → IsLegal (empty_base (fixed_of (λ x. lasting_of (state x)) (lock_of t)).settings).rows (raised t)
+      legal_is history =
+          subst (λ (l : List Entry). IsLegal (empty_base (fixed_of (λ x. lasting_of (state x)) (lock_of t)).settings).rows l) log_is
+          (subst (λ (b : Base). IsLegal b.rows (state v).log) start_is history.legal)
 
       -- it was written to, and nothing was added
       pub ready_still : (w : V) → IsUnchanged (state v) (state w) → lasting_of (state w) ≡ lasting_of (state v) → IsDesk state sure (turn_with t w)

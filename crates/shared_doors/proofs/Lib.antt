@@ -1,4 +1,5 @@
 pub mod ByPlace
+pub mod Copies
 pub mod Desks
 pub mod Joining
 pub mod LastPools
@@ -7,3 +8,4 @@ pub mod SameServer
 pub mod SharedCalls
 pub mod SharedPoints
 pub mod Standing
+pub mod TurnsTaken

@@ -139,6 +139,10 @@ module _ {V : Type 0} (fixed : V → Lasting) (ts : List (Turnstile V Entry Last
   low_pools : place < length (pools_of fixed ts)
   low_pools = omega (arith, low, length-map ts (λ (u : Turnstile V Entry Lasting). (fixed_of fixed u).settings))
 
+  -- where its log begins
+  pub start_at : start_of (pools_of fixed ts) place ≡ empty_base (fixed_of fixed t).settings
+  start_at = ap empty_base (get_or_default (pools_of fixed ts) place no_pool (fixed_of fixed t).settings low_pools ∙ pool_at)
+
   low_view : place < length (views items)
   low_view = omega (arith, low, own.count, length-map items view_or)
 

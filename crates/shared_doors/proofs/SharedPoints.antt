@@ -1,11 +1,9 @@
 -- A point before which nobody wrote since the turn began is one of a log that others share.
-use Rattle.std.proofs.Common.{◌≡◌, ◌≤◌, ℕ, Bool, true, false, List, [], ◌++◌, length, Result, Ok, Err, IfOk, IfErr, arith, subst, ap, ◌∙◌, append-nil}
-use Rattle.std.specs.Prelude.{IsErrOf}
+use Rattle.std.proofs.Common.{◌≡◌, ◌≤◌, ℕ, Bool, true, false, List, [], ◌++◌, length, Result, Ok, Err, IfOk, IfErr, subst, ap, ◌∙◌, append-nil}
 use Rattle.std.specs.Bool.{MatchBool, OnTrue}
 use Rattle.std.specs.List.{AllByRecursion}
 use Rattle.std.proofs.lemmas.Bool.{false≢true}
 use Rattle.std.proofs.lemmas.List.{append_assoc}
-use Rattle.sw_base.specs.Faults.{Rose}
 use Rattle.swarm_model.specs.declared.entry.Entry.{Entry}
 use Rattle.swarm_model.specs.declared.pool_state.PoolState.{PoolState}
 use Rattle.swarm_model.specs.declared.reply.Reply.{Reply}
@@ -15,8 +13,7 @@ use Rattle.swarm_model.specs.MachineState.{MachineState}
 use Rattle.swarm_model.specs.Points.{Call, Growth, added, IsByOther, Grows, IsPoint, IsSettled, IsStopped, IsFrontAhead, IsServed, LacksRoom, is_ahead, next_entry, taken_by, Finds}
 use Rattle.pool_doors.specs.declared.door.Answered.{Answered}
 use Rattle.pool_doors.specs.declared.door.CallFault.{CallFault}
-use Rattle.pool_doors.specs.declared.door.CallFault.TheVariants as fault
-use Rattle.pool_doors.specs.Doors.{is_log_full, CountsKeeper, IsAnsweredCall, IsPoolCall}
+use Rattle.pool_doors.specs.Doors.{is_log_full, IsAnsweredCall, IsPoolCall}
 use Rattle.swarm_history.specs.Settling.{IsPointAlone, IsOwnStop, HasFrontAndPieces}
 use Rattle.swarm_history.proofs.OwnPoints.{answered_call, told_front}
 use Rattle.turnstile.specs.Numbers.{Continues}
@@ -102,8 +99,3 @@ turn_call start start_there call call_there seen found log new there told result
     (subst (λ l. P start call l) (log_is ∙ c.parts) (subst (λ k. P start k log) call_is (subst (λ b. P b call_there log) start_is point)))
     shows
     (subst (λ l. S start call l) (log_is ∙ c.parts) (subst (λ k. S start k log) call_is (subst (λ b. S b call_there log) start_is stop))))
-
--- a desk whose keeper never fails stops by none
-pub never_fails : (result : Result Answered CallFault) → CountsKeeper result 0 0 → ¬ IsErrOf result fault.Keeper
-never_fails result counts = λ is.
-    let bad : Rose 0 0 = subst (λ (r : Result Answered CallFault). CountsKeeper r 0 0) is counts in absurd (omega (arith, bad))

@@ -5,4 +5,5 @@ pub mod Joined
 pub mod Opened
 pub mod Desks
 pub mod SharedDoors
+pub mod Turns
 pub mod OneProof

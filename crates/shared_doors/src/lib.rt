@@ -8,6 +8,9 @@
 //! gives its machines, whose logs are legal and have, past their openings, the entries of the joined
 //! passes and no others. The length of a log is read at any moment without a turn.
 //!
+//! Entries of a log are copied in a turn, which adds none (`specs/Turns.antt`); so something else than
+//! a door can follow the log.
+//!
 //! A [`SharedDoor`] is a door over a server and passes to its pools. A call waits for the turn of its
 //! pool and takes one: the log that it finds is what the pass had seen, and then entries of others.
 //! Each entry of the call is counted right after it is added. What a call does at its point is what it
@@ -15,6 +18,7 @@
 #![tactic(auto)]
 
 mod closing;
+mod copying;
 mod kept;
 mod opening;
 mod places;

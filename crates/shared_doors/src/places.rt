@@ -1,15 +1,20 @@
 //! One pass among those of a server, by its place.
-ghost use Rattle.std.specs.Prelude.{◌≡◌, ◌<◌, ◌≤◌, ℕ, length, get_or, slice_index_or, slice_set, Some, None, IsTrue, is_some};
+ghost use Rattle.std.specs.Prelude.{◌≡◌, ◌<◌, ◌≤◌, ◌^◌, ℕ, length, get_or, slice_index_or, slice_set, take, drop, Some, None, IsTrue, is_some, IfOk};
 ghost use Rattle.std.specs.Bool.{Decides};
 ghost use Rattle.turnstile.specs.Passes.{IsPassOf};
 ghost use Rattle.shared_doors.specs.Machines.{lasting_in};
 ghost use Rattle.shared_doors.specs.Joined.{IsAloneView, Joins, MaySplit, Splits};
+ghost use Rattle.shared_doors.specs.SharedDoors.{pools_of, start_of};
+ghost use Rattle.shared_doors.specs.Turns.{TakesTurnAt};
 ghost use Rattle.shared_doors.specs.Views.{AreOf, IsFrontOf, IsOneOf, look, view_at, views};
 
 use crate::kept::Kept;
 use crate::server::{Passes, Server};
+use crate::shared_desk::copy_turn;
+use std::alloc::AllocError;
+use std::sync::Wait;
 use swarm_keeper::Keeper;
-use swarm_model::Machine;
+use swarm_model::{Entry, Machine};
 use turnstile::Pass;
 
 /// Takes out the pass at a place.
@@ -99,4 +104,28 @@ pub(crate) fn front_at<M: Machine + Drop, K: Keeper + Drop>(
     let front = server.turnstiles[place].front(&mut pass);
     passes.passes[place] = Some(pass);
     front
+}
+
+/// One turn of the pass at a place, in which the next `most` entries of the log from the place `from`
+/// are copied, or all where fewer are there.
+pub(crate) fn copy_at<M: Machine + Drop, K: Keeper + Drop, R: Wait>(
+    rt: &R,
+    server: &Server<M, K>,
+    passes: &mut Passes<M, K>,
+    place: usize,
+    from: u64,
+    most: u32,
+) -> Result<Vec<Entry>, AllocError>
+    requires own { AreOf (lasting_in M.kept) server.now.turnstiles.items passes.old.passes.items }
+    requires place { place < length server.now.turnstiles.items }
+    requires turns { (view_at (views passes.old.passes.items) place).turns < 2 ^ 40 }
+    ensures own { AreOf (lasting_in M.kept) server.now.turnstiles.items passes.new.passes.items }
+    ensures copied { IfOk result (λ entries. entries.items ≡ take most (drop from (view_at (views passes.new.passes.items) place).seen)) }
+    ensures turn { TakesTurnAt (start_of (pools_of (lasting_in M.kept) server.now.turnstiles.items) place).rows place (views passes.old.passes.items) (views passes.new.passes.items) }
+{
+    let pass = take_at(&mut passes.passes, place);
+    let turnstile = &server.turnstiles[place];
+    let (pass, copied) = copy_turn(rt, server.alloc, turnstile, pass, from, most);
+    passes.passes[place] = Some(pass);
+    copied
 }

@@ -1,21 +1,24 @@
-ghost use Rattle.std.specs.Prelude.{◌≡◌, ◌≤◌, ◌<◌, ◌+◌, ℕ, [], length, map, slice_set, vec_len, vec_capacity, IsTrue, IfOk, IfErr, OnOk};
+ghost use Rattle.std.specs.Prelude.{◌≡◌, ◌≤◌, ◌<◌, ◌+◌, ◌^◌, ℕ, [], length, map, slice_set, take, drop, vec_len, vec_capacity, IsTrue, IfOk, IfErr, OnOk};
 ghost use Rattle.std.specs.List.{All};
 ghost use Rattle.swarm_model.specs.Settings.{are_settings};
 ghost use Rattle.turnstile.specs.Passes.{fixed_of, opening};
 ghost use Rattle.shared_doors.specs.Joined.{AreClosed, IsAloneView, Joins, MaySplit, Splits};
 ghost use Rattle.shared_doors.specs.Lasting.{IsStanding};
 ghost use Rattle.shared_doors.specs.Machines.{lasting_in, log_in};
+ghost use Rattle.shared_doors.specs.SharedDoors.{pools_of, start_of};
+ghost use Rattle.shared_doors.specs.Turns.{TakesTurnAt};
 ghost use Rattle.shared_doors.specs.Views.{AreOf, IsFrontOf, first_view, view_at, views};
 
 use crate::closing::close_all;
 use crate::kept::Kept;
 use crate::opening::open_all;
-use crate::places::{alone_at, front_at, join_at, split_at, take_at};
+use crate::places::{alone_at, copy_at, front_at, join_at, split_at, take_at};
 use crate::view::Lasting;
-use dimensions::{Text, TryCopy};
+use dimensions::{Seq, Text, TryCopy};
 use std::alloc::{AllocError, Global};
+use std::sync::Wait;
 use swarm_keeper::Keeper;
-use swarm_model::{Entry, Machine, Settings};
+use swarm_model::{Entry, Machine, PoolSettings, PoolState, Settings};
 use turnstile::{Counted, Pass, Turnstile};
 
 /// What the doors of one server share: a turnstile for each pool, in the order of the pools.
@@ -26,7 +29,10 @@ where
 {
     pub(crate) alloc: Global,
     pub store: Option<Text>,
+    /// The settings of the pools, which are read without a turn.
+    pub(crate) pools: Seq<PoolSettings>,
     pub turnstiles: Vec<Turnstile<Kept<M, K>>>,
+    ghost settings: { pools ≡ map (λ t. (fixed_of (lasting_in M.kept) t).settings) turnstiles.items },
     ghost standing: { All (λ t. IsStanding (fixed_of (lasting_in M.kept) t)) turnstiles.items },
     ghost sure: { IsTrue K.SURE },
 }
@@ -68,10 +74,12 @@ impl<M: Machine + Drop, K: Keeper + Drop> Server<M, K> {
         ensures fresh { IfOk result (λ r. (p : ℕ) → p < length r.0.turnstiles.items → view_at (views r.1.passes.items) p ≡ first_view) }
     {
         let store = settings.store.try_copy(alloc)?;
+        let pools = settings.pools.try_copy(alloc)?;
         let (turnstiles, passes) = open_all(alloc, settings, keepers)?;
         let server = Server {
             alloc,
             store,
+            pools,
             turnstiles,
         };
         Ok((server, passes))
@@ -137,6 +145,51 @@ impl<M: Machine + Drop, K: Keeper + Drop> Server<M, K> {
         front_at(self, passes, place as usize)
     }
 
+    /// Waits for the turn of the pool at the place, and copies in it the next `most` entries of the log
+    /// from the place `from`, which counts from 0, or all where fewer are there. The pool's other doors
+    /// wait meanwhile. That the turn comes is not promised.
+    ///
+    /// # Errors
+    ///
+    /// Want of memory for the copies. The turn was taken all the same.
+    pub fn copy<R: Wait>(
+        &self,
+        rt: &R,
+        passes: Passes<M, K>,
+        place: u32,
+        from: u64,
+        most: u32,
+    ) -> (Passes<M, K>, Result<Vec<Entry>, AllocError>)
+        requires own { AreOf (lasting_in M.kept) self.now.turnstiles.items passes.passes.items }
+        requires place { place < length self.now.turnstiles.items }
+        requires turns { (view_at (views passes.passes.items) place).turns < 2 ^ 40 }
+
+        ensures own { AreOf (lasting_in M.kept) self.now.turnstiles.items result.0.passes.items }
+
+        // The entries are those of the log that the pass has then seen.
+        ensures copied { IfOk result.1 (λ entries. entries.items ≡ take most (drop from (view_at (views result.0.passes.items) place).seen)) }
+
+        ensures turn { TakesTurnAt (start_of (pools_of (lasting_in M.kept) self.now.turnstiles.items) place).rows place (views passes.passes.items) (views result.0.passes.items) }
+    {
+        let mut passes = passes;
+        let copied = copy_at(rt, self, &mut passes, place as usize, from, most);
+        (passes, copied)
+    }
+
+    /// A copy of the rows from which the log of the pool at the place begins. No entries led to them. It
+    /// takes no turn.
+    ///
+    /// # Errors
+    ///
+    /// Want of memory for the copy.
+    pub fn base(&self, place: u32) -> Result<PoolState, AllocError>
+        requires place { place < length self.now.turnstiles.items }
+        ensures { IfOk result (λ rows. start_of (pools_of (lasting_in M.kept) self.now.turnstiles.items) place ≡ record { rows = rows; count = 0 }) }
+    {
+        let settings = self.pools.as_slice()[place as usize].try_copy(self.alloc)?;
+        Ok(PoolState::opening(self.alloc, settings))
+    }
+
     /// Whether no other pass is out at any place.
     fn alone(&self, passes: &Passes<M, K>) -> bool
         requires own { AreOf (lasting_in M.kept) self.now.turnstiles.items passes.now.passes.items }
@@ -179,6 +232,7 @@ impl<M: Machine + Drop, K: Keeper + Drop> Server<M, K> {
         let Server {
             alloc: _,
             store: _,
+            pools: _,
             turnstiles,
         } = self;
         let Passes { passes } = passes;

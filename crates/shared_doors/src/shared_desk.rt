@@ -1,15 +1,18 @@
-ghost use Rattle.std.specs.Prelude.{◌≡◌, ◌<◌, ◌+◌, ◌^◌, None, [], IsTrue, IsErrOf};
+ghost use Rattle.std.specs.Prelude.{◌≡◌, ◌<◌, ◌+◌, ◌^◌, None, [], take, drop, IsTrue, IsErrOf, IfOk};
 ghost use Rattle.swarm_model.specs.Bases.{empty_base};
 ghost use Rattle.swarm_model.specs.Bytes.{Carries};
 ghost use Rattle.swarm_model.specs.Fits.{fits};
+ghost use Rattle.swarm_model.specs.History.{IsLegal};
 ghost use Rattle.swarm_history.specs.Calls.{call_of};
-ghost use Rattle.turnstile.specs.Passes.{IsPassOf, IsTurn, fixed_of, lock_of, of_value, pass_of, seen, number, told, turns};
+ghost use Rattle.turnstile.specs.Passes.{IsPassOf, IsTurn, fixed_of, lock_of, of_value, pass_of, raised, seen, number, told, turns};
 ghost use Rattle.shared_doors.specs.Desks.{IsDesk, no_state};
 ghost use Rattle.shared_doors.specs.Lasting.{IsStanding};
 ghost use Rattle.shared_doors.specs.Machines.{lasting_in};
 ghost use Rattle.shared_doors.specs.SharedDoors.{IsTurnCall};
+ghost use Rattle.shared_doors.specs.Turns.{TakesTurn};
 ghost use Rattle.shared_doors.specs.Views.{look};
 
+use crate::copying::copy_log;
 use crate::kept::Kept;
 use crate::view::{Lasting, PoolView};
 use dimensions::{Seq, Text};
@@ -36,6 +39,16 @@ impl<M: Machine + Drop, K: Keeper + Drop> SharedDesk<'_, M, K> {
         ensures { result ≡ number (pass_of self.now.turn) }
     {
         self.turn.number() as u32
+    }
+
+    /// The next `most` entries of the log from the place `from`, or all where fewer are there.
+    fn copied(&mut self, alloc: Global, from: u64, most: u32) -> Result<Vec<Entry>, AllocError>
+        requires ready { IsDesk (λ k. M.kept k.machine) K.SURE self.old.turn }
+        ensures same { self.new ≡ self.old }
+        ensures copied { IfOk result (λ entries. entries.items ≡ take most (drop from (raised self.old.turn))) }
+        ensures legal { IsLegal (empty_base (fixed_of (lasting_in M.kept) (lock_of self.old.turn)).settings).rows (raised self.old.turn) }
+    {
+        copy_log(alloc, &self.turn.value().machine, from, most)
     }
 }
 
@@ -114,4 +127,30 @@ pub(crate) fn take_turn<M: Machine + Drop, K: Keeper + Drop, R: Wait>(
     let result = serve(alloc, &mut desk, call);
     let SharedDesk { turn } = desk;
     (result, turn.leave())
+}
+
+/// One turn of a pass, in which the next `most` entries of the log from the place `from` are copied,
+/// or all where fewer are there.
+pub(crate) fn copy_turn<M: Machine + Drop, K: Keeper + Drop, R: Wait>(
+    rt: &R,
+    alloc: Global,
+    turnstile: &Turnstile<Kept<M, K>>,
+    pass: Pass<Kept<M, K>>,
+    from: u64,
+    most: u32,
+) -> (Pass<Kept<M, K>>, Result<Vec<Entry>, AllocError>)
+    requires own { IsPassOf (lasting_in M.kept) turnstile.now pass }
+    requires turns { turns pass < 2 ^ 40 }
+    requires standing { IsStanding (fixed_of (lasting_in M.kept) turnstile.now) }
+    requires sure { IsTrue K.SURE }
+
+    ensures own { IsPassOf (lasting_in M.kept) turnstile.now result.0 }
+    ensures copied { IfOk result.1 (λ entries. entries.items ≡ take most (drop from (seen result.0))) }
+    ensures turn { TakesTurn (empty_base (fixed_of (lasting_in M.kept) turnstile.now).settings).rows (look pass) (look result.0) }
+{
+    let turn = turnstile.enter(rt, pass);
+    let mut desk = SharedDesk { turn };
+    let copied = desk.copied(alloc, from, most);
+    let SharedDesk { turn } = desk;
+    (turn.leave(), copied)
 }

@@ -5,11 +5,12 @@ use Rattle.swarm_model.specs.Bases.{empty_base}
 use Rattle.swarm_model.specs.Fits.{fits}
 use Rattle.swarm_model.specs.Points.{Call}
 use Rattle.swarm_history.specs.Calls.{call_of}
+use Rattle.swarm_history.proofs.OwnPoints.{never_fails}
 use Rattle.turnstile.specs.Passes.{IsPassOf, fixed_of, number, of_value, pass_of, raised, seen, told}
 use Rattle.shared_doors.specs.Desks.{no_state}
 use Rattle.shared_doors.specs.Machines.{lasting_in}
 use Rattle.shared_doors.proofs.Desks.{begins_at, lock_after, log_now, ready_first, settings_at, view_after}
-use Rattle.shared_doors.proofs.SharedPoints.{never_fails, turn_call}
+use Rattle.shared_doors.proofs.SharedPoints.{turn_call}
 use Rattle.shared_doors.proofs.shared_desk.take_turn.Goals as goal
 
 pub serve-result-requires : goal.serve-result-requires
