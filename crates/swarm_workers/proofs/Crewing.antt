@@ -17,7 +17,8 @@ use Rattle.swarm_workers.specs.Crews.{WorkerState, HasWorked, IsDoorTo, AreNewDo
 use Rattle.swarm_workers.specs.Shared.{ServesShared}
 use Rattle.swarm_workers.proofs.Running.{doors_of, still_doors, is_alone}
 use Rattle.swarm_workers.proofs.Closing.{IsKept}
-use Rattle.swarm_workers.proofs.Serving.{map_both, gives_told, served}
+use Rattle.swarm_workers.proofs.Slices.{map_both}
+use Rattle.swarm_workers.proofs.Serving.{gives_told, served}
 use Rattle.std.proofs.lemmas.List.Elements.{All-from_recursion}
 
 -- settings of this store and these pools
@@ -62,26 +63,6 @@ pub above_map : {A B : Type 0} (f : A → B) (xs : List A) (p : ℕ) → p < len
 above_map f xs p lt = omega (arith, lt, length-map xs f)
 
 module _ {W : Type 0} (look : W → WorkerState) where
-  length_zip : (R : WorkerState → WorkerState → Type 0) (xs ys : List W) → AllZip R (map look xs) (map look ys) → length ys ≡ length xs
-  length_zip R [] [] all = refl
-  length_zip R [] (y ∷ ys) all = absurd all
-  length_zip R (x ∷ xs) [] all = absurd all
-  length_zip R (x ∷ xs) (y ∷ ys) all = ap suc (length_zip R xs ys all.1)
-
-  take_front : (n : ℕ) (ys zs : List W) → n ≡ length ys → take n (ys ++ zs) ≡ ys
-  take_front zero [] zs same = refl
-  take_front zero (y ∷ ys) zs same = absurd (omega (arith, same))
-  take_front (suc n) [] zs same = absurd (omega (arith, same))
-  take_front (suc n) (y ∷ ys) zs same = ap (λ l. y ∷ l) (take_front n ys zs (omega (arith, same)))
-
-  -- what stands in a vector once its slice was changed
-  pub written : (R : WorkerState → WorkerState → Type 0) (xs ys items : List W) (n : ℕ) → length xs ≡ n → AllZip R (map look xs) (map look ys)
-      → take n (ys ++ drop (length ys) items) ≡ ys
-  written R xs ys items n count all = take_front n ys (drop (length ys) items) (omega (arith, count, length_zip R xs ys all))
-
-  pub count_written : (R : WorkerState → WorkerState → Type 0) (ws xs ys zs : List W) (n : ℕ) → xs ≡ ws → length ws ≡ n → AllZip R (map look xs) (map look ys) → zs ≡ ys → length zs ≡ n
-  count_written R ws xs ys zs n same count all is = ap length is ∙ length_zip R xs ys all ∙ ap length same ∙ count
-
   doors_told : (ws : List W) → map (λ (w : W). (look w).door) ws ≡ doors_of (map look ws)
   doors_told ws = sym (map_both (λ (w : WorkerState). w.door) look ws)
 

@@ -23,7 +23,7 @@ times_append k [] ys = omega arith
 times_append k (n ∷ xs) ys = let rest = times_append k xs ys in omega (arith, rest)
 
 -- a number that one of the doors has is one of all
-times_all : (k place : ℕ) (doors : List DoorState) (i : ℕ) (d : DoorState) → i < length doors → 0 < times k ((slice_index_or doors i d).writer.joined place)
+pub times_all : (k place : ℕ) (doors : List DoorState) (i : ℕ) (d : DoorState) → i < length doors → 0 < times k ((slice_index_or doors i d).writer.joined place)
     → 0 < times k (flat_map (λ (door : DoorState). door.writer.joined place) doors)
 times_all k place [] i d low has = absurd (omega (arith, low))
 times_all k place (x ∷ doors) zero d low has = let sum = times_append k (x.writer.joined place) (flat_map (λ (door : DoorState). door.writer.joined place) doors) in omega (arith, has, sum)

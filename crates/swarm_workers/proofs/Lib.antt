@@ -1,5 +1,7 @@
 pub mod JoinedDoors
 pub mod NewDoors
+pub mod Slices
+pub mod Visiting
 pub mod Working
 pub mod Gaining
 pub mod Numbering

@@ -102,15 +102,31 @@ joined_numbers settings identity connections k p (old ∷ olds) (new ∷ news) d
     let rest = joined_numbers settings identity connections (k + 1) p olds news doors.1 worked.1 lt in
     ap (λ l. l ++ flat_map (λ (door : DoorState). door.writer.joined p) (doors_of news)) first ∙ ap (λ l. k ∷ l) rest
 
--- the view that all of them are joined in is alone
+-- What all of them are joined in has the number 0, knows how many were made, and has the numbers of the workers.
+pub record IsOfAll (made workers : ℕ) (v : PoolView) : Type 0 where
+  pub number_is : v.number ≡ 0
+  pub numbers_are : v.numbers ≡ numbers_from 0 workers
+  pub made_is : v.made ≡ made
+
+pub is_of_all : (settings : Settings) (identity : ℕ → List ℕ) (connections made p : ℕ) (olds news : List WorkerState) (v : PoolView)
+    → AreNewDoors settings identity 0 (doors_of olds) → AllZip (HasWorked connections) olds news → KnowsMade settings made (doors_of olds) → 0 < length olds
+    → p < length settings.pools → IsJoined p (doors_of news) v → IsFirst p (doors_of news) v → IsOfAll made (length olds) v
+is_of_all settings identity connections made p [] news v doors worked known some lt joined first = absurd (omega (arith, some))
+is_of_all settings identity connections made p (old ∷ olds) [] v doors worked known some lt joined first = absurd worked
+is_of_all settings identity connections made p (old ∷ olds) (new ∷ news) v doors worked known some lt joined first =
+    let zero_is : new.door.writer.numbers p ≡ 0 = ap (λ (w : Writer). w.numbers p) worked.0.keeps.writer ∙ doors.0.numbers p lt in
+    let is_made : new.door.writer.made p ≡ made = ap (λ (w : Writer). w.made p) worked.0.keeps.writer ∙ known p lt in
+    let told = first zero_is in
+    record {
+      number_is = told.0;
+      numbers_are = joined.numbers ∙ joined_numbers settings identity connections 0 p (old ∷ olds) (new ∷ news) doors worked lt;
+      made_is = told.1 ∙ is_made;
+    }
+
+-- where no more were made, that is alone
 pub is_alone : (settings : Settings) (identity : ℕ → List ℕ) (connections made p : ℕ) (olds news : List WorkerState) (v : PoolView)
     → AreNewDoors settings identity 0 (doors_of olds) → AllZip (HasWorked connections) olds news → KnowsMade settings made (doors_of olds) → length olds ≡ made → 0 < made
     → p < length settings.pools → IsJoined p (doors_of news) v → IsFirst p (doors_of news) v → IsAloneView v
-is_alone settings identity connections made p [] news v doors worked known count some lt joined first = absurd (omega (arith, some, count))
-is_alone settings identity connections made p (old ∷ olds) [] v doors worked known count some lt joined first = absurd worked
-is_alone settings identity connections made p (old ∷ olds) (new ∷ news) v doors worked known count some lt joined first =
-    let zero_is : new.door.writer.numbers p ≡ 0 = ap (λ (w : Writer). w.numbers p) worked.0.keeps.writer ∙ doors.0.numbers p lt in
-    let is_made : new.door.writer.made p ≡ made = ap (λ (w : Writer). w.made p) worked.0.keeps.writer ∙ known p lt in
-    let numbers : v.numbers ≡ numbers_from 0 (suc (length olds)) = joined.numbers ∙ joined_numbers settings identity connections 0 p (old ∷ olds) (new ∷ news) doors worked lt in
-    let told = first zero_is in
-    (told.0, ap length numbers ∙ length_from 0 (suc (length olds)) ∙ count ∙ sym (told.1 ∙ is_made))
+is_alone settings identity connections made p olds news v doors worked known count some lt joined first =
+    let all = is_of_all settings identity connections made p olds news v doors worked known (omega (arith, count, some)) lt joined first in
+    (all.number_is, ap length all.numbers_are ∙ length_from 0 (length olds) ∙ count ∙ sym all.made_is)

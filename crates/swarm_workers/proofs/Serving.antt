@@ -1,6 +1,5 @@
 -- Workers over the pools of one server, from the listener's acceptors to the closed logs.
 use Rattle.std.proofs.Common.{◌≡◌, ◌⊎◌, inl, inr, ℕ, zero, suc, ◌<◌, ◌≤◌, List, [], ◌∷◌, length, map, Option, Some, refl, sym, ap, ◌∙◌, arith, subst}
-use Rattle.std.specs.Prelude.{slice_index_or}
 use Rattle.std.proofs.lemmas.List.{length-map}
 use Rattle.std.specs.List.{All, AllZip, AllByRecursion, slice_get}
 use Rattle.std.proofs.lemmas.Bool.{cases_lt}
@@ -20,32 +19,6 @@ use Rattle.swarm_workers.proofs.Numbering.{numbers_from, times_from}
 use Rattle.swarm_workers.proofs.Running.{doors_of, holds_joined, are_runs, joined_numbers}
 use Rattle.swarm_workers.proofs.Closing.{IsKept}
 
--- a relation at each place is one of the whole lists
-zip_each : {W : Type 0} (look : W → WorkerState) (R : WorkerState → WorkerState → Type 0) (xs ys : List W) → length ys ≡ length xs
-    → ((i : ℕ) (d : W) → i < length xs → R (look (slice_index_or xs i d)) (look (slice_index_or ys i d))) → AllZip R (map look xs) (map look ys)
-zip_each look R [] [] same each = tt
-zip_each look R [] (y ∷ ys) same each = absurd (omega (arith, same))
-zip_each look R (x ∷ xs) [] same each = absurd (omega (arith, same))
-zip_each look R (x ∷ xs) (y ∷ ys) same each = (
-  each 0 x (omega arith),
-  zip_each look R xs ys (omega (arith, same)) (λ i d lt. each (suc i) d (omega (arith, lt))),
-)
-
--- the relation holds of two workers that are these
-abbrev Moves : {W : Type 0} → (W → WorkerState) → (WorkerState → WorkerState → Type 0) → W → W → Type 0
-Moves {W} look R x y = (a b : W) × (a ≡ x) × (b ≡ y) × R (look a) (look b)
-
-pub zip_moved : {W : Type 0} (look : W → WorkerState) (R : WorkerState → WorkerState → Type 0) (xs ys : List W) → length ys ≡ length xs
-    → ((i : ℕ) (d : W) → i < length xs → Moves look R (slice_index_or xs i d) (slice_index_or ys i d)) → AllZip R (map look xs) (map look ys)
-zip_moved look R xs ys same each = zip_each look R xs ys same (λ i d lt.
-    let m = each i d lt in
-    subst (λ y. R (look (slice_index_or xs i d)) (look y)) m.3 (subst (λ x. R (look x) (look m.1)) m.2 m.4))
-
--- one map after another
-pub map_both : {A B C : Type 0} (f : B → C) (g : A → B) (xs : List A) → map f (map g xs) ≡ map (λ x. f (g x)) xs
-map_both f g [] = refl
-map_both f g (x ∷ xs) = ap (λ l. f (g x) ∷ l) (map_both f g xs)
-
 map_same : {A : Type 0} (xs : List A) → map (λ (x : A). x) xs ≡ xs
 map_same [] = refl
 map_same (x ∷ xs) = ap (λ l. x ∷ l) (map_same xs)
@@ -63,7 +36,7 @@ gives_told look given told address before after n same g = record {
   ended = g.ended;
 }
 
-pool_at : (pools : List PoolSettings) (p : ℕ) → p < length pools → (pool : PoolSettings) × (slice_get pools p ≡ Some pool)
+pub pool_at : (pools : List PoolSettings) (p : ℕ) → p < length pools → (pool : PoolSettings) × (slice_get pools p ≡ Some pool)
 pool_at [] p lt = absurd (omega (arith, lt))
 pool_at (pool ∷ pools) zero lt = (pool, refl)
 pool_at (pool ∷ pools) (suc p) lt = pool_at pools p (omega (arith, lt))

@@ -1,3 +1,4 @@
+pub mod Visits
 pub mod Works
 pub mod Splits
 pub mod Crews

@@ -1,10 +1,11 @@
 -- What a worker does.
-use Rattle.std.specs.Prelude.{◌≡◌, ◌≢◌, ℕ, ◌<◌, List, [], ◌∷◌, ◌++◌, length, map, Option}
+use Rattle.std.specs.Prelude.{◌≡◌, ◌≢◌, ℕ, ◌+◌, ◌*◌, ◌^◌, ◌<◌, ◌≤◌, List, [], ◌∷◌, ◌++◌, length, map, Option}
 use Rattle.std.specs.List.{AllByRecursion}
 use Rattle.sw_base.specs.Faults.{Rose}
 use Rattle.sw_base.specs.Link.{LinkState}
 use Rattle.sw_base.specs.Told.{Loses, Gains, IsNoMore}
 use Rattle.sw_base.specs.Acceptors.{AcceptorState, IsFresh}
+use Rattle.swarm_model.specs.declared.pool_settings.Settings.{Settings}
 use Rattle.pool_doors.specs.Doors.{DoorState}
 use Rattle.swarm_http.specs.declared.ended.Ended.{Ended}
 use Rattle.swarm_http.specs.declared.ended.Ended.TheVariants as ended
@@ -12,8 +13,6 @@ use Rattle.swarm_http.specs.Answered.{IsAnswered, KeepsDoor}
 use Rattle.swarm_workers.specs.declared.worked.Worked.{Worked}
 use Rattle.swarm_workers.specs.declared.worked.WorkStop.{WorkStop}
 use Rattle.swarm_workers.specs.declared.worked.WorkStop.TheVariants as stop
-use Rattle.swarm_workers.specs.declared.worker.NextLink.{NextLink}
-use Rattle.swarm_workers.specs.declared.worker.NextLink.TheVariants as turn
 
 -- a session: its link as it came and as it ended, its ending, and what the clock had ahead and the
 -- door was as it ended
@@ -67,29 +66,11 @@ pub record IsWorked (s t : AcceptorState) (a b : ℕ → Option (List ℕ)) (old
   pub sessions : Sessions a b old new visits
   pub stops : StopsAs worked.stop n visits s t
 
--- the next link was served
-pub record IsServed (s t : AcceptorState) (a b : ℕ → Option (List ℕ)) (old new : DoorState) : Type 0 where
-  pub first : LinkState
-  pub last : LinkState
-  pub ending : Ended
+-- a session over a door, at the moments of a clock
+pub record IsDoorSession (first last : LinkState) (ending : Ended) (a b : ℕ → Option (List ℕ)) (old new : DoorState) : Type 0 where
   pub answered : IsAnswered (record { link = first; clock = a; door = old }) (record { link = last; clock = b; door = new }) ending
-  pub fresh : IsFresh first
-  pub coming : Loses s.coming t.coming (first ∷ [])
-  pub served : Gains s.served t.served (last ∷ [])
-  pub out : t.out ≡ s.out
-  pub faults : t.faults ≡ s.faults
+  pub keeps : KeepsDoor 65536 old new
 
--- nothing was served
-pub record IsIdle (s t : AcceptorState) (a b : ℕ → Option (List ℕ)) (old new : DoorState) : Type 0 where
-  pub coming : t.coming ≡ s.coming
-  pub served : t.served ≡ s.served
-  pub out : t.out ≡ s.out
-  pub clock : b ≡ a
-  pub door : new ≡ old
-
--- what came of asking for the next link
-abbrev pub IsTurn : AcceptorState → AcceptorState → (ℕ → Option (List ℕ)) → (ℕ → Option (List ℕ)) → DoorState → DoorState → NextLink → Type 0
-IsTurn s t a b old new turn.Served = (x : IsServed s t a b old new) × (x.ending ≢ ended.Memory)
-IsTurn s t a b old new turn.OutOfMemory = (x : IsServed s t a b old new) × (x.ending ≡ ended.Memory)
-IsTurn s t a b old new turn.NoMore = IsIdle s t a b old new × IsNoMore t.coming × (t.faults ≡ s.faults)
-IsTurn s t a b old new turn.Failed = IsIdle s t a b old new × Rose s.faults t.faults
+-- the door has these settings, and so many sessions more may be held over it
+abbrev pub MayServe : Settings → ℕ → DoorState → Type 0
+MayServe settings n door = (door.settings ≡ settings) × (door.calls + 65536 * n ≤ 2 ^ 40)

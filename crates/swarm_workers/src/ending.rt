@@ -18,7 +18,7 @@ use swarm_keeper::Keeper;
 use swarm_model::Machine;
 
 /// Of two stops the one that decides how the work ended.
-fn graver(stop: WorkStop, other: WorkStop) -> WorkStop
+pub fn graver(stop: WorkStop, other: WorkStop) -> WorkStop
     ensures { result ≡ graver stop other }
 {
     match (stop, other) {
@@ -55,14 +55,7 @@ fn end_worker<'a, M: Machine + Drop, K: Keeper + Drop, T: Wait, C: Clock + Drop,
 }
 
 /// Ends the workers in their order: joins their passes, and shuts their acceptors.
-pub(crate) fn end_workers<
-    'a,
-    M: Machine + Drop,
-    K: Keeper + Drop,
-    T: Wait,
-    C: Clock + Drop,
-    N: Listener,
->(
+pub fn end_workers<'a, M: Machine + Drop, K: Keeper + Drop, T: Wait, C: Clock + Drop, N: Listener>(
     server: &Server<M, K>,
     listener: &mut N,
     workers: Vec<Worker<SharedDoor<'a, M, K, T>, C, N::Acceptor>>,

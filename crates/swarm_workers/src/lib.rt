@@ -1,7 +1,8 @@
 //! Workers that serve connections.
 //!
-//! A worker ([`work`]) serves the links that come to its acceptor, one after another, each by
-//! `swarm_http`'s `session` over one door; `IsWorked` of `specs/Works.antt` says what it does.
+//! [`serve_links`] serves the links that come to an acceptor, one after another, each by a session,
+//! whatever that is held over ([`LinkSessions`]). A worker ([`work`]) does so by `swarm_http`'s
+//! `session` over one door; `IsWorked` of `specs/Works.antt` says what it does.
 //! [`run_workers`] has workers do so beside each other, each over a door, a clock and an acceptor of
 //! its own. [`serve_shared`] makes them: their doors are `shared_doors`' to the pools of one server,
 //! so that each pool has one log, and once all workers are done their passes are joined and the
@@ -14,12 +15,16 @@
 
 mod crew;
 mod ending;
+mod links;
 mod making;
 mod shared;
 mod worked;
 mod worker;
 
 pub use crew::{Worker, run_workers};
+pub use ending::{end_workers, graver};
+pub use links::{LinkSessions, serve_links};
+pub use making::{make_workers, split_all};
 pub use shared::serve_shared;
 pub use worked::{WorkStop, Worked};
 pub use worker::work;

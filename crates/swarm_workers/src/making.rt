@@ -18,7 +18,7 @@ use swarm_keeper::Keeper;
 use swarm_model::Machine;
 
 /// Passes for the first of so many workers, and for each of the others in their order.
-pub(crate) fn split_all<M: Machine + Drop, K: Keeper + Drop>(
+pub fn split_all<M: Machine + Drop, K: Keeper + Drop>(
     alloc: Global,
     server: &Server<M, K>,
     passes: Passes<M, K>,
@@ -71,7 +71,7 @@ fn make_worker<'a, M: Machine + Drop, K: Keeper + Drop, T: Wait, C: Clock, A: Ac
 }
 
 /// A worker for each acceptor, in their order. There is room for them.
-pub(crate) fn make_workers<
+pub fn make_workers<
     'a,
     M: Machine + Drop,
     K: Keeper + Drop,

@@ -1,49 +1,34 @@
-//! Sessions over the links of an acceptor.
+//! Sessions over a door.
 ghost use Rattle.std.specs.Prelude.{◌≡◌, ◌+◌, ◌*◌, ◌≤◌, ◌^◌, IsTrue};
 ghost use Rattle.swarm_model.specs.Settings.{are_settings};
 ghost use Rattle.swarm_http.specs.Answered.{KeepsDoor};
-ghost use Rattle.swarm_workers.specs.Works.{IsWorked, IsTurn};
+ghost use Rattle.swarm_workers.specs.Works.{IsWorked};
 
-use crate::{WorkStop, Worked};
+use crate::Worked;
+use crate::links::{LinkSessions, serve_links};
 use std::alloc::Global;
-use sw_base::Acceptor;
+use sw_base::{Acceptor, Link};
 use swarm_http::{Clock, Door, Ended, session};
 use swarm_model::Settings;
 
-/// What came of asking for the next connection.
-#[derive(Clone, Copy, Debug, PartialEq, Eq)]
-enum NextLink {
-    Served,
-    /// It was served by a session that had no memory to begin.
-    OutOfMemory,
-    NoMore,
-    Failed,
-}
+/// Sessions over a door, at the moments of a clock.
+struct DoorSessions;
 
-fn serve_next<A: Acceptor, D: Door, C: Clock>(
-    alloc: Global,
-    settings: &Settings,
-    door: &mut D,
-    clock: &mut C,
-    acceptor: &mut A,
-) -> NextLink
-    requires settings { (D.state door.old).settings ≡ settings.now }
-    requires rules { IsTrue (are_settings settings.now) }
-    requires calls { (D.state door.old).calls + 65536 ≤ 2 ^ 40 }
-    ensures turn { IsTurn (A.state acceptor.old) (A.state acceptor.new) (C.ahead clock.old) (C.ahead clock.new) (D.state door.old) (D.state door.new) result }
-    ensures door { KeepsDoor 65536 (D.state door.old) (D.state door.new) }
-{
-    match acceptor.accept() {
-        Ok(Some(mut link)) => {
-            let ended = session(alloc, settings, door, clock, &mut link);
-            acceptor.end(link);
-            match ended {
-                Ended::Memory => NextLink::OutOfMemory,
-                _ => NextLink::Served,
-            }
-        }
-        Ok(None) => NextLink::NoMore,
-        Err(_) => NextLink::Failed,
+impl<D: Door, C: Clock> LinkSessions<D, C> for DoorSessions {
+    ghost use Rattle.swarm_workers.specs.Works.{IsDoorSession, MayServe};
+
+    ghost does = { λ first last ending x y. IsDoorSession first last ending (C.ahead x.1) (C.ahead y.1) (D.state x.0) (D.state y.0) };
+
+    ghost may = { λ settings n x. MayServe settings n (D.state x.0) };
+
+    fn session<L: Link>(
+        alloc: Global,
+        settings: &Settings,
+        desk: &mut D,
+        clock: &mut C,
+        link: &mut L,
+    ) -> Ended {
+        session(alloc, settings, desk, clock, link)
     }
 }
 
@@ -65,31 +50,5 @@ pub fn work<A: Acceptor, D: Door, C: Clock>(
     ensures worked { IsWorked (A.state acceptor.old) (A.state acceptor.new) (C.ahead clock.old) (C.ahead clock.new) (D.state door.old) (D.state door.new) connections result }
     ensures door { KeepsDoor (65536 * connections) (D.state door.old) (D.state door.new) }
 {
-    'links: for served in 0..connections {
-        match serve_next(alloc, settings, door, clock, acceptor) {
-            NextLink::Served => {}
-            NextLink::OutOfMemory => {
-                return Worked {
-                    sessions: served + 1,
-                    stop: WorkStop::Memory,
-                };
-            }
-            NextLink::NoMore => {
-                return Worked {
-                    sessions: served,
-                    stop: WorkStop::NoMore,
-                };
-            }
-            NextLink::Failed => {
-                return Worked {
-                    sessions: served,
-                    stop: WorkStop::Failed,
-                };
-            }
-        }
-    }
-    Worked {
-        sessions: connections,
-        stop: WorkStop::Done,
-    }
+    serve_links::<A, D, C, DoorSessions>(alloc, settings, door, clock, acceptor, connections)
 }

@@ -43,6 +43,10 @@ pub(crate) fn listener_of(
     let links = transcript.connections.as_slice();
     let fails = transcript.accept_fails.as_slice();
     listener.add(acceptor_of(alloc, links, piece, fails, failing)?)?;
+    for links in transcript.further_connections.iter() {
+        let links = links.as_slice();
+        listener.add(acceptor_of(alloc, links, piece, &[], FailingCall::NoCall)?)?;
+    }
     Ok(listener)
 }
 
@@ -102,15 +106,15 @@ fn compare_one(
     compare_link(alloc, wanted, came.output())
 }
 
-/// Compares what a run wrote to the links that came.
-pub(crate) fn compare_served(
+/// Compares what a run wrote to the links that came to an acceptor.
+fn compare_accepted(
     alloc: Global,
     transcript: &Transcript,
-    listener: &MemoryListener,
+    wanted: &[Conversation],
+    acceptor: Option<&MemoryAcceptor>,
     failing: FailingCall,
 ) -> Result<(), TranscriptError> {
-    let wanted = transcript.connections.as_slice();
-    let Some(acceptor) = listener.ended().first() else {
+    let Some(acceptor) = acceptor else {
         return compare_links(transcript, wanted.len(), 0);
     };
     let came = acceptor.served();
@@ -118,6 +122,24 @@ pub(crate) fn compare_served(
         compare_one(alloc, wanted, link, failing.on_connection(at).is_some())?;
     }
     compare_links(transcript, wanted.len(), came.len())
+}
+
+/// Compares what a run wrote to the links that came.
+pub(crate) fn compare_served(
+    alloc: Global,
+    transcript: &Transcript,
+    listener: &MemoryListener,
+    failing: FailingCall,
+) -> Result<(), TranscriptError> {
+    let mut ended = listener.ended().iter();
+    let wanted = transcript.connections.as_slice();
+    compare_accepted(alloc, transcript, wanted, ended.next(), failing)?;
+    for wanted in transcript.further_connections.iter() {
+        let wanted = wanted.as_slice();
+        let acceptor = ended.next();
+        compare_accepted(alloc, transcript, wanted, acceptor, FailingCall::NoCall)?;
+    }
+    Ok(())
 }
 
 /// Compares what a run wrote to the links that it dialed.

@@ -6,7 +6,7 @@ use std::mem;
 #[derive(Clone, Copy)]
 pub(crate) enum Place {
     Console,
-    /// The last of those that come to the listener.
+    /// The last of those that come to the last acceptor.
     Connection,
     /// The last of those that are dialed.
     Dial,
@@ -101,12 +101,19 @@ impl Draft {
         Ok(())
     }
 
+    /// Lets the links that follow come to the next acceptor.
+    pub(crate) fn begin_acceptor(&mut self, alloc: Global, line: usize) -> Result<(), AllocError> {
+        self.begin_link(alloc, line, Place::Console)?;
+        self.transcript.further_connections.push(Vec::new(alloc))?;
+        Ok(())
+    }
+
     /// Puts what goes over the link into the transcript, and goes on with the next.
     fn keep_link(&mut self, next: Conversation) -> Result<(), AllocError> {
         let link = mem::replace(&mut self.link, next);
         match self.place {
             Place::Console => self.transcript.console = link,
-            Place::Connection => self.transcript.connections.push(link)?,
+            Place::Connection => self.transcript.last_connections().push(link)?,
             Place::Dial => self.transcript.dials.push(link)?,
         }
         Ok(())

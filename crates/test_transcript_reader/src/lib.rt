@@ -26,6 +26,7 @@
 //! | `>> TEXT` | bytes that are sent as they stand |
 //! | `<< TEXT` | bytes that are answered as they stand |
 //! | `connection` | begins the next link that comes to the listener: the rows that follow go over it |
+//! | `acceptor` | the links that follow come to the next acceptor that the listener gives, and no more to the one before it. Each worker is given an acceptor, and behind the workers each board |
 //! | `dial` | begins the next link that the program dials: what is sent over it is what the program reads, and what is answered what the program writes |
 //! | `console` | the rows that follow go over the console, as those before the first `connection` or `dial` |
 //! | `>reply STATUS \| FRONT \| BODY` | a reply that a dialed link gives, in the form of `<` |

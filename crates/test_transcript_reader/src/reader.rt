@@ -50,6 +50,7 @@ impl Reader {
             "pieces" => self.set_pieces(entry),
             "fails" => self.set_fails(entry),
             "connection" => self.begin_link(Place::Connection, entry),
+            "acceptor" => self.begin_acceptor(entry),
             "dial" => self.begin_link(Place::Dial, entry),
             "console" => self.begin_link(Place::Console, entry),
             "listen_fails" => self.set_listen_fails(entry),
@@ -194,6 +195,17 @@ impl Reader {
         let line = self.line;
         let alloc = self.alloc;
         self.draft()?.begin_link(alloc, line, place)?;
+        Ok(())
+    }
+
+    /// Begins the links of the next acceptor, behind whose key nothing stands.
+    fn begin_acceptor(&mut self, entry: &str) -> Result<(), TranscriptError> {
+        if !entry.is_empty() {
+            return Err(self.form_error("nothing behind the key", entry));
+        }
+        let line = self.line;
+        let alloc = self.alloc;
+        self.draft()?.begin_acceptor(alloc, line)?;
         Ok(())
     }
 

@@ -47,8 +47,10 @@ pub struct Transcript {
     /// Texts that stand somewhere in what is printed. Where there are some, the console's replies
     /// are not compared.
     pub mentions: Vec<Vec<u8>>,
-    /// What goes over the links that come to the listener, in order.
+    /// What goes over the links that come to the first acceptor that the listener gives, in order.
     pub connections: Vec<Conversation>,
+    /// What goes over those that come to each acceptor behind it.
+    pub further_connections: Vec<Vec<Conversation>>,
     /// What goes over the links that the program dials, in order.
     pub dials: Vec<Conversation>,
     /// Where the last dialed link's bytes are also cut at each place: the status with which the
@@ -96,6 +98,7 @@ impl Transcript {
             console: Conversation::new(alloc, line),
             mentions: Vec::new(alloc),
             connections: Vec::new(alloc),
+            further_connections: Vec::new(alloc),
             dials: Vec::new(alloc),
             cut_status: None,
             moments: Vec::new(alloc),
@@ -118,6 +121,14 @@ impl Transcript {
             each: Vec::new(alloc),
             status: 0,
         })
+    }
+
+    /// What goes over the links that come to the last acceptor.
+    pub(crate) fn last_connections(&mut self) -> &mut Vec<Conversation> {
+        match self.further_connections.last_mut() {
+            Some(last) => last,
+            None => &mut self.connections,
+        }
     }
 
     /// The next run over the same store, which has the words and the files of this one.

@@ -1,5 +1,5 @@
 use Rattle.swarm_workers.specs.Crews.{HasWorked}
-use Rattle.swarm_workers.proofs.Serving.{zip_moved}
+use Rattle.swarm_workers.proofs.Slices.{zip_moved}
 use Rattle.swarm_workers.proofs.crew.run_workers.Goals as goal
 
 pub returns : goal.returns

@@ -1,7 +1,8 @@
 use Rattle.std.proofs.Common.{arith, ◌∙◌}
 use Rattle.shared_doors.specs.Machines.{lasting_in}
 use Rattle.swarm_workers.specs.Crews.{HasWorked}
-use Rattle.swarm_workers.proofs.Crewing.{same_settings, new_settings, new_calls, as_many, some_of, out_enough, above_map, below_map, written, count_written, doors_after, alone_after, served_all}
+use Rattle.swarm_workers.proofs.Crewing.{same_settings, new_settings, new_calls, as_many, some_of, out_enough, above_map, below_map, doors_after, alone_after, served_all}
+use Rattle.swarm_workers.proofs.Slices.{written, count_written}
 use Rattle.swarm_workers.proofs.Closing.{kept_at, none_past, closed_begin, settings_closed}
 use Rattle.swarm_workers.proofs.shared.serve_shared.Goals as goal
 

@@ -1,12 +1,9 @@
-use Rattle.swarm_workers.proofs.Working.{begun, one_more, lacked_memory}
+-- What the worker did.
+use Rattle.swarm_workers.proofs.Working.{worked_told, kept_told}
 use Rattle.swarm_workers.proofs.worker.work.Goals as goal
 
-pub links-init : goal.links-init
-links-init g c = begun (g.A.Acceptor.state c.args.acceptor.now) (g.C.Clock.ahead c.args.clock.now) (g.D.Door.state c.args.door.now)
-
-pub links-preserved : goal.links-preserved
-links-preserved g c = one_more c.links.invariant c.in-Served.ensures.turn.0 c.in-Served.ensures.turn.1 c.serve_next.ensures.door
-
-pub returns-in-OutOfMemory-clause-worked : goal.returns-in-OutOfMemory-clause-worked
-returns-in-OutOfMemory-clause-worked g c =
-    lacked_memory c.links.invariant c.in-OutOfMemory.ensures.turn.0 c.in-OutOfMemory.ensures.turn.1 c.serve_next.ensures.door
+pub returns : goal.returns
+returns g c = record {
+  worked = worked_told (λ x. g.C.Clock.ahead x.1) (λ x. g.D.Door.state x.0) (g.A.Acceptor.state c.args.acceptor.now) (g.A.Acceptor.state c.serve_links.new.acceptor) _ _ c.args.connections c.serve_links.result c.serve_links.ensures;
+  door = kept_told (λ x. g.C.Clock.ahead x.1) (λ x. g.D.Door.state x.0) (g.A.Acceptor.state c.args.acceptor.now) (g.A.Acceptor.state c.serve_links.new.acceptor) _ _ c.args.connections c.serve_links.result c.serve_links.ensures;
+}

@@ -1,0 +1,26 @@
+-- One link more.
+use Rattle.std.proofs.Common.{◌≡◌, ℕ, ◌+◌, ◌-◌, subst, arith, rules}
+use Rattle.swarm_workers.proofs.Visiting.{begun, one_more, lacked_memory}
+use Rattle.swarm_workers.proofs.links.serve_links.Goals as goal
+
+pub links-init : goal.links-init
+links-init g c = record {
+  may = λ n e. let m : c.args.connections ≡ n = omega (arith, e) in subst (λ (k : ℕ). g.S.LinkSessions.may c.args.settings.now k (c.args.desk.now, c.args.clock.now)) m c.requires.may;
+  so_far = begun g.S.LinkSessions.does (g.A.Acceptor.state c.args.acceptor.now) (c.args.desk.now, c.args.clock.now);
+}
+
+pub serve_next-requires-clause-may : goal.serve_next-requires-clause-may
+serve_next-requires-clause-may g c =
+    let left = c.args.connections - c.links.served - 1 in
+    let may : (n : ℕ) × g.S.LinkSessions.may c.args.settings.now (n + 1) (c.links.desk, c.links.clock) = (left, c.links.invariant.may (left + 1) (omega arith)) in
+    search (rules, may)
+
+pub links-preserved : goal.links-preserved
+links-preserved g c = record {
+  may = λ n e. c.serve_next.ensures.may c.in-Served.is n (c.links.invariant.may (n + 1) (omega (arith, e)));
+  so_far = one_more g.S.LinkSessions.does c.links.invariant.so_far c.in-Served.ensures.turn.0 c.in-Served.ensures.turn.1;
+}
+
+pub returns-in-OutOfMemory : goal.returns-in-OutOfMemory
+returns-in-OutOfMemory g c =
+    lacked_memory g.S.LinkSessions.does c.links.invariant.so_far (omega arith) c.in-OutOfMemory.ensures.turn.0 c.in-OutOfMemory.ensures.turn.1
