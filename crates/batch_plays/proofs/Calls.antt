@@ -22,7 +22,7 @@ use Rattle.swarm_model.specs.Points.{Call, Growth, IsPoint, IsServed, IsSettled,
 use Rattle.swarm_model.specs.Reuse.{sent}
 use Rattle.swarm_model.specs.Soundness.{IsSound}
 use Rattle.pool_laws.proofs.Finals.{caused_first, replay_parts}
-use Rattle.pool_laws.proofs.Lists.{Among}
+use Rattle.pool_laws.proofs.Lists.{Among, among_either}
 use Rattle.pool_laws.proofs.Lists.Among.{here, later}
 use Rattle.log_laws.specs.Sent.{sends_as}
 use Rattle.log_laws.proofs.Own.{new_is_asked}
@@ -30,7 +30,7 @@ use Rattle.log_laws.proofs.Resent.{replies_are_told}
 use Rattle.swarm_history.specs.Calls.{first_call}
 use Rattle.swarm_history.specs.Settling.{IsPointAlone, IsOwnStop}
 use Rattle.batch_plays.specs.Turns.{IsCalled, Settles}
-use Rattle.batch_plays.proofs.Entries.{IsNew, among_either, due_is_not_new}
+use Rattle.batch_plays.proofs.Entries.{IsNew, due_is_not_new}
 
 -- The log grows and stays one that may be. A task of a caller that is added is the one that is asked for, of the caller
 -- who asks. The number that a task is told is that of one that the log has.

@@ -1,5 +1,5 @@
 -- Entries of logs, and elements of lists.
-use Rattle.std.proofs.Common.{◌≡◌, ◌⊎◌, inl, inr, ℕ, zero, suc, ◌+◌, ◌≤◌, ◌<◌, ◌==◌, ◌&&◌, Bool, true, false, IsTrue, List, [], ◌∷◌, ◌++◌, length, count_by, Option, Some, None, refl, ap, sym, ◌∙◌, subst, arith, true≢false, eqb-true}
+use Rattle.std.proofs.Common.{◌≡◌, ◌⊎◌, inl, inr, ℕ, zero, suc, ◌+◌, ◌≤◌, ◌<◌, ◌==◌, ◌&&◌, Bool, true, false, IsTrue, List, [], ◌∷◌, ◌++◌, length, count_by, Option, Some, refl, ap, sym, ◌∙◌, subst, arith, true≢false, eqb-true}
 use Rattle.std.specs.Prelude.{slice_get, ◌||◌}
 use Rattle.std.specs.List.{AllByRecursion, All, Contains, list_any}
 use Rattle.std.proofs.lemmas.Bool.{and_parts}
@@ -15,7 +15,6 @@ use Rattle.swarm_model.specs.Entries.{is_deadline}
 use Rattle.pool_laws.proofs.Alike.{same_is}
 use Rattle.pool_laws.proofs.Lists.{Among, each, all, counted}
 use Rattle.pool_laws.proofs.Lists.Among.{here, later}
-use Rattle.log_laws.specs.Runs.{HasEntry}
 use Rattle.log_laws.specs.Sent.{sends, sends_kind, sends_as, sends_kind_as}
 
 -- ---- elements of lists
@@ -25,16 +24,6 @@ among_of xs x c = subst (λ z. Among z xs) c.2 (all (λ z. Among z xs) xs (λ z 
 
 pub contains_of : {X : Type 0} (xs : List X) (x : X) → Among x xs → Contains xs x
 contains_of xs x a = each (Contains xs) xs (All-contains_itself xs) x a
-
--- an element of both lists is one of the first, or of the second
-pub among_either : {X : Type 0} (x : X) (xs ys : List X) → Among x (xs ++ ys) → Among x xs ⊎ Among x ys
-among_either x [] ys a = inr a
-among_either x (y ∷ xs) ys here = inl here
-among_either x (y ∷ xs) ys (later a) = by_rest (among_either x xs ys a)
-  where
-    by_rest : Among x xs ⊎ Among x ys → Among x (y ∷ xs) ⊎ Among x ys
-    by_rest (inl b) = inl (later b)
-    by_rest (inr b) = inr b
 
 -- a place of a list with one element more is one of the list, or the last
 pub at_end : {A : Type 0} (xs : List A) (x y : A) (i : ℕ) → slice_get (xs ++ x ∷ []) i ≡ Some y → (slice_get xs i ≡ Some y) ⊎ ((i ≡ length xs) × (x ≡ y))

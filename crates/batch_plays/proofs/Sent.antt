@@ -10,7 +10,7 @@ use Rattle.swarm_model.specs.declared.pool_settings.Settings.{Settings}
 use Rattle.swarm_model.specs.BaseRules.{IsBase}
 use Rattle.swarm_model.specs.Bases.{Base}
 use Rattle.swarm_model.specs.History.{IsCaused, IsLegal}
-use Rattle.pool_laws.proofs.Lists.{Among}
+use Rattle.pool_laws.proofs.Lists.{Among, among_either}
 use Rattle.log_laws.specs.Runs.{HasEntry}
 use Rattle.log_laws.specs.Sent.{sends, sends_as}
 use Rattle.log_laws.proofs.Once.{at_most_once}
@@ -23,7 +23,7 @@ use Rattle.batch_plays.specs.declared.turn.BatchTurn.{BatchTurn}
 use Rattle.batch_plays.specs.Once.{IsTaskOf, Accepts, IsAccepted, IsUnsent, AreSentOnce, EachOnce}
 use Rattle.batch_plays.specs.Turns.{Played}
 use Rattle.batch_plays.specs.World.{World, new_files}
-use Rattle.batch_plays.proofs.Entries.{IsNew, IsSent, among_of, contains_of, among_either, within, none_at, any_among, sent_as, sent_counted}
+use Rattle.batch_plays.proofs.Entries.{IsNew, IsSent, among_of, contains_of, within, none_at, any_among, sent_as, sent_counted}
 use Rattle.batch_plays.proofs.Asked.{has_uuid}
 use Rattle.batch_plays.proofs.Marking.{none_next}
 use Rattle.batch_plays.proofs.Standing.{IsMeant, AreMeant, IsMeantText, GrowsWell, Stands, played}

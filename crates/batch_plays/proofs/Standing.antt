@@ -21,7 +21,7 @@ use Rattle.swarm_model.specs.History.{IsCaused}
 use Rattle.swarm_model.specs.Reuse.{sent}
 use Rattle.swarm_model.specs.Soundness.{IsSound}
 use Rattle.pool_laws.proofs.Alike.{is_same}
-use Rattle.pool_laws.proofs.Lists.{Among}
+use Rattle.pool_laws.proofs.Lists.{Among, among_either}
 use Rattle.log_laws.specs.Sent.{sends_as}
 use Rattle.refusal_codes.specs.declared.refusal_code.RefusalCode.{RefusalCode}
 use Rattle.server_calls.specs.declared.told.Told.{Told}
@@ -45,7 +45,7 @@ use Rattle.batch_plays.specs.Once.{IsTaskOf}
 use Rattle.batch_plays.specs.Saving.{saved_mark, marked, text_at, ReadsAgain}
 use Rattle.batch_plays.specs.Turns.{IsCalled, IsTold, SendsLine, SendsNext, LosesReply, OfNext, Stops, AsksPool, AsksAsOther, may_ask, Turned, Played}
 use Rattle.batch_plays.specs.World.{World}
-use Rattle.batch_plays.proofs.Entries.{IsNew, among_either, at_end}
+use Rattle.batch_plays.proofs.Entries.{IsNew, at_end}
 use Rattle.batch_plays.proofs.Calls.{CallTells, call_tells}
 use Rattle.batch_plays.proofs.Asked.{line_task, has_uuid}
 use Rattle.batch_plays.proofs.Marking.{IsNext, next_is, TellsTask, MarkIs, mark_told, mark_good}

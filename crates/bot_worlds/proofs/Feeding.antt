@@ -14,7 +14,7 @@ use Rattle.bot_core.specs.Table.{stepped, next_state, issue_action, is_stop, is_
 use Rattle.bot_core.proofs.StateBounds.{stepped_keeps}
 use Rattle.swarm_model.specs.declared.attempt.Chunk.{Chunk}
 use Rattle.swarm_model.specs.declared.attempt.Last.{Last}
-use Rattle.pool_laws.proofs.Lists.{Among, among_left}
+use Rattle.pool_laws.proofs.Lists.{Among, among_left, among_either}
 use Rattle.bot_worlds.specs.declared.child_run.ChildRun.{ChildRun}
 use Rattle.bot_worlds.specs.declared.sent.Sent.{Sent}
 use Rattle.bot_worlds.specs.Phases.{claims, is_live, is_over}
@@ -24,7 +24,7 @@ use Rattle.bot_worlds.proofs.Walks.{is_run, is_sent, is_begin, Walk, Walks, step
 use Rattle.bot_worlds.proofs.Walks.Walk.{plain, next_id, next_name, told, begun, sent}
 use Rattle.bot_worlds.proofs.Repeating.{IsAgain, transient_again}
 use Rattle.bot_worlds.proofs.Requests.{request_sends, uncut}
-use Rattle.bot_worlds.proofs.Grown.{among_either, among_one, slice_left, steps_then}
+use Rattle.bot_worlds.proofs.Grown.{among_one, slice_left, steps_then}
 use Rattle.bot_worlds.proofs.Parts.{IsTold, numbered_after, newest_after, runs_are_after, carried_after, started_early}
 use Rattle.bot_worlds.proofs.Sending.{report_carries, IsAt, asks_after}
 

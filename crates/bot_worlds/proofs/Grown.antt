@@ -1,5 +1,5 @@
 -- Longer logs, longer outputs.
-use Rattle.std.proofs.Common.{◌≡◌, ◌⊎◌, inl, inr, ℕ, zero, suc, ◌+◌, ◌≤◌, ◌<◌, Bool, List, [], ◌∷◌, ◌++◌, length, take, drop, Option, Some, None, IfSome, refl, ap, sym, ◌∙◌, subst, arith, length-append}
+use Rattle.std.proofs.Common.{◌≡◌, inl, inr, ℕ, zero, suc, ◌+◌, ◌≤◌, ◌<◌, Bool, List, [], ◌∷◌, ◌++◌, length, take, drop, Option, Some, None, IfSome, refl, ap, sym, ◌∙◌, subst, arith, length-append}
 use Rattle.std.specs.Prelude.{slice_get}
 use Rattle.std.proofs.lemmas.List.{take-append-le}
 use Rattle.sha2.specs.Sha256.{sha256}
@@ -14,16 +14,6 @@ use Rattle.pool_laws.proofs.Lists.{Among}
 use Rattle.pool_laws.proofs.Lists.Among.{here, later}
 use Rattle.bot_worlds.specs.declared.child_run.ChildRun.{ChildRun}
 use Rattle.bot_worlds.specs.Invariant.{BotLog, HasClaim, HasReport, IsPiece, IsReportedTo, Reaches, CarriesPiece, CarriesSome, IsRun, HasNewest, IsRight, IsBefore, AreBefore}
-
--- an element of both lists is one of the first, or of the second
-pub among_either : {X : Type 0} (x : X) (xs ys : List X) → Among x (xs ++ ys) → Among x xs ⊎ Among x ys
-among_either x [] ys a = inr a
-among_either x (y ∷ xs) ys here = inl here
-among_either x (y ∷ xs) ys (later a) = by_rest (among_either x xs ys a)
-  where
-    by_rest : Among x xs ⊎ Among x ys → Among x (y ∷ xs) ⊎ Among x ys
-    by_rest (inl b) = inl (later b)
-    by_rest (inr b) = inr b
 
 pub among_one : {X : Type 0} (x y : X) → Among x (y ∷ []) → x ≡ y
 among_one x y here = refl

@@ -23,14 +23,14 @@ use Rattle.swarm_model.specs.History.{replay, IsAnswered, IsCaused, IsDue, MayFo
 use Rattle.swarm_model.specs.Soundness.{IsSound}
 use Rattle.swarm_model.specs.Verdicts.{claimant}
 use Rattle.pool_laws.proofs.Finals.{replay_parts, caused_first, caused_rest}
-use Rattle.pool_laws.proofs.Lists.{Among, each, all, among_left}
+use Rattle.pool_laws.proofs.Lists.{Among, each, all, among_left, among_either}
 use Rattle.pool_laws.proofs.Lists.Among.{here, later}
 use Rattle.pool_laws.proofs.Sound.{sound_after, sound_replay}
 use Rattle.log_laws.specs.Names.{name_of}
 use Rattle.log_laws.specs.Runs.{HasEntry}
 use Rattle.log_laws.proofs.NameLaw.{names_last, names_tell}
 use Rattle.bot_worlds.specs.Invariant.{BotLog, HasReport, IsNumber, IsTryOf, claimed_by, rows_by}
-use Rattle.bot_worlds.proofs.Grown.{IsLonger, among_either, slice_left, slice_within}
+use Rattle.bot_worlds.proofs.Grown.{IsLonger, slice_left, slice_within}
 
 -- ---- elements, and entries
 

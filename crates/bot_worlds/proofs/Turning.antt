@@ -24,7 +24,7 @@ use Rattle.swarm_model.specs.declared.request.Request.TheVariants as ask
 use Rattle.swarm_model.specs.Fits.{fits}
 use Rattle.swarm_model.specs.History.{IsLegal}
 use Rattle.pool_laws.proofs.Alike.{is_same}
-use Rattle.pool_laws.proofs.Lists.{Among}
+use Rattle.pool_laws.proofs.Lists.{Among, among_either}
 use Rattle.log_laws.specs.Runs.{HasEntry}
 use Rattle.bot_worlds.specs.declared.child_run.ChildRun.{ChildRun}
 use Rattle.bot_worlds.specs.declared.sent.Got.{Got}
@@ -40,7 +40,7 @@ use Rattle.bot_worlds.specs.Turns.{AsksAsOther, AsksWhere, Delivers, IsSettledFr
 use Rattle.bot_worlds.specs.Invariant.{log_of, HasNewest, HasReport, IsAsking, IsReport, IsReportedTo, IsRight, Stands}
 use Rattle.bot_worlds.proofs.Walks.{is_run, is_sent, is_begin, Walks, step_walks}
 use Rattle.bot_worlds.proofs.Repeating.{slept_again}
-use Rattle.bot_worlds.proofs.Grown.{among_either, among_one, newest_longer, right_longer, run_longer, slice_among, slice_within, some_longer}
+use Rattle.bot_worlds.proofs.Grown.{among_one, newest_longer, right_longer, run_longer, slice_among, slice_within, some_longer}
 use Rattle.bot_worlds.proofs.Logs.{longer, old_report}
 use Rattle.bot_worlds.proofs.Calls.{Called, called_by, no_update_due}
 use Rattle.bot_worlds.proofs.Parts.{IsTold}

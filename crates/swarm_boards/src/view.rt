@@ -1,7 +1,6 @@
 ghost use Rattle.std.specs.Prelude.{◌≡◌, ◌≤◌, ◌<◌, ◌^◌, Some, length, IfOk, IsTrue, IsSomeAnd};
 ghost use Rattle.left_right.specs.Sides.{view};
 ghost use Rattle.swarm_model.specs.Fits.{fits};
-ghost use Rattle.swarm_model.specs.Points.{is_ahead};
 ghost use Rattle.swarm_model.specs.Soundness.{IsSound};
 ghost use Rattle.pool_views.specs.Views.{reads_rows, IsAsked};
 ghost use Rattle.row_copies.specs.Kept.{kept_of, now_of};
@@ -14,7 +13,7 @@ use row_copies::RowCopy;
 use std::alloc::{AllocError, Global};
 use std::marker::Model;
 use std::snapshot::Snapshot;
-use swarm_model::{PoolState, Reply, Request, Rule};
+use swarm_model::{PoolState, Reply, Request, Rule, is_ahead};
 
 /// One reader of what a poster publishes.
 ///
@@ -41,16 +40,6 @@ impl Model for View {
     ghost view = { known_of };
 
     ghost invariant = { IsSeated };
-}
-
-/// Whether the caller has seen a longer log than one of this length.
-fn is_ahead(front: u64, after: Option<u64>) -> bool
-    ensures { result ≡ is_ahead front after }
-{
-    match after {
-        Some(seen) => front < seen,
-        None => false,
-    }
 }
 
 /// What the rows of a copy show, to whose base so many entries led.

@@ -6,7 +6,7 @@ ghost use Rattle.swarm_model.specs.Fits.{fits};
 ghost use Rattle.swarm_model.specs.Answers.{answer};
 ghost use Rattle.swarm_model.specs.Deadlines.{due_entry};
 ghost use Rattle.swarm_model.specs.MachineState.{IsHistory};
-ghost use Rattle.swarm_model.specs.Points.{LacksRoom, is_ahead};
+ghost use Rattle.swarm_model.specs.Points.{LacksRoom};
 ghost use Rattle.pool_doors.specs.Doors.{is_log_full, CountsKeeper};
 ghost use Rattle.swarm_history.specs.Calls.{call_of};
 ghost use Rattle.swarm_history.specs.Records.{HoldsNoOthers};
@@ -18,19 +18,10 @@ use crate::settling::settle;
 use dimensions::Seq;
 use pool_doors::{Answered, CallFault};
 use std::alloc::Global;
-use swarm_model::{Answer, Entry, EntryKind, Reply, Rule};
+use swarm_model::{Answer, Entry, EntryKind, Reply, Rule, is_ahead};
 
 /// The greatest moment of an entry.
 const MOST_MOMENT: u64 = 1 << 40;
-
-fn is_ahead(size: u64, after: Option<u64>) -> bool
-    ensures { result ≡ is_ahead size after }
-{
-    match after {
-        None => false,
-        Some(front) => size < front,
-    }
-}
 
 /// The request's bytes, where the entry brings them.
 fn brought_by<'a>(entry: &Entry, bytes: &'a [u8]) -> Option<&'a [u8]>

@@ -7,7 +7,7 @@
 //! legal (`History`) and what one call does at its point of a shared log (`Points`). [`Machine`] is
 //! what keeps such a log; its contract is these definitions alone. The rows of blobs are those of
 //! `blob_rows`, which [`BlobRow`] is passed on from; [`allowed`] tells whether a pool gives a caller a
-//! permission. [`due_uncounted`], [`answer_uncounted`] and [`task_uncounted`] ask a machine where
+//! permission, and [`is_ahead`] whether a caller has seen a longer log. [`due_uncounted`], [`answer_uncounted`] and [`task_uncounted`] ask a machine where
 //! nobody counts the rows that are read. The crate has no body of a machine. It stands on `task_props`
 //! and `blob_rows`.
 #![tactic(auto)]
@@ -22,6 +22,7 @@ mod entry;
 mod machine;
 mod names;
 mod permission;
+mod points;
 mod pool_settings;
 mod pool_state;
 mod read_rows;
@@ -48,6 +49,7 @@ pub use entry::{Entry, EntryKind, EventKind, Outcome};
 pub use machine::{Machine, ReserveFault};
 pub use names::{fits_message, is_name};
 pub use permission::Permission;
+pub use points::is_ahead;
 pub use pool_settings::{Grant, PoolSettings, Settings};
 pub use pool_state::PoolState;
 pub use read_rows::ReadRows;
