@@ -1,0 +1,4 @@
+pub mod Boards
+pub mod Crews
+pub mod Posts
+pub mod Ends
