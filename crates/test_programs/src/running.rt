@@ -4,7 +4,7 @@ use crate::TranscriptTest;
 use std::io;
 use std::rt::Files;
 use test_folders::{TextTest, check_folder, tell};
-use test_transcript_reader::{Transcript, TranscriptError, read};
+use test_transcript_reader::{Conversation, Transcript, TranscriptError, read};
 
 /// The first of these transcripts, and those behind it that go on with its store.
 fn runs_at_front(transcripts: &[Transcript]) -> &[Transcript] {
@@ -89,6 +89,24 @@ fn run_transcript<R: Print + Eprint + AllocGlobal, T: TranscriptTest>(
     }
 }
 
+fn replies_over(connections: &[Conversation]) -> usize {
+    let mut replies = 0usize;
+    for connection in connections {
+        replies = replies.saturating_add(connection.replies.len());
+    }
+    replies
+}
+
+/// How many replies and printed lines a transcript has, over the console and over the links that come.
+fn replies_of(transcript: &Transcript) -> usize {
+    let mut replies = transcript.console.replies.len();
+    replies = replies.saturating_add(replies_over(transcript.connections.as_slice()));
+    for connections in &transcript.further_connections {
+        replies = replies.saturating_add(replies_over(connections.as_slice()));
+    }
+    replies
+}
+
 /// Runs the transcripts of a text, and answers whether all of them passed.
 fn run_text<R: Print + Eprint + AllocGlobal, T: TranscriptTest>(
     rt: &R,
@@ -103,7 +121,7 @@ fn run_text<R: Print + Eprint + AllocGlobal, T: TranscriptTest>(
     let mut replies = 0usize;
     let mut over_lists = 0usize;
     for (at, transcript) in transcripts.iter().enumerate() {
-        replies = replies.saturating_add(transcript.console.replies.len());
+        replies = replies.saturating_add(replies_of(transcript));
         if transcript.is_again {
             continue;
         }

@@ -1,0 +1,4 @@
+mod many;
+mod one_post;
+mod posted;
+mod serving;
