@@ -3,8 +3,8 @@
 
 ghost use Rattle.std.specs.Prelude.{◌≡◌, ◌++◌, ◌∷◌, [], Some, None, true, false, codes};
 ghost use Rattle.command_words.specs.ClientWork.{bots, cancel, collect_batch, spawn_tasks};
-ghost use Rattle.command_words.specs.Commands.{bot, checkpoint, client, command_of};
-ghost use Rattle.base_examples.specs.WordExamples.{asked_of, small_bot};
+ghost use Rattle.command_words.specs.Commands.{bot, checkpoint, client, command_of, serve};
+ghost use Rattle.base_examples.specs.WordExamples.{asked_of, no_boards, small_bot, two_boards};
 
 /// A run is to stop only where the flag `--kill` asks for it.
 pub fn a_kill_is_asked_for_by_its_flag()
@@ -40,6 +40,13 @@ pub fn caches_and_their_bytes_are_two_options()
 pub fn a_checkpoint_needs_its_settings()
     ensures named { command_of (codes "checkpoint" ∷ codes "--settings" ∷ codes "lab.toml" ∷ []) ≡ Some (checkpoint (codes "lab.toml")) }
     ensures left_out { command_of (codes "checkpoint" ∷ []) ≡ None }
+{}
+
+/// A server has boards where its words ask for some: at most 8, which listen at an address of their own.
+pub fn boards_are_asked_for_by_their_options()
+    ensures by_default { command_of (codes "serve" ∷ []) ≡ Some (serve None (codes "127.0.0.1:8080") 1 1000000 no_boards) }
+    ensures asked { command_of (codes "serve" ∷ codes "--boards" ∷ codes "2" ∷ codes "--board-address" ∷ codes "h:1" ∷ codes "--board-every" ∷ codes "60" ∷ []) ≡ Some (serve None (codes "127.0.0.1:8080") 1 1000000 two_boards) }
+    ensures more { command_of (codes "serve" ∷ codes "--boards" ∷ codes "9" ∷ []) ≡ None }
 {}
 
 /// Words that the grammar doesn't take ask for no command.

@@ -16,7 +16,7 @@ use Rattle.command_words.specs.Values.{both_of, client_in, number_at, number_in}
 use Rattle.command_words.specs.ClientWork.{WorkValue, bots_app, bots_in, cancel_app, cancel_in, collect_app, collect_batch_app, collect_batch_in, collect_in, spawn_tasks_app, spawn_tasks_in, tasks_app, tasks_in, trigger_app, trigger_in}
 use Rattle.command_words.specs.Grammar.{bot_app, checkpoint_app, drill_app, serve_app, swarm_app}
 use Rattle.command_words.specs.declared.command.Command.{Command}
-use Rattle.command_words.specs.Commands.{value_of, bot_in, checkpoint_in, client_with, command_in, drill_in, serve_in}
+use Rattle.command_words.specs.Commands.{value_of, boards_in, bot_in, checkpoint_in, client_with, command_in, drill_in, serve_in}
 use Rattle.command_words.proofs.Rows.{Each, Gives, Goods, Own, value_at}
 use Rattle.command_words.proofs.Walks.{Leaves, NotHelp, level_leaves, check_parts, no_kinds, walk-stops}
 
@@ -51,15 +51,43 @@ module _ (c : List Rule) (rows : List Row) (goods : Goods c rows) where
 abbrev leaf : App → Shape
 leaf a = built_leaf (inherited (on_top with_leaf_noted (on_top marked_built swarm_app)).top a.top)
 
+boards_some : (rows : List Row) → Leaves (leaf serve_app).rules rows → is_some (boards_in rows) ≡ true
+boards_some rows l =
+    let c = (leaf serve_app).rules in
+    map_some _ _ (both_some _ _ (both_some _ _ (number_some c rows l.goods (codes "boards") _ 0 8 refl refl (l.defaults.1.1.1.1.0 refl))
+    (text_some c rows l.goods (codes "board-address") _ refl (l.defaults.1.1.1.1.1.0 refl)))
+    (both_some _ _ (number_some c rows l.goods (codes "board-connections") _ 1 1000000 refl refl (l.defaults.1.1.1.1.1.1.0 refl))
+    (both_some _ _ (number_some c rows l.goods (codes "board-every") _ 1 3600 refl refl (l.defaults.1.1.1.1.1.1.1.0 refl))
+    (number_some c rows l.goods (codes "board-rounds") _ 1 1000000 refl refl (l.defaults.1.1.1.1.1.1.1.1.0 refl)))))
+
 serve_some : (rows : List Row) → Leaves (leaf serve_app).rules rows → is_some (serve_in rows) ≡ true
 serve_some rows l =
     let c = (leaf serve_app).rules in
     map_some _ _ (both_some _ _ (text_some c rows l.goods (codes "address") _ refl (l.defaults.1.0 refl))
-    (both_some _ _ (number_some c rows l.goods (codes "workers") _ 1 32 refl refl (l.defaults.1.1.0 refl))
-    (number_some c rows l.goods (codes "connections") _ 1 1000000 refl refl (l.defaults.1.1.1.0 refl))))
+    (both_some _ _ (both_some _ _ (number_some c rows l.goods (codes "workers") _ 1 32 refl refl (l.defaults.1.1.0 refl))
+    (number_some c rows l.goods (codes "connections") _ 1 1000000 refl refl (l.defaults.1.1.1.0 refl)))
+    (boards_some rows l)))
 
 serve_own : Each (Own (leaf serve_app).rules) (leaf serve_app).rules
-serve_own = (own _ _ refl refl refl, (own _ _ refl refl refl, (own _ _ refl refl refl, (own _ _ refl refl refl, (own _ _ refl refl refl, tt)))))
+serve_own = (
+  own _ _ refl refl refl,
+  (
+    own _ _ refl refl refl,
+    (
+      own _ _ refl refl refl,
+      (
+        own _ _ refl refl refl,
+        (
+          own _ _ refl refl refl,
+          (
+            own _ _ refl refl refl,
+            (own _ _ refl refl refl, (own _ _ refl refl refl, (own _ _ refl refl refl, (own _ _ refl refl refl, tt)))),
+          ),
+        ),
+      ),
+    ),
+  ),
+)
 
 checkpoint_some : (rows : List Row) → Leaves (leaf checkpoint_app).rules rows → is_some (checkpoint_in rows) ≡ true
 checkpoint_some rows l =

@@ -5,6 +5,7 @@ use Rattle.clap.specs.Words.{Row, Text, fault_of, first_of, subcommand_of}
 use Rattle.command_words.specs.Values.{both_of, client_in, number_at}
 use Rattle.command_words.specs.ClientWork.{WorkValue, HasWorkRanges, work_in, work_of}
 use Rattle.command_words.specs.Grammar.{swarm_app}
+use Rattle.command_words.specs.declared.command.Boards.{Boards}
 use Rattle.command_words.specs.declared.command.Bot.{Bot}
 use Rattle.command_words.specs.declared.command.Command.{Command}
 use Rattle.command_words.specs.declared.command.Command.TheVariants as command
@@ -22,12 +23,20 @@ pub record BotOptions : Type 0 where
   pub caches : ℕ
   pub cache_bytes : ℕ
 
+-- the boards of a server, with their address as bytes
+pub record BoardsValue : Type 0 where
+  pub count : ℕ
+  pub address : Text
+  pub connections : ℕ
+  pub every : ℕ
+  pub rounds : ℕ
+
 -- a command, with its texts as bytes
 pub data CommandValue : Type 0 where
   -- settings
   session : Option Text → CommandValue
-  -- settings, address, workers, connections
-  serve : Option Text → Text → ℕ → ℕ → CommandValue
+  -- settings, address, workers, connections, boards
+  serve : Option Text → Text → ℕ → ℕ → BoardsValue → CommandValue
   -- settings
   checkpoint : Text → CommandValue
   bot : BotOptions → CommandValue
@@ -50,9 +59,18 @@ options_of b = record {
   cache_bytes = b.cache_bytes;
 }
 
+abbrev pub boards_of : Boards → BoardsValue
+boards_of b = record {
+  count = b.count;
+  address = string_bytes b.address;
+  connections = b.connections;
+  every = b.every;
+  rounds = b.rounds;
+}
+
 abbrev pub value_of : Command → CommandValue
 value_of (command.Session s) = session (option_map string_bytes s.settings)
-value_of (command.Serve s) = serve (option_map string_bytes s.settings) (string_bytes s.address) s.workers s.connections
+value_of (command.Serve s) = serve (option_map string_bytes s.settings) (string_bytes s.address) s.workers s.connections (boards_of s.boards)
 value_of (command.Checkpoint c) = checkpoint (string_bytes c.settings)
 value_of (command.Bot b) = bot (options_of b)
 value_of (command.Client c) = client (string_bytes c.server) (string_bytes c.caller) (work_of c.work)
@@ -66,10 +84,17 @@ pub record BotRanges (b : BotOptions) : Type 0 where
   pub caches : b.caches ≤ 64
   pub cache_bytes : b.cache_bytes ≤ 2 ^ 40
 
+-- each number of the boards lies in its range
+pub record BoardRanges (b : BoardsValue) : Type 0 where
+  pub count : b.count ≤ 8
+  pub connections : (1 ≤ b.connections) × (b.connections ≤ 1000000)
+  pub every : (1 ≤ b.every) × (b.every ≤ 3600)
+  pub rounds : (1 ≤ b.rounds) × (b.rounds ≤ 1000000)
+
 -- each number lies in its range
 abbrev pub HasRanges : CommandValue → Type 0
 HasRanges (session settings) = ⊤
-HasRanges (serve settings address workers connections) = (1 ≤ workers) × (workers ≤ 32) × (1 ≤ connections) × (connections ≤ 1000000)
+HasRanges (serve settings address workers connections boards) = (1 ≤ workers) × (workers ≤ 32) × (1 ≤ connections) × (connections ≤ 1000000) × BoardRanges boards
 HasRanges (checkpoint settings) = ⊤
 HasRanges (bot b) = BotRanges b
 HasRanges (client server caller work) = HasWorkRanges work
@@ -78,10 +103,31 @@ HasRanges (drill cycles start) = (1 ≤ cycles) × (cycles ≤ 10000) × (start 
 abbrev pub session_in : List Row → Option CommandValue
 session_in rows = Some (session (first_of (codes "settings") rows))
 
+-- how many workers there are, and how many connections each serves
+abbrev pub workers_in : List Row → Option (ℕ × ℕ)
+workers_in rows = both_of (number_at (codes "workers") 1 32 rows) (number_at (codes "connections") 1 1000000 rows)
+
+-- the seconds between two rounds, and how many rounds there are
+abbrev pub posts_in : List Row → Option (ℕ × ℕ)
+posts_in rows = both_of (number_at (codes "board-every") 1 3600 rows) (number_at (codes "board-rounds") 1 1000000 rows)
+
+abbrev pub boards_with : (ℕ × Text) × (ℕ × (ℕ × ℕ)) → BoardsValue
+boards_with p = record {
+  count = p.0.0;
+  address = p.0.1;
+  connections = p.1.0;
+  every = p.1.1.0;
+  rounds = p.1.1.1;
+}
+
+abbrev pub boards_in : List Row → Option BoardsValue
+boards_in rows = option_map (λ p. boards_with p)
+    (both_of (both_of (number_at (codes "boards") 0 8 rows) (first_of (codes "board-address") rows))
+    (both_of (number_at (codes "board-connections") 1 1000000 rows) (posts_in rows)))
+
 abbrev pub serve_in : List Row → Option CommandValue
-serve_in rows = option_map (λ p. serve (first_of (codes "settings") rows) p.0 p.1.0 p.1.1)
-    (both_of (first_of (codes "address") rows)
-    (both_of (number_at (codes "workers") 1 32 rows) (number_at (codes "connections") 1 1000000 rows)))
+serve_in rows = option_map (λ p. serve (first_of (codes "settings") rows) p.0 p.1.0.0 p.1.0.1 p.1.1)
+    (both_of (first_of (codes "address") rows) (both_of (workers_in rows) (boards_in rows)))
 
 abbrev pub checkpoint_in : List Row → Option CommandValue
 checkpoint_in rows = option_map (λ settings. checkpoint settings) (first_of (codes "settings") rows)

@@ -9,12 +9,25 @@ use Rattle.command_words.specs.ClientWork.{with_clients}
 abbrev pub session_app : App
 session_app = with_rule (new_app (codes "session")) (text_rule (codes "settings"))
 
-abbrev pub serve_app : App
-serve_app = with_rule (with_rule (with_rule (with_rule (new_app (codes "serve"))
+-- a server before its boards
+abbrev pub serve_workers_app : App
+serve_workers_app = with_rule (with_rule (with_rule (with_rule (new_app (codes "serve"))
     (text_rule (codes "settings")))
     (default_rule (codes "address") (codes "127.0.0.1:8080")))
     (number_rule (codes "workers") 1 32 (codes "1")))
     (number_rule (codes "connections") 1 1000000 (codes "1000000"))
+
+-- and before what is published to them
+abbrev pub serve_boards_app : App
+serve_boards_app = with_rule (with_rule (with_rule serve_workers_app
+    (number_rule (codes "boards") 0 8 (codes "0")))
+    (default_rule (codes "board-address") (codes "127.0.0.1:8081")))
+    (number_rule (codes "board-connections") 1 1000000 (codes "1000000"))
+
+abbrev pub serve_app : App
+serve_app = with_rule (with_rule serve_boards_app
+    (number_rule (codes "board-every") 1 3600 (codes "5")))
+    (number_rule (codes "board-rounds") 1 1000000 (codes "1000000"))
 
 abbrev pub checkpoint_app : App
 checkpoint_app = with_rule (new_app (codes "checkpoint")) (required_rule (codes "settings"))

@@ -9,6 +9,23 @@ pub struct Session {
     pub settings: Option<String>,
 }
 
+/// The boards of `swarm serve`: each answers CountTasks, ListTasks, GetResult, ListBots and GetBot from
+/// published copies of the pools, without waiting for a pool's turn.
+#[derive(Drop)]
+pub struct Boards {
+    /// How many boards there are: 0 to 8. Without one the other options are of no use.
+    pub count: u32,
+    /// The address at which they listen, a host and a port with `:` between them.
+    pub address: String,
+    /// How many connections each board serves until it ends: 1 to 1000000.
+    pub connections: u32,
+    /// How many seconds pass between two rounds, in each of which the new entries of every pool are
+    /// published: 1 to 3600.
+    pub every: u32,
+    /// How many rounds there are at most: 1 to 1000000.
+    pub rounds: u32,
+}
+
 /// `swarm serve`: listens, and serves connections.
 #[derive(Drop)]
 pub struct Serve {
@@ -20,6 +37,8 @@ pub struct Serve {
     pub workers: u32,
     /// How many connections each worker serves until it ends: 1 to 1000000.
     pub connections: u32,
+    /// The boards beside the workers.
+    pub boards: Boards,
 }
 
 /// `swarm checkpoint`: makes the kept records of a server that does not run begin anew.

@@ -3,11 +3,12 @@
 ghost use Rattle.std.specs.Prelude.{◌≡◌, IfOk, IfSome, option_and_then, option_map};
 ghost use Rattle.clap.specs.Words.{found_of, rows_of, subcommand_rows_of};
 ghost use Rattle.command_words.specs.ClientWork.{work_in};
-ghost use Rattle.command_words.specs.Commands.{HasRanges, checkpoint_in, client_with, command_in, drill_in, serve_in, session_in, value_of};
+ghost use Rattle.command_words.specs.Commands.{HasRanges, checkpoint_in, client_with, command_in, drill_in, session_in, value_of};
 
 use crate::bot_reading::bot;
 use crate::client_work::read_work;
-use crate::command::{Checkpoint, Client, Command, Drill, Serve, Session};
+use crate::command::{Checkpoint, Client, Command, Drill, Session};
+use crate::serve_reading::serve;
 use crate::values::{client, number, subcommand, text};
 use clap::ArgMatches;
 use std::alloc::{AllocError, Global};
@@ -18,28 +19,6 @@ fn session(alloc: Global, found: &ArgMatches<'_>) -> Result<Option<Command>, All
 {
     let settings = text(alloc, found, "settings")?;
     Ok(Some(Command::Session(Session { settings })))
-}
-
-fn serve(alloc: Global, found: &ArgMatches<'_>) -> Result<Option<Command>, AllocError>
-    ensures value { IfOk result (λ c. option_map value_of c ≡ serve_in (rows_of (found_of found.now))) }
-    ensures ranges { IfOk result (λ c. IfSome c (λ c. HasRanges (value_of c))) }
-{
-    let Some(workers) = number(found, "workers", 1, 32) else {
-        return Ok(None);
-    };
-    let Some(connections) = number(found, "connections", 1, 1000000) else {
-        return Ok(None);
-    };
-    let settings = text(alloc, found, "settings")?;
-    match text(alloc, found, "address")? {
-        Some(address) => Ok(Some(Command::Serve(Serve {
-            settings,
-            address,
-            workers,
-            connections,
-        }))),
-        None => Ok(None),
-    }
 }
 
 fn checkpoint(alloc: Global, found: &ArgMatches<'_>) -> Result<Option<Command>, AllocError>

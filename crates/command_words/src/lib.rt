@@ -17,10 +17,12 @@ mod client_work;
 mod command;
 mod command_reading;
 mod program;
+mod serve_command;
+mod serve_reading;
 mod server_commands;
 mod values;
 mod words;
 
 pub use client_work::ClientWork;
-pub use command::{Bot, Checkpoint, Client, Command, Drill, Serve, Session};
+pub use command::{Boards, Bot, Checkpoint, Client, Command, Drill, Serve, Session};
 pub use words::{Words, read_words};

@@ -10,7 +10,8 @@ ghost use Rattle.command_words.specs.Grammar.{program_app, server_app, swarm_app
 use crate::arguments::{command, enter};
 use crate::bot_command::bot;
 use crate::client_work::with_clients;
-use crate::server_commands::{checkpoint, drill, serve, session};
+use crate::serve_command::serve;
+use crate::server_commands::{checkpoint, drill, session};
 use clap::{ArgMatches, Command, Error};
 use std::alloc::{AllocError, Global};
 

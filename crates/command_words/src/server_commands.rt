@@ -1,16 +1,17 @@
-//! The commands over pools of one's own: session, serve, checkpoint and drill.
+//! The commands over pools of one's own, but for `serve`: session, checkpoint and drill.
 
 ghost use Rattle.std.specs.Prelude.{◌≡◌, IfOk, codes, false};
 ghost use Rattle.clap.specs.Words.{app_of, rule_of};
 ghost use Rattle.clap.specs.declared.builder.command.Command.TheViews.{out-Command as fields_of};
-ghost use Rattle.command_words.specs.Grammar.{checkpoint_app, drill_app, serve_app, session_app};
+ghost use Rattle.command_words.specs.Grammar.{checkpoint_app, drill_app, session_app};
 ghost use Rattle.command_words.specs.Rules.{text_rule};
 
-use crate::arguments::{add, command, defaulted, number, required, text};
+use crate::arguments::{add, command, number, required, text};
 use clap::{Arg, Command};
 use std::alloc::{AllocError, Global};
 
-fn settings<'a>(alloc: Global) -> Arg<'a>
+/// The option of the settings, which `serve` has too.
+pub(crate) fn settings<'a>(alloc: Global) -> Arg<'a>
     ensures rule { rule_of result ≡ text_rule (codes "settings") }
     ensures plain { result.global ≡ false }
 {
@@ -32,50 +33,6 @@ pub(crate) fn session<'a>(alloc: Global) -> Result<Command<'a>, AllocError>
         "Serves one connection: reads HTTP requests from standard input, writes replies to standard output",
     );
     add(session, settings(alloc))
-}
-
-pub(crate) fn serve<'a>(alloc: Global) -> Result<Command<'a>, AllocError>
-    ensures app { IfOk result (λ c. app_of c ≡ serve_app) }
-    ensures plain { IfOk result (λ c. (fields_of c).has_globals ≡ false) }
-{
-    let serve = command(
-        alloc,
-        "serve",
-        "Listens at an address and serves connections, then prints a summary of each pool",
-    );
-    let serve = add(serve, settings(alloc))?;
-    let serve = add(
-        serve,
-        defaulted(
-            alloc,
-            "address",
-            "HOST:PORT",
-            "127.0.0.1:8080",
-            "Where to listen",
-        ),
-    )?;
-    let serve = add(
-        serve,
-        number(
-            alloc,
-            "workers",
-            1,
-            32,
-            "1",
-            "How many workers serve, each one connection at a time: 1 to 32. With a `store` in the settings there is one worker only",
-        ),
-    )?;
-    add(
-        serve,
-        number(
-            alloc,
-            "connections",
-            1,
-            1000000,
-            "1000000",
-            "How many connections each worker serves before it ends: 1 to 1000000",
-        ),
-    )
 }
 
 pub(crate) fn checkpoint<'a>(alloc: Global) -> Result<Command<'a>, AllocError>

@@ -1,5 +1,5 @@
 -- The next command over what was left.
-use Rattle.std.proofs.Common.{◌≡◌, ℕ, List, ◌∷◌, refl, sym, ap, ap₂, subst, ◌∙◌, Option, Some, None, IsSome}
+use Rattle.std.proofs.Common.{◌≡◌, ℕ, List, refl, sym, ap, ap₂, subst, ◌∙◌, Option, Some, None, IsSome}
 use Rattle.std.specs.Prelude.{slice_get, IfSome, IsSomeAnd}
 use Rattle.std.proofs.lemmas.Option.{none-some, same_Some}
 use Rattle.swarm_keeper.specs.Tables.{Tables}

@@ -2,6 +2,7 @@
 use Rattle.std.specs.Prelude.{◌≡◌, ⊤, ℕ, ◌<◌, ◌≤◌, List, string_bytes}
 use Rattle.sw_base.specs.Link.{LinkState}
 use Rattle.pool_doors.specs.Doors.{DoorState}
+use Rattle.command_words.specs.Commands.{BoardRanges, boards_of}
 use Rattle.swarm_cli.specs.declared.door_command.DoorCommand.{DoorCommand}
 use Rattle.swarm_cli.specs.declared.door_command.DoorCommand.TheVariants as command
 use Rattle.swarm_cli.specs.declared.door_command.Service.{Service}
@@ -10,7 +11,7 @@ use Rattle.swarm_cli.specs.declared.serving.DoorResult.{DoorResult}
 use Rattle.swarm_cli.specs.declared.serving.DoorResult.TheVariants as used
 use Rattle.remote_commands.specs.Streams.{Streams, PrintsMade}
 use Rattle.swarm_cli.specs.ServerWork as deeds
-use Rattle.swarm_cli.specs.ServerWork.{ServerWork, session, serve, by_one, by_several, ServesListener, ServesConsole, ServesNothing, work_status}
+use Rattle.swarm_cli.specs.ServerWork.{ServerWork, session, serve, by_one, by_several, with_boards, ServesListener, ServesConsole, ServesNothing, work_status}
 
 abbrev pub work_of : DoorCommand → ServerWork
 work_of command.Session = session
@@ -25,12 +26,15 @@ HasRange (command.Serve address connections) = connections ≤ 1000000
 abbrev pub service_of : Service → deeds.Service
 service_of (service.ByOne command) = by_one (work_of command)
 service_of (service.BySeveral address workers connections) = by_several (string_bytes address) workers connections
+service_of (service.WithBoards address workers connections boards) = with_boards (string_bytes address) workers connections (boards_of boards)
 service_of service.Checkpoint = deeds.checkpoint
 
--- more than one worker, and at most 32, serve so many connections each at most
+-- more than one worker, and at most 32, serve so many connections each at most; with boards, of which there is one at least, one worker
+-- may be all
 abbrev pub HasRanges : Service → Type 0
 HasRanges (service.ByOne command) = HasRange command
 HasRanges (service.BySeveral address workers connections) = (1 < workers) × (workers ≤ 32) × (connections ≤ 1000000)
+HasRanges (service.WithBoards address workers connections boards) = (1 ≤ workers) × (workers ≤ 32) × (connections ≤ 1000000) × (1 ≤ boards.count) × BoardRanges (boards_of boards)
 HasRanges service.Checkpoint = ⊤
 
 -- what is done before the door is ended

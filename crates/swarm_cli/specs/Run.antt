@@ -19,7 +19,7 @@ RunsBy what (Some path) x y status = RunsFile what path x.files y.files x.store 
 -- a command was carried out
 abbrev pub CarriesOut : CommandValue → Environment → Environment → ℕ → Type 0
 CarriesOut (session settings) x y status = RunsBy (by_one work.session) settings x y status
-CarriesOut (serve settings address workers connections) x y status = RunsBy (serving address workers connections) settings x y status
+CarriesOut (serve settings address workers connections boards) x y status = RunsBy (serving address workers connections boards) settings x y status
 CarriesOut (checkpoint settings) x y status = RunsBy work.checkpoint (Some settings) x y status
 CarriesOut (bot options) x y status = RunsBotCommand options x y status
 CarriesOut (drill cycles start) x y status = Drills start cycles x.streams.console y.streams.console status × OnlyConsole x y

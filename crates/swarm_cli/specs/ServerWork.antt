@@ -8,6 +8,7 @@ use Rattle.sw_base.specs.declared.start_fault.StartFault.TheVariants as start
 use Rattle.swarm_model.specs.declared.pool_settings.PoolSettings.{PoolSettings}
 use Rattle.swarm_model.specs.Bases.{Base, empty_base}
 use Rattle.pool_doors.specs.Doors.{DoorState}
+use Rattle.command_words.specs.Commands.{BoardsValue}
 use Rattle.swarm_http.specs.declared.ended.Ended.{Ended}
 use Rattle.swarm_http.specs.declared.ended.Ended.TheVariants.{Closed, LastAsked, CutShort, BadHead, Retired, ReadFault, WriteFault, Memory}
 use Rattle.swarm_http.specs.Exchange.{entries_of}
@@ -25,15 +26,18 @@ pub data ServerWork : Type 0 where
   serve : List ℕ → ℕ → ServerWork
 
 -- that is done over one door; or several workers serve the connections that come at an address: so many workers, each at most so
--- many; or the kept records are made to begin anew
+-- many; or such workers, one at least, and boards beside them; or the kept records are made to begin anew
 pub data Service : Type 0 where
   by_one : ServerWork → Service
   by_several : List ℕ → ℕ → ℕ → Service
+  with_boards : List ℕ → ℕ → ℕ → BoardsValue → Service
   checkpoint : Service
 
--- one worker serves over a door of its own
-abbrev pub serving : List ℕ → ℕ → ℕ → Service
-serving address workers connections = if workers == 1 then by_one (serve address connections) else by_several address workers connections
+-- One worker serves over a door of its own, unless there are boards: then it shares the pools, as several do.
+abbrev pub serving : List ℕ → ℕ → ℕ → BoardsValue → Service
+serving address workers connections boards =
+    if boards.count == 0 then (if workers == 1 then by_one (serve address connections) else by_several address workers connections)
+    else with_boards address workers connections boards
 
 -- nothing led to the log of any pool
 abbrev pub BeginNew : List PoolSettings → (ℕ → Base) → Type 0

@@ -1,5 +1,5 @@
 -- A command with the settings of a file.
-use Rattle.std.specs.Prelude.{◌≡◌, ◌⊎◌, ℕ, List, [], codes, Option, Some, None, Result, Ok, Err, Vec, vec_items}
+use Rattle.std.specs.Prelude.{◌≡◌, ◌==◌, ◌⊎◌, if◌then◌else◌, ℕ, List, [], codes, Option, Some, None, Result, Ok, Err, Vec, vec_items}
 use Rattle.std.specs.declared.alloc.Global.{Global}
 use Rattle.sw_base.specs.Files.{FilesState, Loads}
 use Rattle.sw_base.specs.declared.file_fault.FileFault.{FileFault}
@@ -14,8 +14,11 @@ use Rattle.link_writer.specs.Printing.{Prints}
 use Rattle.pool_doors.specs.Doors.{DoorState, IsFreshDoor}
 use Rattle.client_commands.specs.Commands.{settings_line}
 use Rattle.remote_commands.specs.Streams.{Streams, SameButConsole}
-use Rattle.swarm_cli.specs.ServerWork.{ServerWork, CarriesOutWork, BeginNew, Service, by_one, by_several, checkpoint}
+use Rattle.swarm_cli.specs.ServerWork.{ServerWork, CarriesOutWork, BeginNew, Service, by_one, by_several, with_boards, checkpoint}
+use Rattle.command_words.specs.Commands.{BoardsValue}
 use Rattle.swarm_cli.specs.Sharing.{RunsShared}
+use Rattle.swarm_cli.specs.LargePools.{large_path}
+use Rattle.swarm_cli.specs.Boarding.{RunsCrews}
 use Rattle.swarm_cli.specs.KeptRecords.{RunsKept}
 use Rattle.swarm_cli.specs.Checkpoints.{RunsCheckpoint}
 
@@ -54,13 +57,24 @@ pub data RunsNew (work : ServerWork) (settings : Settings) (o u : Streams) (stat
   done : DoesNew work settings o u status → RunsNew work settings o u status
   no_memory : status ≡ 5 → u ≡ o → RunsNew work settings o u status
 
+-- which rule settings with a folder break where boards are asked for: the folder is for one worker, and for no boards
+abbrev pub store_rule : ℕ → List ℕ
+store_rule workers = if workers == 1 then codes "boards" else codes "workers"
+
+-- workers and boards over new logs, which leaves the store as it was; or the line for the first pool that is too large for boards
+abbrev pub RunsWithBoards : Option (List ℕ) → List ℕ → ℕ → ℕ → BoardsValue → Settings → StoreState → StoreState → Streams → Streams → ℕ → Type 0
+RunsWithBoards (Some path) address workers connections boards settings p q o u status = Refuses (settings_line path (codes "boards")) p q o u status
+RunsWithBoards None address workers connections boards settings p q o u status = RunsCrews address workers connections boards settings o u status × (q ≡ p)
+
 -- A command under the settings: over new logs, which leaves the store as it was, or over the records in their folder. Those are
--- for one worker, and only those can be made to begin anew.
+-- for one worker without boards, and only those can be made to begin anew.
 abbrev pub RunsUnder : Service → Option (List ℕ) → Settings → StoreState → StoreState → Streams → Streams → ℕ → Type 0
 RunsUnder (by_one work) None settings p q o u status = RunsNew work settings o u status × (q ≡ p)
 RunsUnder (by_one work) (Some folder) settings p q o u status = RunsKept work settings folder p q o u status
 RunsUnder (by_several address workers connections) None settings p q o u status = RunsShared address workers connections settings o u status × (q ≡ p)
 RunsUnder (by_several address workers connections) (Some folder) settings p q o u status = Refuses (settings_line (codes "store") (codes "workers")) p q o u status
+RunsUnder (with_boards address workers connections boards) None settings p q o u status = RunsWithBoards (large_path settings.pools) address workers connections boards settings p q o u status
+RunsUnder (with_boards address workers connections boards) (Some folder) settings p q o u status = Refuses (settings_line (codes "store") (store_rule workers)) p q o u status
 RunsUnder checkpoint None settings p q o u status = Refuses (settings_line (codes "store") (codes "missing")) p q o u status
 RunsUnder checkpoint (Some folder) settings p q o u status = RunsCheckpoint settings folder p q o u status
 

@@ -1,3 +1,5 @@
+use command_words::Boards;
+
 /// What is done over a door of one's own.
 #[derive(Drop)]
 pub(crate) enum DoorCommand {
@@ -16,6 +18,13 @@ pub(crate) enum Service {
         address: String,
         workers: u32,
         connections: u32,
+    },
+    /// That, and boards beside the workers answer from published copies of the pools.
+    WithBoards {
+        address: String,
+        workers: u32,
+        connections: u32,
+        boards: Boards,
     },
     /// Their kept records are made to begin anew.
     Checkpoint,

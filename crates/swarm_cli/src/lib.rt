@@ -6,7 +6,9 @@
 //! over the console, by `swarm_http`'s `session`, and `serve` those that come at an address, by
 //! `swarm_workers`' `work`; `CarriesOutWork` of `specs/ServerWork.antt` says what each does to the door and to the
 //! outside. With several workers `serve` is `swarm_workers`' `serve_shared`; `RunsShared` of
-//! `specs/Sharing.antt` says what comes of it. Their settings are the open ones, or with
+//! `specs/Sharing.antt` says what comes of it, and with boards `board_workers`' `serve_with_boards`
+//! (`RunsCrews` of `specs/Boarding.antt`), unless a pool is too large for them (`large_path` of
+//! `specs/LargePools.antt`). Their settings are the open ones, or with
 //! `--settings FILE` those of a file; `RunsFile` of `specs/SettingsFile.antt` says what a file comes
 //! to. Where the settings name a folder, the door is made of the records that the store has of each
 //! pool there, and the records grow with the logs; `RunsKept` of `specs/KeptRecords.antt` is that
@@ -20,10 +22,12 @@
 #![tactic(auto)]
 
 mod attaching;
+mod boarding;
 mod checkpoint;
 mod door_command;
 mod drill;
 mod kept_records;
+mod large_pools;
 mod listening;
 mod printing;
 mod program;

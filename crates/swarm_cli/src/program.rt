@@ -3,7 +3,7 @@ ghost use Rattle.std.specs.Prelude.{◌≡◌, ◌≤◌, map, option_map, strin
 ghost use Rattle.sw_base.specs.Dialers.{DialerState};
 ghost use Rattle.sw_base.specs.Link.{IsClean};
 ghost use Rattle.runners.specs.Calls.{RunnerState};
-ghost use Rattle.command_words.specs.Commands.{command_of, value_of};
+ghost use Rattle.command_words.specs.Commands.{BoardRanges, boards_of, command_of, value_of};
 ghost use Rattle.command_words.specs.Commands as words;
 ghost use Rattle.swarm_cli.specs.ServerWork.{serving};
 ghost use Rattle.swarm_cli.specs.Handling.{HasRanges, service_of};
@@ -13,7 +13,7 @@ ghost use Rattle.swarm_cli.specs.Run.{CarriesOut, Runs, RunsBy};
 use crate::door_command::{DoorCommand, Service};
 use crate::drill::run_drill;
 use crate::settings_file::{run_file, run_unkept};
-use command_words::{Command, Words, read_words};
+use command_words::{Boards, Command, Words, read_words};
 use link_writer::print;
 use remote_commands::{run_bot_command, run_client};
 use runners::Runner;
@@ -71,13 +71,22 @@ fn run_service<
     }
 }
 
-/// One worker serves over a door of its own, several share the pools.
-fn service_by(address: String, workers: u32, connections: u32) -> Service
+/// One worker serves over a door of its own, several share the pools, and so does one with boards.
+fn service_by(address: String, workers: u32, connections: u32, boards: Boards) -> Service
     requires workers { (1 ≤ workers) × (workers ≤ 32) }
     requires number { connections ≤ 1000000 }
-    ensures service { service_of result ≡ serving (string_bytes address) workers connections }
+    requires boards { BoardRanges (boards_of boards) }
+    ensures service { service_of result ≡ serving (string_bytes address) workers connections (boards_of boards) }
     ensures range { HasRanges result }
 {
+    if boards.count != 0 {
+        return Service::WithBoards {
+            address,
+            workers,
+            connections,
+            boards,
+        };
+    }
     if workers == 1 {
         return Service::ByOne(DoorCommand::Serve {
             address,
@@ -131,7 +140,12 @@ fn carry_out<
             listener,
         ),
         Command::Serve(serve) => {
-            let service = service_by(serve.address, serve.workers, serve.connections);
+            let service = service_by(
+                serve.address,
+                serve.workers,
+                serve.connections,
+                serve.boards,
+            );
             run_service(
                 rt,
                 alloc,
@@ -171,7 +185,7 @@ fn carry_out<
 /// |---|---|
 /// | 0 | the command did its whole work: `bot` ran as many tasks as it may, or was told to end; the input of `session` ended between requests, its last request asked to close, or 65536 were answered; `serve` served as many connections as it may, or no more came; `checkpoint` made the records of all pools begin anew, and printed `pool NAME front C tasks T` for each; `drill` printed its counts |
 /// | 2 | the words are no command, or ask for help; the text that says so is printed |
-/// | 3 | the settings are refused, and `settings PLACE RULE` is printed, for `serve` with several workers also where they name a folder for the records, and for `checkpoint` where they name none; or the records of a pool are, and `store PLACE AT` is printed, or `store PLACE base AT` where it is a line of their base; or `checkpoint` finds more than 2^31 entries before a pool's records, and `store PLACE count` is printed; or an option of a client's command or of `bot` is out of its grammar, and `settings OPTION grammar` is printed; or the file of `trigger` or of a batch is not there or too long; or the file of a batch or its progress is refused, and `batch LINE RULE` is printed |
+/// | 3 | the settings are refused, and `settings PLACE RULE` is printed, for `serve` with several workers or with boards also where they name a folder for the records, with boards also where a pool is too large for them, and for `checkpoint` where they name none; or the records of a pool are, and `store PLACE AT` is printed, or `store PLACE base AT` where it is a line of their base; or `checkpoint` finds more than 2^31 entries before a pool's records, and `store PLACE count` is printed; or an option of a client's command or of `bot` is out of its grammar, and `settings OPTION grammar` is printed; or the file of `trigger` or of a batch is not there or too long; or the file of a batch or its progress is refused, and `batch LINE RULE` is printed |
 /// | 4 | a read, a write or a flush on the console failed, the file or the records could not be read, the progress of a batch could not be saved, no connection could be accepted, the server could not be reached by a client's command, or the folder of `bot` could not be made |
 /// | 5 | there was no memory |
 /// | 6 | the server refused the request of a client's command, and the refusal's code is printed; or each line of a batch is done and one was refused; or `bot` was refused for good |

@@ -1,13 +1,14 @@
 //! A command with the settings of a file.
-ghost use Rattle.std.specs.Prelude.{ℕ, IsTrue, List, Option, None};
+ghost use Rattle.std.specs.Prelude.{◌≡◌, ℕ, IsTrue, List, Option, None};
 ghost use Rattle.sw_base.specs.Link.{IsClean};
 ghost use Rattle.sw_base.specs.Listeners.{ListenerState};
 ghost use Rattle.swarm_keeper.specs.Stores.{StoreState};
 ghost use Rattle.swarm_model.specs.Settings.{are_settings};
 ghost use Rattle.swarm_policy.specs.Pools.{have_own_names};
 ghost use Rattle.swarm_cli.specs.Handling.{service_of, HasRanges};
-ghost use Rattle.swarm_cli.specs.SettingsFile.{PrintsFault, RunsUnder, RunsText, RunsFile};
+ghost use Rattle.swarm_cli.specs.SettingsFile.{PrintsFault, RunsUnder, RunsText, RunsFile, store_rule as spec_store_rule};
 
+use crate::boarding::run_with_boards;
 use crate::checkpoint::run_checkpoint;
 use crate::door_command::Service;
 use crate::kept_records::run_kept;
@@ -61,8 +62,35 @@ pub(crate) fn run_unkept<T: Threads + Wait + Sync, L: Link, C: Clock + Drop + Se
             &*clock,
             listener,
         ),
+        Service::WithBoards {
+            address,
+            workers,
+            connections,
+            boards,
+        } => run_with_boards(
+            rt,
+            alloc,
+            settings,
+            address.as_str(),
+            *workers,
+            *connections,
+            boards,
+            console,
+            &*clock,
+            listener,
+        ),
         Service::Checkpoint => print_refusal(alloc, console, "store", "missing"),
     }
+}
+
+/// Which rule settings with a folder break where boards are asked for.
+fn store_rule(workers: u32) -> &'static str
+    ensures { result.now ≡ spec_store_rule workers }
+{
+    if workers == 1 {
+        return "boards";
+    }
+    "workers"
 }
 
 fn run_accepted<T: Threads + Wait + Sync, L: Link, C: Clock + Drop + Send, P: Store, N: Listener>(
@@ -97,6 +125,9 @@ fn run_accepted<T: Threads + Wait + Sync, L: Link, C: Clock + Drop + Send, P: St
                 listener,
             ),
             Service::BySeveral { .. } => print_refusal(alloc, console, "store", "workers"),
+            Service::WithBoards { workers, .. } => {
+                print_refusal(alloc, console, "store", store_rule(*workers))
+            }
             Service::Checkpoint => run_checkpoint(alloc, settings, folder.as_str(), console, store),
         },
     }

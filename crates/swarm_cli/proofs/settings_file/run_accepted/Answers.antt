@@ -1,4 +1,4 @@
--- A command over new logs, and the line for records and several workers.
+-- A command over new logs, and the lines for records and several workers or boards.
 use Rattle.std.proofs.Common.{ℕ, List, Option, sym, subst}
 use Rattle.swarm_cli.specs.Handling.{service_of}
 use Rattle.swarm_cli.specs.SettingsFile.{RunsUnder}
@@ -15,6 +15,10 @@ returns-in-None g c =
 pub returns-in-BySeveral : goal.returns-in-BySeveral
 returns-in-BySeveral g c =
     rw (c.in-Some.is, c.in-BySeveral.is) (c.print_refusal.ensures (g.C.Clock.ahead c.args.clock.now) (g.N.Listener.state c.args.listener.now) (g.P.Store.state c.args.store.now))
+
+pub returns-in-WithBoards : goal.returns-in-WithBoards
+returns-in-WithBoards g c =
+    rw (c.in-Some.is, c.in-WithBoards.is, ← c.store_rule.ensures) (c.print_refusal-in-WithBoards.ensures (g.C.Clock.ahead c.args.clock.now) (g.N.Listener.state c.args.listener.now) (g.P.Store.state c.args.store.now))
 
 pub returns-in-Checkpoint : goal.returns-in-Checkpoint
 returns-in-Checkpoint g c =
