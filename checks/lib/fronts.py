@@ -56,10 +56,10 @@ def changed(text, changes, name="the configuration"):
     return text
 
 
-def lab_front(folder, server_port, port, bots_port=None):
+def lab_front(folder, server_port, port, bots_port=None, board_port=None):
     """examples/nginx.conf before a server on a port, with its files in a folder and listening on other ports.
 
-    What it includes of examples/ is copied into the folder.
+    What it includes of examples/ is copied into the folder. Without a port of boards the server stands for them.
     """
     shutil.copy(os.path.join(records.TOP, "examples", "swarm-proxy.conf"), folder)
     changes = {
@@ -68,6 +68,7 @@ def lab_front(folder, server_port, port, bots_port=None):
         "/var/www/swarm": folder,
         "listen 443 ssl": f"listen {serving.HOST}:{port} ssl",
         "listen 8443 ssl": f"listen {serving.HOST}:{bots_port or serving.free_port()} ssl",
+        "map $host $swarm_board {\n    default 127.0.0.1:8080": f"map $host $swarm_board {{\n    default 127.0.0.1:{board_port or server_port}",
         "127.0.0.1:8080": f"127.0.0.1:{server_port}",
     }
     return text_of("examples/nginx.conf", changes)

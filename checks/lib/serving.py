@@ -19,6 +19,8 @@ SHARED_IDLE_SECONDS = 10
 CALL_SECONDS = 10
 REQUEST_SECONDS = 60
 STATES = ("PENDING", "RUNNING", "EXPIRED", "TIMED_OUT", "BOT_DIED", "CANCELED", "COMPLETED", "KILLED", "NO_RESOURCE")
+# The largest pool that boards show (docs/settings.md), as lines of its settings.
+BOARD_LIMITS = "most_tasks = 65536\nmost_entries = 1048576\nmost_weight = 33554432"
 
 
 def free_port():
@@ -56,22 +58,27 @@ class Server:
     """`swarm serve` on a free port, for so many connections and with so many workers; or by words of one's
     own, on their port.
 
-    `front` stands before its words. It has to listen within so many seconds; one with large records takes
-    longer than others.
+    `front` stands before its words, and `more` behind them. It has to listen within so many seconds; one with
+    large records takes longer than others. Its boards, where it has some, are on another free port, or on the
+    one that is given.
     """
 
-    def __init__(self, connections, settings=None, words=None, port=None, front=(), seconds=20, workers=1):
+    def __init__(self, connections, settings=None, words=None, port=None, front=(), seconds=20, workers=1, boards=0, board_port=None, more=()):
         self.port = port or free_port()
         self.url = f"http://{HOST}:{self.port}"
+        self.board_port = (board_port or free_port()) if boards else None
         if not words:
             words = [*front, records.built_program(), "serve", "--address", f"{HOST}:{self.port}"]
             words += ["--connections", str(connections)]
             words += ["--settings", settings] if settings else []
             words += ["--workers", str(workers)] if workers > 1 else []
+            words += ["--boards", str(boards), "--board-address", f"{HOST}:{self.board_port}"] if boards else []
+            words += more
         self.connections, self.made = connections, 0
         self.process = subprocess.Popen(words, stdin=subprocess.DEVNULL, stdout=subprocess.PIPE, stderr=subprocess.PIPE)
         try:
-            wait_until_listening(self.port, self.process, seconds)
+            for it in [self.port, self.board_port] if boards else [self.port]:
+                wait_until_listening(it, self.process, seconds)
         except RuntimeError:
             self.stop()
             raise
@@ -94,6 +101,12 @@ class Server:
     def ask(self, *requests, seconds=30):
         """The replies to requests over a connection of their own."""
         with self.connect(seconds) as it:
+            it.sendall(b"".join(requests))
+            return read_replies(it, len(requests))
+
+    def ask_board(self, *requests, seconds=30):
+        """The replies of a board to requests over a connection of their own."""
+        with connect(self.board_port, seconds) as it:
             it.sendall(b"".join(requests))
             return read_replies(it, len(requests))
 

@@ -56,9 +56,17 @@ const REQUEST_MILLISECONDS = 30000;
 const OUTPUT_SHOWN = 262144;
 // How many tasks a pool may have. The ids of the first pool's tasks come before those of the second.
 const TASKS_OF_POOL = 262144;
+// The calls that boards answer, which the front passes on to them below /board (examples/swarm-proxy.conf),
+// and those that change something.
+const READS = ["Tasks/CountTasks", "Tasks/ListTasks", "Tasks/GetResult", "Bots/ListBots", "Bots/GetBot"];
+const CHANGES = ["Tasks/CancelTask", "Bots/TerminateBot"];
+// For how many seconds a board that doesn't show a change of this page yet is asked again.
+const LONGEST_AHEAD = 30;
 
 const main = document.querySelector("main");
 let pools = [];
+// The front of each pool, by its name, behind the last change that this page made there.
+const fronts = new Map();
 let visit = null;
 let timer = 0;
 // By how many seconds the server's clock is ahead of this one: ages are by the server's.
@@ -84,9 +92,24 @@ async function fetched(path, request = {}) {
     return reply;
 }
 
+// What a call answers. A board shows what was published some seconds before: it is asked for the last change
+// that was made here, and again each second until it shows that. Once that takes too long it is shown as it is.
 async function ask(call, body) {
-    const reply = await fetched(`/prpc/swarming.v2.${call}`, { method: "POST", body: JSON.stringify(body) });
-    return reply.json();
+    const pool = body.pool ?? poolOf(body.task_id);
+    const isRead = READS.includes(call);
+    const end = Date.now() + LONGEST_AHEAD * 1000;
+    for (;;) {
+        const headers = isRead && fronts.has(pool) ? { "X-Swarming-After": fronts.get(pool) } : {};
+        try {
+            const reply = await fetched(`${isRead ? "/board" : ""}/prpc/swarming.v2.${call}`, { method: "POST", body: JSON.stringify(body), headers });
+            if (CHANGES.includes(call)) fronts.set(pool, reply.headers.get("X-Swarming-Front"));
+            return await reply.json();
+        } catch (failed) {
+            if (failed.told?.code !== "front_ahead") throw failed;
+            if (Date.now() > end) fronts.delete(pool);
+            else await new Promise((resolve) => setTimeout(resolve, 1000));
+        }
+    }
 }
 
 // How many tasks of a pool are in each state. A task that has ended stays as it is, so those states are
