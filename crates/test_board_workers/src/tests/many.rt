@@ -24,7 +24,7 @@ const PIECE: usize = 4096;
 const BEGIN: &str = "HTTP/1.1 ";
 
 /// Every so many questions one is for the pending tasks alone.
-const PENDING_EVERY: u32 = 4;
+const PENDING_EVERY: u32 = 32;
 
 /// How many tasks there are after some entries.
 #[derive(Clone, Copy)]
