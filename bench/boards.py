@@ -9,8 +9,9 @@ its rounds.
 
 - CountTasks, one request after the other on one connection that is kept (by Debian's wrk, for so many seconds,
   3 by default): of a server without boards and with one processor, whose pool is empty, as bench/serve.py has
-  it; of a board whose pool has 60000 tasks; and of that board while its worker is sent a blob of 16 MiB and
-  asked for it, over and over, each time within a turn of the pool.
+  it; of a board whose pool has 60000 tasks; of that board while its worker is sent a blob of 16 MiB and
+  asked for it, over and over, each time within a turn of the pool; and of it while the worker of another
+  server on the same processors is, which takes as much of the machine and no turn of the pool.
 - Polls of 1000 bots, each of which adds an entry, in a pool of 60000 tasks, over one connection at a time, 32 in
   each write: of a worker without boards, of one beside a board with a post each hour, and of one beside a
   board with a post each second, which has more to copy than it may each time.
@@ -56,6 +57,7 @@ SETTINGS = (
     + 'grants = [{ caller = "*", permissions = ["swarming.pools.createTask", "swarming.pools.listTasks", "profile.pools.runBot", "profile.pools.useBlobs"] }]\n'
 )
 IDLE, BOARD, BESIDE = "a server without boards", "a board", "a board while its worker has blobs of 16 MiB"
+ELSEWHERE = "a board while the worker of another server has them"
 ALONE, HOURLY, EACH_SECOND = "no boards", "a post each hour", "a post each second"
 # The least of a board, in times of the idle server; of a board beside blobs, in times of that without; and of
 # a worker beside posts, in times of one without boards.
@@ -170,21 +172,27 @@ class Bench(serve.Bench):
         while front_of(board_port) < front:
             time.sleep(0.2)
 
-    def measure_board(self, idle, server, board_port):
+    def measure_board(self, idle, other, server, board_port):
         self.keep(IDLE, "", self.wrk(idle.port, 1, 1, False))
         self.keep(BOARD, "", self.wrk(board_port, 1, 1, False))
+        self.blobs = max(self.blobs, self.measure_beside(BESIDE, server.port, board_port))
+        self.measure_beside(ELSEWHERE, other.port, board_port)
+
+    def measure_beside(self, name, port, board_port):
+        """A board, while the worker at the port has blobs. It answers how often it had one."""
         done, stop = multiprocessing.Value("i", 0), multiprocessing.Event()
-        client = multiprocessing.Process(target=has_blobs, args=(server.port, self.of_clients[1], done, stop), daemon=True)
+        client = multiprocessing.Process(target=has_blobs, args=(port, self.of_clients[1], done, stop), daemon=True)
         client.start()
         while not done.value and client.is_alive():
             time.sleep(0.01)
         before = done.value
-        self.keep(BESIDE, "", self.wrk(board_port, 1, 1, False))
-        self.blobs = max(self.blobs, done.value - before)
+        self.keep(name, "", self.wrk(board_port, 1, 1, False))
+        times = done.value - before
         stop.set()
         client.join(20)
         if client.exitcode:
             sys.exit("the client of blobs failed")
+        return times
 
     def measure_worker(self):
         for way, every in ((ALONE, None), (HOURLY, 3600), (EACH_SECOND, 1)):
@@ -201,13 +209,14 @@ class Bench(serve.Bench):
 
     def run(self):
         idle, _ = self.start(self.of_idle)
+        other, _ = self.start(self.of_server)
         server, board_port = self.start(self.of_server, 1)
         fill(server.port, [NEW_TASK] * TASKS)
         self.wait_posted(server, board_port)
         for place in range(self.rounds):
-            self.measure_board(idle, server, board_port)
+            self.measure_board(idle, other, server, board_port)
             print(f"round {place + 1} of {self.rounds} of boards is done", file=sys.stderr, flush=True)
-        for it in (idle, server):
+        for it in (idle, other, server):
             it.end()
         for place in range(self.rounds):
             self.measure_worker()
@@ -243,7 +252,7 @@ class Bench(serve.Bench):
             return f"{came:.2f}" + (f" (at least {wanted})" if wanted else "")
 
         rows = ["| CountTasks of | requests/s | half within, ms | 99 of 100 within, ms | times |", "|---|---|---|---|---|"]
-        for name, other in ((IDLE, None), (BOARD, IDLE), (BESIDE, BOARD)):
+        for name, other in ((IDLE, None), (BOARD, IDLE), (BESIDE, BOARD), (ELSEWHERE, BOARD)):
             rate, half, most = best[name]
             rows.append(f"| {name} | {rate:.0f} | {half:.3f} | {most:.3f} | " + (f"{times(name, other)} of {other}" if other else "") + " |")
         rows += ["", f"While the board was asked for {self.seconds} seconds its worker took the blob and gave it {self.blobs} times.", ""]
