@@ -38,6 +38,10 @@ impl<T: Drop> From<AllocFailed<T>> for KeeperFault {
 }
 
 /// What keeps the lines of one pool's base and of its log since then, and the bytes of its blobs.
+///
+/// What a failed call began is undone before anything else is kept or told: at once, or as a later
+/// call begins, which fails until it is undone. Where it can't be undone until the keeper goes back
+/// to its store, or the process is killed before, the next keeper may find it whole.
 pub trait Keeper {
     /// What is kept, where the keeper tells it.
     ghost tables: { Self → Option Tables };
