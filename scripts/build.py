@@ -233,6 +233,29 @@ def memory_of(crate, jobs):
     return 1_200_000_000 + 250_000 * crate.lines + 500_000_000 * (jobs - 1)
 
 
+class Group:
+    """Processes that end with this one, however it ends."""
+
+    def __init__(self):
+        # Once this process has ended the guard's read returns, and it ends all that was started.
+        ends, self.held = os.pipe()
+        how = {"stdin": ends, "stdout": subprocess.DEVNULL, "stderr": subprocess.DEVNULL}
+        self.guard = subprocess.Popen(["sh", "-c", "read _; kill -9 0"], preexec_fn=os.setpgrp, **how)
+        os.close(ends)
+
+    def start(self, words, niceness=0, **how):
+        def join():
+            os.setpgid(0, self.guard.pid)
+            os.nice(niceness)
+
+        return subprocess.Popen(words, preexec_fn=join, **how)
+
+    def end(self):
+        os.killpg(self.guard.pid, signal.SIGKILL)
+        self.guard.wait()
+        os.close(self.held)
+
+
 class Builder:
     """Builds crates side by side, each once those below it are built."""
 
@@ -243,15 +266,10 @@ class Builder:
         self.told, self.told_at = None, 0
         # Minutes of a processor that the crates which have ended took, and that the table says they take. Each begins with one, so that a first small crate tells little.
         self.taken = self.planned = 1
-        # Where this process ends, however it ends, the guard's read returns, and it ends all that was started.
-        ends, self.held = os.pipe()
-        how = {"stdin": ends, "stdout": subprocess.DEVNULL, "stderr": subprocess.DEVNULL}
-        self.guard = subprocess.Popen(["sh", "-c", "read _; kill -9 0"], preexec_fn=os.setpgrp, **how)
-        os.close(ends)
+        self.group = Group()
 
     def end(self):
-        os.killpg(self.guard.pid, signal.SIGKILL)
-        self.guard.wait()
+        self.group.end()
 
     def run(self):
         while self.left or self.running:
@@ -264,13 +282,9 @@ class Builder:
             time.sleep(0.1)
 
     def spawn(self, words, crate, is_first):
-        def join():
-            os.setpgid(0, self.guard.pid)
-            os.nice(0 if is_first else 15)
-
         with open(crate.log, "ab") as log:
             how = {"stdin": subprocess.DEVNULL, "stdout": log, "stderr": subprocess.STDOUT}
-            return subprocess.Popen(words, cwd=crate.folder, preexec_fn=join, **how)
+            return self.group.start(words, 0 if is_first else 15, cwd=crate.folder, **how)
 
     def ready(self):
         """The crates that can begin, those with the longest chain first, once those that stand built were taken out."""
