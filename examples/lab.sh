@@ -41,14 +41,20 @@ stop() {
 
 end() {
     trap '' HUP INT TERM
-    # Commands of tasks look at this file and end once it is gone.
-    [ -z "$folder" ] || rm -f "$folder/on"
     for it in $command $bots $front $server; do
         kill "$it" && wait "$it"
     done 2>/dev/null
     [ -n "$folder" ] || return
+    # A bot that is killed leaves the command of its run behind.
     tries=100
-    while [ "$tries" -gt 0 ] && has_runs; do
+    while [ "$tries" -gt 0 ]; do
+        # (its status is that of a process that has ended meanwhile)
+        runs=$(grep -lsF "$mark" /proc/[0-9]*/environ)
+        [ -n "$runs" ] || break
+        for it in $runs; do
+            it=${it#/proc/}
+            kill -9 "${it%/environ}"
+        done 2>/dev/null
         tries=$((tries - 1))
         sleep 0.1
     done
@@ -58,15 +64,6 @@ trap end EXIT
 trap 'exit 129' HUP
 trap 'exit 130' INT
 trap 'exit 143' TERM
-
-# Whether a command of a task still runs that wrote its number down.
-has_runs() {
-    [ -f "$folder/runs" ] || return
-    while read -r it; do
-        kill -0 "$it" 2>/dev/null && return
-    done <"$folder/runs"
-    return 1
-}
 
 # Runs a command in the background and waits for it, so that a signal isn't left until it has ended.
 attend() {
@@ -96,7 +93,7 @@ call() {
     reply=$(cat "$folder/reply")
     return "$1"
 }
-run_there() { cd "$folder" && exec timeout --foreground 60 "$program" "$@"; }
+run_there() { cd "$folder" && exec env "$mark" timeout --foreground 60 "$program" "$@"; }
 
 # Runs a command of the program, as joe or whoever is named in its words: what has to come, and the words.
 swarm() {
@@ -153,7 +150,7 @@ END
 }
 
 start_bot() {
-    (cd "$folder" && exec "$program" bot --server "$address" --caller rack --id "$1" --pool default --dimensions "os=Linux;rack=$1" --tasks 1000 --polls 1000000 --steps 4000000000) >>"$folder/bots" 2>&1 &
+    (cd "$folder" && exec env "$mark" "$program" bot --server "$address" --caller rack --id "$1" --pool default --dimensions "os=Linux;rack=$1" --tasks 1000 --polls 1000000 --steps 4000000000) >>"$folder/bots" 2>&1 &
     bot=$!
     bots="$bots $bot"
 }
@@ -219,20 +216,15 @@ END
 }
 
 show_page() {
-    : >"$folder/on"
-    # What a command does until all ends, or until a file is there.
-    begins="echo \$\$ >>$folder/runs"
-    goes_on="[ -e $folder/on ] && sleep 0.2"
-
     step "Ana sends a dozen tasks: for one of two bots each, for a machine that isn't there, and one that waits
    for none."
     send "build linux-rel" 600 true rack rack-1 "for at in 1 2 3 4 5; do echo [\$at/5] CXX obj/file_\$at.o; sleep 0.2; done; mkdir out; echo built >out/log.txt" ',"outputs":["out/log.txt"]'
     send "unit tests, shard 1 of 2" 600 true rack rack-1 "echo 2 of 87 tests failed; exit 3"
-    send "unit tests, shard 2 of 2" 600 true rack rack-1 "$begins; echo waiting for a lock; while $goes_on; do :; done" ',"execution_timeout_secs":2,"grace_period_secs":1'
-    send "nightly build" 600 true rack rack-1 "$begins; at=0; while $goes_on; do at=\$((at + 1)); echo [\$at] CXX obj/file_\$at.o; sleep 0.8; done"
-    send "fuzz the decoder" 600 true rack rack-2 "$begins; while $goes_on; do echo round; done" ',"grace_period_secs":1'
+    send "unit tests, shard 2 of 2" 600 true rack rack-1 "echo waiting for a lock; sleep 60" ',"execution_timeout_secs":2,"grace_period_secs":1'
+    send "nightly build" 600 true rack rack-1 "at=0; while :; do at=\$((at + 1)); echo [\$at] CXX obj/file_\$at.o; sleep 1; done"
+    send "fuzz the decoder" 600 true rack rack-2 "while :; do echo round; sleep 0.2; done" ',"grace_period_secs":1'
     fuzz=$task
-    send "flash the firmware" 600 true rack rack-2 "$begins; echo writing; while [ ! -e $folder/gone ] && $goes_on; do :; done"
+    send "flash the firmware" 600 true rack rack-2 "echo writing; while [ ! -e $folder/gone ]; do sleep 0.2; done"
     send "compile the toolchain" 600 true rack rack-2 "echo compiled" ',"idempotent":true'
     toolchain=$task
     send "tests on a phone" 600 false os Android true
@@ -307,6 +299,8 @@ done
     stop "--page needs nginx, which asks for a password and serves the page; in Debian: apt-get install nginx"
 [ -r examples/lab.toml ] || stop "there are no settings examples/lab.toml"
 folder=$(mktemp -d) || stop "no folder can be made for its files"
+# What bots and the commands of their runs have in their environment.
+mark=SWARM_LAB=$folder
 
 # ---- the program
 
