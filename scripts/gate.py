@@ -5,17 +5,18 @@ Usage: scripts/gate.py [--jobs N] [--output FILE] [--work FOLDER] [CRATE ..]
        scripts/gate.py --whole [--output FILE] [--work FOLDER]
 
 For each crate, lowest first, it runs `rt ci CRATE` twice, with what the crates below it need kept
-from their own turn: without wrong bodies, for the crate's proof and that of its tests, and then with
-its own wrong bodies (must-fail/), for the proof that they begin with and the try of each. With
---jobs N it measures N crates at a time. With names it measures those alone, and the rows of the
-others stay as they are.
+from their own turn: without wrong bodies, for the crate's proof and that of its tests, and then, where
+it has wrong bodies in must-fail/, with these, for the proof that they begin with and the try of each.
+With --jobs N it measures N crates at a time. With names it measures those alone, and the rows of the
+others stay as they are, as does that of the wrong bodies which `scripts/wrong_bodies` tries.
 
 Minutes are those of a processor, user and system, of every run of the kit's `rattle` with all that
 it started; memory is the most that one process of them held. Each has one job.
 
 With --whole it runs `.ci/run` over the whole repository from nothing once, with the processors and
-memory that rt chooses, and writes the rows of all crates from that run, and the minutes of the clock
-of `rt ci` and of the whole. Whoever wants times that compare has nothing else run on the machine.
+memory that rt chooses, and writes the rows of all crates from that run, the row `wrong bodies` with the
+minutes of `scripts/wrong_bodies`, and the minutes of the clock of `rt ci`, of the wrong bodies and of
+the whole. Whoever wants times that compare has nothing else run on the machine.
 
 It works on a copy of the tree in the folder --work, by default swarm-gate among the temporary files,
 with a store of kept proofs of its own, so that nothing counts that was proved before, and nothing is
@@ -42,6 +43,8 @@ BEGIN = "<!-- The table that scripts/gate.py writes -->"
 END = "<!-- The end of the table -->"
 HEAD = "| Crate | Lines | Functions | Proof, minutes | Tests, minutes | Edits, minutes | Memory, GB |"
 WHOLE = "<!-- A whole run -->"
+# The row of what scripts/wrong_bodies takes.
+BODIES = "wrong bodies"
 # Takes the place of the kit's rattle: it runs that, and writes what the run took.
 COUNTED = """#!{python} -IS
 import json, os, sys, time
@@ -170,13 +173,27 @@ def calls_in(path):
     return [json.loads(it) for it in text_of(path).splitlines()]
 
 
+def kind_of(call):
+    """What a call of rattle is for, by the folder that it is run in."""
+    folder = os.path.basename(call["folder"])
+    if folder.startswith("wrong-bodies-"):
+        return "bodies"
+    return "edits" if folder.startswith("rt-edit") else "tests" if call["is_test"] else "proof"
+
+
+def row_of_bodies(calls):
+    """The cells of what scripts/wrong_bodies takes."""
+    kept = [it for it in calls if kind_of(it) == "bodies"]
+    most = max([it["memory"] for it in kept], default=0)
+    return ["", "", "", "", f"{sum(it['processor'] for it in kept) / 60:.1f}", f"{most / 1e9:.1f}"]
+
+
 def row_of(crate, calls, log):
     """The cells of a crate by its calls of rattle: lines, functions, minutes of the proof, the tests and the edits, and memory."""
     kinds = collections.defaultdict(list)
     for it in calls:
-        if it["crate"] == crate.name:
-            is_edit = os.path.basename(it["folder"]).startswith("rt-edit")
-            kinds["edits" if is_edit else "tests" if it["is_test"] else "proof"].append(it)
+        if it["crate"] == crate.name and kind_of(it) != "bodies":
+            kinds[kind_of(it)].append(it)
     minutes = [f"{sum(it['processor'] for it in kinds[kind]) / 60:.1f}" for kind in ("proof", "tests", "edits")]
     said = re.search(rf"^== {crate.name}\n(?:.*\n)*?logic=proved functions=(\d+)", log, re.M)
     most = max([it["memory"] for found in kinds.values() for it in found], default=0)
@@ -285,11 +302,12 @@ class Page:
         return {it[0].strip("`"): (it[1:] + [""] * 6)[:6] for it in cells}
 
     def put(self, crates, name=None, row=None):
-        """Writes the table, with this row for the crate of that name, and rows for the crates of crates.txt alone."""
+        """Writes the table, with this row for the crate of that name, or for the wrong bodies, and rows for the crates of crates.txt and these alone."""
         rows = self.rows()
         if name:
             rows[name] = row
         shown = {it.name: rows.get(it.name) or [str(it.lines), "", "", "", "", ""] for it in crates}
+        shown[BODIES] = rows.get(BODIES) or [""] * 6
         number = lambda cell: float(cell) if re.fullmatch(r"[\d.]+", cell) else 0.0
         sums = [sum(number(row[at]) for row in shown.values()) for at in range(6)]
         most = max(shown, key=lambda it: number(shown[it][5]))
@@ -297,7 +315,7 @@ class Page:
         lines += [f"| `{it}` | {' | '.join(row)} |" for it, row in shown.items()]
         lines += [f"| all | {sums[0]:.0f} | {sums[1]:.0f} | {sums[2]:.0f} | {sums[3]:.0f} | {sums[4]:.0f} | |"]
         lines += ["", f"Minutes of a processor in all: {sum(sums[2:5]):.0f}. The greatest memory of one step: {shown[most][5] or 0} GB (`{most}`)."]
-        lacking = [f"`{it}`" for it, row in shown.items() if not row[2]]
+        lacking = [f"`{it}`" for it, row in shown.items() if not row[4 if it == BODIES else 2]]
         lines += ["", f"Not measured yet: {', '.join(lacking)}."] if lacking else []
         before, _, rest = self.text().partition(BEGIN)
         lines = "\n".join(lines)
@@ -325,27 +343,31 @@ def run_whole(work, page):
     rt, calls, tree = make_kit(f"{work}/whole/kit"), f"{work}/whole/calls", f"{work}/whole/tree"
     copy_all(tree)
     env = {it: text for it, text in os.environ.items() if it != "RT_JOBS"}
-    env.update(GATE_CALLS=calls, CI="true", PATH=f"{os.path.dirname(rt)}:{env['PATH']}")
-    began, proved = time.time(), None
+    env.update(GATE_CALLS=calls, CI="true", PATH=f"{os.path.dirname(rt)}:{env['PATH']}", XDG_CACHE_HOME=f"{work}/whole/cache")
+    began, ends = time.time(), []
     with open(f"{calls}.log", "w", encoding="utf-8") as log:
         how = {"stdin": subprocess.DEVNULL, "stdout": log, "stderr": subprocess.STDOUT}
         run = subprocess.Popen(["bash", ".ci/run"], cwd=tree, env=env, **how)
     while run.poll() is None:
-        if not proved and re.search(r"^\d+ passed, \d+ failed$", text_of(f"{calls}.log"), re.M):
-            proved = time.time()
+        # (rt ci ends with such a line, and so does scripts/wrong_bodies)
+        if len(ends) < min(2, len(re.findall(r"^\d+ passed, \d+ failed$", text_of(f"{calls}.log"), re.M))):
+            ends.append(time.time())
         time.sleep(1)
-    minutes, of_proofs = ((it - began) / 60 for it in (time.time(), proved or time.time()))
+    proved, tried, ended = [*ends, time.time(), time.time()][:2] + [time.time()]
+    minutes, of_proofs, of_bodies = (ended - began) / 60, (proved - began) / 60, (tried - proved) / 60
     print("".join(text_of(f"{calls}.log").splitlines(True)[-30:]), end="")
     if run.returncode:
         return run.returncode
     crates = read_crates(tree)
     for crate in crates:
         page.put(crates, crate.name, row_of(crate, calls_in(calls), text_of(f"{calls}.log")))
-    taken = sum(it["processor"] for it in calls_in(calls)) / 60
+    page.put(crates, BODIES, row_of_bodies(calls_in(calls)))
+    taken = {is_bodies: sum(it["processor"] for it in calls_in(calls) if (kind_of(it) == "bodies") == is_bodies) / 60 for is_bodies in (False, True)}
     memory = int(re.search(r"MemTotal:\s+(\d+)", text_of("/proc/meminfo"))[1]) * 1024 / 1e9
     page.put_whole(
         f"One whole run of `.ci/run` from nothing: {minutes:.0f} minutes of the clock on {len(os.sched_getaffinity(0))} processors "
-        f"with {memory:.0f} GB, {of_proofs:.0f} of them for `rt ci`, which took {taken:.0f} minutes of a processor, {time.strftime('%-d %B %Y')}."
+        f"with {memory:.0f} GB, {of_proofs:.0f} of them for `rt ci`, which took {taken[False]:.0f} minutes of a processor, "
+        f"and {of_bodies:.0f} for `scripts/wrong_bodies`, which took {taken[True]:.0f}, {time.strftime('%-d %B %Y')}."
     )
     shutil.rmtree(f"{work}/whole")
     return 0
