@@ -2,7 +2,7 @@
 """Measures the gate crate by crate, and writes the table of docs/gate-times.md.
 
 Usage: scripts/gate.py [--jobs N] [--output FILE] [--work FOLDER] [CRATE ..]
-       scripts/gate.py --whole [--output FILE] [--work FOLDER]
+       scripts/gate.py --whole [--in-place] [--output FILE] [--work FOLDER]
 
 For each crate, lowest first, it runs `rt ci CRATE` twice, with what the crates below it need kept
 from their own turn: without wrong bodies, for the crate's proof and that of its tests, and then, where
@@ -16,7 +16,10 @@ it started; memory is the most that one process of them held. Each has one job.
 With --whole it runs `.ci/run` over the whole repository from nothing once, with the processors and
 memory that rt chooses, and writes the rows of all crates from that run, the row `wrong bodies` with the
 minutes of `scripts/wrong_bodies`, and the minutes of the clock of `rt ci`, of the wrong bodies and of
-the whole. Whoever wants times that compare has nothing else run on the machine.
+the whole. Whoever wants times that compare has nothing else run on the machine. With --in-place the run is
+that of this repository, by the machine's own kit, so that what it proves is kept for the next one: on a
+machine that has kept nothing. Minutes and memory are then read off the running processes five times a
+second, and what a process takes after the last reading is lacking.
 
 It works on a copy of the tree in the folder --work, by default swarm-gate among the temporary files,
 with a store of kept proofs of its own, so that nothing counts that was proved before, and nothing is
@@ -35,6 +38,7 @@ import shutil
 import subprocess
 import sys
 import tempfile
+import threading
 import time
 
 ROOT = os.path.dirname(os.path.dirname(os.path.abspath(__file__)))
@@ -167,6 +171,53 @@ def run_ci(rt, tree, calls, words=(), jobs=None):
     with open(f"{calls}.log", "w", encoding="utf-8") as log:
         how = {"stdin": subprocess.DEVNULL, "stdout": log, "stderr": subprocess.STDOUT}
         return subprocess.Popen([sys.executable, rt, "ci", *words], cwd=tree, env=env, **how)
+
+
+class Watcher(threading.Thread):
+    """Reads what the runs of rattle take that have this file in GATE_CALLS, and writes it there as the kit of make_kit does."""
+
+    def __init__(self, path):
+        super().__init__(daemon=True)
+        self.path, self.running, self.ended = path, {}, threading.Event()
+
+    def look(self):
+        """Reads each run of rattle that is there, and writes those that have gone."""
+        found = {}
+        for pid in filter(str.isdigit, os.listdir("/proc")):
+            try:
+                words = text_of(f"/proc/{pid}/cmdline").split("\0")
+                if os.path.basename(words[0]) != "rattle" or "--crate-name" not in words:
+                    continue
+                # (other runs on the machine don't count)
+                if f"GATE_CALLS={self.path}" not in text_of(f"/proc/{pid}/environ").split("\0"):
+                    continue
+                cells = text_of(f"/proc/{pid}/stat").rpartition(")")[2].split()
+                memory = re.search(r"VmHWM:\s+(\d+)", text_of(f"/proc/{pid}/status"))
+                call = dict(crate=words[words.index("--crate-name") + 1], is_test="--test" in words, folder=os.readlink(f"/proc/{pid}/cwd"))
+                # (user and system of itself and of what it has waited for; the clock at which it began)
+                call.update(processor=sum(map(int, cells[11:15])) / os.sysconf("SC_CLK_TCK"), memory=1024 * int(memory[1]) if memory else 0)
+                found[pid, cells[19]] = cells[1], call
+            except (OSError, IndexError):
+                # (it ended meanwhile)
+                continue
+        # (what a run has forked is counted with it once it has ended)
+        pids = {pid for pid, _ in found}
+        found = {key: call for key, (parent, call) in found.items() if parent not in pids}
+        gone = [call for key, call in self.running.items() if key not in found]
+        for key, call in found.items():
+            call["memory"] = max(call["memory"], self.running.get(key, call)["memory"])
+        self.running = found
+        with open(self.path, "a", encoding="utf-8") as log:
+            log.writelines(json.dumps(it) + "\n" for it in gone)
+
+    def run(self):
+        while not self.ended.wait(0.2):
+            self.look()
+
+    def end(self):
+        self.ended.set()
+        self.join()
+        self.look()
 
 
 def calls_in(path):
@@ -338,12 +389,19 @@ def copy_all(to):
         shutil.copy2(f"{ROOT}/{name}", f"{to}/{name}")
 
 
-def run_whole(work, page):
+def run_whole(work, page, in_place):
     shutil.rmtree(f"{work}/whole", ignore_errors=True)
-    rt, calls, tree = make_kit(f"{work}/whole/kit"), f"{work}/whole/calls", f"{work}/whole/tree"
-    copy_all(tree)
+    os.makedirs(f"{work}/whole")
+    calls, tree, watcher = f"{work}/whole/calls", ROOT, None
     env = {it: text for it, text in os.environ.items() if it != "RT_JOBS"}
-    env.update(GATE_CALLS=calls, CI="true", PATH=f"{os.path.dirname(rt)}:{env['PATH']}", XDG_CACHE_HOME=f"{work}/whole/cache")
+    env.update(CI="true", GATE_CALLS=calls)
+    if in_place:
+        watcher = Watcher(calls)
+        watcher.start()
+    else:
+        rt, tree = make_kit(f"{work}/whole/kit"), f"{work}/whole/tree"
+        copy_all(tree)
+        env.update(PATH=f"{os.path.dirname(rt)}:{env['PATH']}", XDG_CACHE_HOME=f"{work}/whole/cache")
     began, ends = time.time(), []
     with open(f"{calls}.log", "w", encoding="utf-8") as log:
         how = {"stdin": subprocess.DEVNULL, "stdout": log, "stderr": subprocess.STDOUT}
@@ -354,6 +412,8 @@ def run_whole(work, page):
             ends.append(time.time())
         time.sleep(1)
     proved, tried, ended = [*ends, time.time(), time.time()][:2] + [time.time()]
+    if watcher:
+        watcher.end()
     minutes, of_proofs, of_bodies = (ended - began) / 60, (proved - began) / 60, (tried - proved) / 60
     print("".join(text_of(f"{calls}.log").splitlines(True)[-30:]), end="")
     if run.returncode:
@@ -379,8 +439,11 @@ def main():
     parser.add_argument("--output", default=f"{ROOT}/docs/gate-times.md", metavar="FILE")
     parser.add_argument("--work", default=f"{tempfile.gettempdir()}/swarm-gate", metavar="FOLDER")
     parser.add_argument("--whole", action="store_true")
+    parser.add_argument("--in-place", action="store_true")
     parser.add_argument("crates", nargs="*", metavar="CRATE")
     given = parser.parse_args()
+    if given.in_place and not given.whole:
+        parser.error("--in-place goes with --whole")
     page, work = Page(given.output), os.path.abspath(given.work)
     os.makedirs(work, exist_ok=True)
     held = os.open(work, os.O_RDONLY)
@@ -389,7 +452,7 @@ def main():
     except BlockingIOError:
         sys.exit(f"gate.py: another measure works in {work}")
     if given.whole:
-        return run_whole(work, page)
+        return run_whole(work, page, given.in_place)
     copy_tree(ROOT, f"{work}/source")
     crates = read_crates(f"{work}/source")
     unknown = {*given.crates} - {it.name for it in crates}
