@@ -2,9 +2,7 @@
 use Rattle.std.proofs.Common.{◌≡◌, ℕ, ◌≤◌, Bool, true, false, nat_le, Decides, MatchBool, List, ◌++◌, map, All, sym, Option, IfSome}
 use Rattle.std.specs.List.{AllPass, list_all, filter_map}
 use Rattle.std.proofs.lemmas.List.Elements.{All-append, All-map}
-use Rattle.blob_rows.specs.declared.blob_row.BlobRow.{BlobRow}
-use Rattle.swarm_model.specs.declared.pool_state.PoolState.{PoolState}
-use Rattle.swarm_model.specs.declared.deadline.Deadline.{Deadline}
+use Rattle.base_checks.specs.Types.{BlobRow, PoolState, Deadline}
 use Rattle.swarm_model.specs.Deadlines.{slice_end, silence_end, bot_end, blob_end}
 use Rattle.pool_laws.proofs.Lists.{each, all, among_left, among_right, among_map, from_filter_map, all_filter_map}
 use Rattle.base_checks.specs.Deadlines.{is_ahead, slice_is_ahead, silence_is_ahead, death_is_ahead, blob_is_ahead, AreAhead}

@@ -12,10 +12,7 @@ use Rattle.std.proofs.lemmas.List.Concat.{flat_map_single}
 use Rattle.std.proofs.lemmas.Option.{same_Some}
 use Rattle.dimensions.specs.Order.{text_cmp, pair_cmp}
 use Rattle.dimensions.proofs.Orders.{texts-tied, then-first, then-other, pair_total}
-use Rattle.swarm_model.specs.declared.attempt.Attempt.{Attempt}
-use Rattle.swarm_model.specs.declared.retried.Retried.{Retried}
-use Rattle.swarm_model.specs.declared.task_row.TaskRow.{TaskRow}
-use Rattle.swarm_model.specs.declared.bot_row.BotRow.{BotRow}
+use Rattle.base_checks.specs.Types.{Attempt, Retried, TaskRow, BotRow}
 use Rattle.swarm_model.specs.Numbers.{AreNumbered}
 use Rattle.swarm_model.specs.Effects.{no_of_task, no_of_bot}
 use Rattle.swarm_model.specs.Soundness.{IsRightTry, HasKey, key_of, claim_key, lost_key, sent_key, AreClaimedApart, AreSentApart, AreNamedApart}

@@ -7,15 +7,9 @@ use Rattle.std.proofs.lemmas.Bool.{and_parts}
 use Rattle.std.proofs.lemmas.Bool.Decides.{Decides-eqb}
 use Rattle.std.proofs.lemmas.List.Elements.{All-weaker}
 use Rattle.dimensions.specs.Alike.{same}
-use Rattle.blob_rows.specs.declared.blob_row.BlobRow.{BlobRow}
+use Rattle.base_checks.specs.Types.{BlobRow, Running, Attempt, Retried, TaskRow, BotRow, PoolState}
 use Rattle.blob_rows.specs.BlobRows.{units_of}
 use Rattle.task_props.specs.Checked.{is_checked, pool_of_task}
-use Rattle.swarm_model.specs.declared.task_state.TaskState.TheVariants.{Running}
-use Rattle.swarm_model.specs.declared.attempt.Attempt.{Attempt}
-use Rattle.swarm_model.specs.declared.retried.Retried.{Retried}
-use Rattle.swarm_model.specs.declared.task_row.TaskRow.{TaskRow}
-use Rattle.swarm_model.specs.declared.bot_row.BotRow.{BotRow}
-use Rattle.swarm_model.specs.declared.pool_state.PoolState.{PoolState}
 use Rattle.swarm_model.specs.declared.request.Request.TheVariants as ask
 use Rattle.swarm_model.specs.Words.{is_between}
 use Rattle.swarm_model.specs.Fits.{fits, is_blob_size}

@@ -6,12 +6,8 @@ use Rattle.std.specs.Option.{option_map_or}
 use Rattle.std.proofs.lemmas.Bool.{leb-true, and_parts}
 use Rattle.std.proofs.lemmas.Bool.Decides.{Decides-eqb, Decides-not}
 use Rattle.std.proofs.lemmas.List.Elements.{All-weaker}
-use Rattle.task_props.specs.declared.slice.Slice.{Slice}
-use Rattle.swarm_model.specs.declared.attempt.Attempt.{Attempt}
-use Rattle.swarm_model.specs.declared.attempt.Chunk.{Chunk}
+use Rattle.base_checks.specs.Types.{Slice, Attempt, Chunk, Retried, PoolState}
 use Rattle.swarm_model.specs.declared.attempt.Last.{Last}
-use Rattle.swarm_model.specs.declared.retried.Retried.{Retried}
-use Rattle.swarm_model.specs.declared.pool_state.PoolState.{PoolState}
 use Rattle.swarm_model.specs.Words.{is_between}
 use Rattle.swarm_model.specs.Fits.{fits_chunk, fits_last, is_name}
 use Rattle.swarm_model.specs.Output.{AreInRow}

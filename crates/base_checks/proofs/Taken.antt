@@ -5,9 +5,7 @@ use Rattle.std.specs.List.{AllPass}
 use Rattle.std.specs.Option.{option_map_or}
 use Rattle.std.proofs.lemmas.List.Elements.{All-weaker}
 use Rattle.swarm_model.specs.declared.task_state.TaskState.{TaskState}
-use Rattle.swarm_model.specs.declared.task_state.TaskState.TheVariants.{Completed}
-use Rattle.swarm_model.specs.declared.task_row.TaskRow.{TaskRow}
-use Rattle.swarm_model.specs.declared.pool_state.PoolState.{PoolState}
+use Rattle.base_checks.specs.Types.{Completed, TaskRow, PoolState}
 use Rattle.swarm_model.specs.Finding.{is_state, has_state, task_of}
 use Rattle.swarm_model.specs.Reuse.{ended_well}
 use Rattle.swarm_model.specs.BaseRules.{HasOutcome, HaveOutcomes}

@@ -4,9 +4,8 @@ use Rattle.std.specs.Prelude.{max, ◌+◌, ◌/◌}
 use Rattle.std.proofs.lemmas.Bool.{ne_eqb}
 use Rattle.std.proofs.lemmas.List.Elements.{All-weaker, All-map}
 use Rattle.dimensions.proofs.Counting.{count-pass, count-skip}
-use Rattle.blob_rows.specs.declared.blob_row.BlobRow.{BlobRow}
+use Rattle.base_checks.specs.Types.{BlobRow, PoolState}
 use Rattle.blob_rows.specs.BlobRows.{is_blob, extent_of_row}
-use Rattle.swarm_model.specs.declared.pool_state.PoolState.{PoolState}
 use Rattle.swarm_model.specs.Soundness.{IsSound, IsSoundTask, IsSoundBot, IsSoundBlob}
 use Rattle.swarm_model.specs.BaseRules.{IsBase, AreBaseRows, HasWhatIsUsed}
 use Rattle.pool_laws.proofs.Lists.{Among, here, later, each}

@@ -2,8 +2,7 @@
 use Rattle.std.specs.Prelude.{◌==◌, ℕ, Bool, true, false, List, Option, All}
 use Rattle.std.specs.List.{find}
 use Rattle.std.specs.Option.{option_map_or, option_and_then}
-use Rattle.swarm_model.specs.declared.task_row.TaskRow.{TaskRow}
-use Rattle.swarm_model.specs.declared.bot_row.BotRow.{BotRow}
+use Rattle.base_checks.specs.Types.{TaskRow, BotRow}
 use Rattle.swarm_model.specs.Finding.{is_task, is_bot}
 use Rattle.swarm_model.specs.Soundness.{runner, Agree}
 

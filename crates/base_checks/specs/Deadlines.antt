@@ -1,11 +1,7 @@
 -- Deadlines that have not come before a moment, row by row.
 use Rattle.std.specs.Prelude.{ℕ, Bool, true, ◌≤◌, nat_le, List, Option, All}
 use Rattle.std.specs.Option.{option_map_or, option_and_then}
-use Rattle.blob_rows.specs.declared.blob_row.BlobRow.{BlobRow}
-use Rattle.swarm_model.specs.declared.task_row.TaskRow.{TaskRow}
-use Rattle.swarm_model.specs.declared.bot_row.BotRow.{BotRow}
-use Rattle.swarm_model.specs.declared.pool_state.PoolState.{PoolState}
-use Rattle.swarm_model.specs.declared.deadline.Deadline.{Deadline}
+use Rattle.base_checks.specs.Types.{BlobRow, TaskRow, BotRow, PoolState, Deadline}
 use Rattle.swarm_model.specs.Deadlines.{slice_end, blob_end, deadlines}
 use Rattle.row_changes.specs.Bots.{silence_of, death_of}
 use Rattle.base_checks.specs.Agreeing.{numbered_bot}

@@ -1,3 +1,4 @@
+pub mod Types
 pub mod Keys
 pub mod Rows
 pub mod Agreeing

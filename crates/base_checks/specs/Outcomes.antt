@@ -1,8 +1,7 @@
 -- Tasks that took the outcomes of others.
 use Rattle.std.specs.Prelude.{ℕ, Bool, true, false, ◌&&◌, is_none, List}
 use Rattle.std.specs.Option.{option_map_or}
-use Rattle.swarm_model.specs.declared.task_state.TaskState.TheVariants.{Completed}
-use Rattle.swarm_model.specs.declared.task_row.TaskRow.{TaskRow}
+use Rattle.base_checks.specs.Types.{Completed, TaskRow}
 use Rattle.swarm_model.specs.Finding.{has_state}
 use Rattle.swarm_model.specs.Reuse.{ended_well}
 use Rattle.base_checks.specs.Agreeing.{numbered_task}

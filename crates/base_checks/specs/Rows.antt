@@ -4,11 +4,9 @@ use Rattle.std.specs.Option.{option_to_list}
 use Rattle.std.specs.Ordering.{nat_cmp, ordering_then}
 use Rattle.std.specs.declared.cmp.Ordering.{Ordering}
 use Rattle.dimensions.specs.Order.{text_cmp}
-use Rattle.blob_rows.specs.declared.blob_row.BlobRow.{BlobRow}
+use Rattle.base_checks.specs.Types.{BlobRow, TaskRow, BotRow}
 use Rattle.blob_rows.specs.BlobRows.{has_digest}
 use Rattle.base_checks.specs.Keys.{IsFull}
-use Rattle.swarm_model.specs.declared.task_row.TaskRow.{TaskRow}
-use Rattle.swarm_model.specs.declared.bot_row.BotRow.{BotRow}
 use Rattle.swarm_model.specs.Soundness.{IsRightTry, claim_key, lost_key, sent_key, AreClaimedApart, AreSentApart, AreNamedApart}
 
 -- the one was created no later than the other

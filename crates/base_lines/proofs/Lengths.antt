@@ -3,8 +3,7 @@ use Rattle.std.proofs.Common.{◌≡◌, ℕ, ◌+◌, ◌<◌, ◌≤◌, ◌^�
 use Rattle.std.proofs.lemmas.Bool.{lt-ltb}
 use Rattle.std.proofs.lemmas.List.{take_all}
 use Rattle.std.proofs.lemmas.List.Sums.{sum_by-cons}
-use Rattle.swarm_model.specs.declared.attempt.Attempt.{Attempt}
-use Rattle.swarm_model.specs.declared.attempt.Chunk.{Chunk}
+use Rattle.base_lines.specs.Types.{Attempt, Chunk}
 use Rattle.swarm_model.specs.Output.{AreInRow}
 use Rattle.swarm_model.specs.Soundness.{IsSoundOutput}
 use Rattle.line_parts.specs.Finding.{below}

@@ -1,8 +1,7 @@
 -- The numbers of a base's blobs rise from 1.
 use Rattle.std.proofs.Common.{◌≡◌, ℕ, suc, ◌<◌, ◌≤◌, List, [], ◌∷◌, All, AllPairs, arith}
 use Rattle.std.proofs.lemmas.List.Elements.{All-head, All-weaker}
-use Rattle.blob_rows.specs.declared.blob_row.BlobRow.{BlobRow}
-use Rattle.swarm_model.specs.declared.pool_state.PoolState.{PoolState}
+use Rattle.base_lines.specs.Types.{BlobRow, PoolState}
 use Rattle.swarm_model.specs.BaseRules.{AreBaseRows}
 use Rattle.base_lines.specs.Reading.{RiseFrom}
 

@@ -4,16 +4,9 @@ use Rattle.std.specs.Prelude.{unwrap_or, codes}
 use Rattle.serde_json.specs.Data.{string, depth}
 use Rattle.serde_json.specs.Find.{as_str, as_null}
 use Rattle.serde_json.specs.Written.{has_float}
-use Rattle.dimensions.specs.declared.text.Text.{Text}
+use Rattle.base_lines.specs.Types.{Text, BlobRow, Attempt, Chunk, Last, Retried, TaskRow, BotRow}
 use Rattle.task_props.specs.declared.new_task.NewTask.{NewTask}
-use Rattle.blob_rows.specs.declared.blob_row.BlobRow.{BlobRow}
 use Rattle.blob_rows.specs.Extents.{extent_at}
-use Rattle.swarm_model.specs.declared.attempt.Attempt.{Attempt}
-use Rattle.swarm_model.specs.declared.attempt.Chunk.{Chunk}
-use Rattle.swarm_model.specs.declared.attempt.Last.{Last}
-use Rattle.swarm_model.specs.declared.retried.Retried.{Retried}
-use Rattle.swarm_model.specs.declared.task_row.TaskRow.{TaskRow}
-use Rattle.swarm_model.specs.declared.bot_row.BotRow.{BotRow}
 use Rattle.swarm_model.specs.Effects.{idle_bot}
 use Rattle.line_parts.specs.Finding.{field, whole, below}
 use Rattle.line_parts.specs.Lists.{or_null, null_or, HoldsOption, list_reads_back, list_has_no_float, list_is_shallow, option_reads_back, option_has_no_float, option_is_shallow}

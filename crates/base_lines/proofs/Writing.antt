@@ -3,8 +3,7 @@ use Rattle.std.proofs.Common.{◌≡◌, ℕ, ◌+◌, ◌<◌, ◌≤◌, List,
 use Rattle.std.proofs.lemmas.List.{append-nil, append_assoc, map-append, take_all, take_more}
 use Rattle.std.proofs.lemmas.List.Elements.{All-nil, All-more}
 use Rattle.std.proofs.lemmas.Option.{none-some, slice_get_cases, slice_get_within, get_or_from_slice_get}
-use Rattle.dimensions.specs.declared.text.Text.{Text}
-use Rattle.swarm_model.specs.declared.pool_state.PoolState.{PoolState}
+use Rattle.base_lines.specs.Types.{Text, PoolState}
 use Rattle.base_lines.specs.declared.base_row.BaseRow.{BaseRow}
 use Rattle.base_lines.specs.declared.base_row.BaseRow.TheVariants as row
 use Rattle.base_lines.specs.Lines.{row_line, ReadsBack}

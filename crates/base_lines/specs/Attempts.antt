@@ -3,11 +3,7 @@ use Rattle.std.specs.Prelude.{ℕ, ◌<◌, ◌^◌, Bool, List, Option, Some, c
 use Rattle.std.specs.List.{All}
 use Rattle.serde_json.specs.Data.{Data, string, boolean, object, member, no_members}
 use Rattle.serde_json.specs.Find.{as_str, as_bool}
-use Rattle.dimensions.specs.declared.text.Text.{Text}
-use Rattle.swarm_model.specs.declared.attempt.Attempt.{Attempt}
-use Rattle.swarm_model.specs.declared.attempt.Chunk.{Chunk}
-use Rattle.swarm_model.specs.declared.attempt.Last.{Last}
-use Rattle.swarm_model.specs.declared.retried.Retried.{Retried}
+use Rattle.base_lines.specs.Types.{Text, Attempt, Chunk, Last, Retried}
 use Rattle.line_parts.specs.Finding.{◌>>=◌, field, whole, below}
 use Rattle.line_parts.specs.Lists.{list_data, list_in, or_null, null_or, HoldsOption}
 use Rattle.line_parts.specs.Parts.{word_in, long_in, IsWord, chunk_data, chunk_in, HoldsChunk, last_data, last_in, HoldsLast}

@@ -2,10 +2,7 @@
 use Rattle.std.specs.Prelude.{◌≡◌, ℕ, Bool, false, ◌==◌, List, Option}
 use Rattle.std.specs.List.{find, sum_by}
 use Rattle.std.specs.Option.{option_map, option_map_or}
-use Rattle.swarm_model.specs.declared.attempt.Attempt.{Attempt}
-use Rattle.swarm_model.specs.declared.attempt.Chunk.{Chunk}
-use Rattle.swarm_model.specs.declared.task_row.TaskRow.{TaskRow}
-use Rattle.swarm_model.specs.declared.bot_row.BotRow.{BotRow}
+use Rattle.base_lines.specs.Types.{Attempt, Chunk, TaskRow, BotRow}
 use Rattle.swarm_model.specs.Soundness.{runner}
 
 abbrev pub runs_on : ℕ → TaskRow → Bool

@@ -1,3 +1,4 @@
+pub mod Types
 pub mod Computed
 pub mod Attempts
 pub mod Rows

@@ -2,12 +2,7 @@
 use Rattle.std.specs.Prelude.{◌≡◌, ℕ, ◌+◌, ◌*◌, ◌^◌, ◌<◌, ◌≤◌, ◌==◌, ◌&&◌, nat_lt, Bool, List, [], ◌∷◌, ◌++◌, map, length, Option, Some, None, is_some, is_none, unwrap_or, Result, Ok, Err, if◌then◌else◌, ⊤}
 use Rattle.std.specs.List.{All}
 use Rattle.std.specs.Option.{option_map_or}
-use Rattle.dimensions.specs.declared.text.Text.{Text}
-use Rattle.blob_rows.specs.declared.blob_row.BlobRow.{BlobRow}
-use Rattle.swarm_model.specs.declared.task_row.TaskRow.{TaskRow}
-use Rattle.swarm_model.specs.declared.bot_row.BotRow.{BotRow}
-use Rattle.swarm_model.specs.declared.pool_settings.PoolSettings.{PoolSettings}
-use Rattle.swarm_model.specs.declared.pool_state.PoolState.{PoolState}
+use Rattle.base_lines.specs.Types.{Text, BlobRow, TaskRow, BotRow, PoolSettings, PoolState}
 use Rattle.swarm_model.specs.Numbers.{AreNumbered}
 use Rattle.swarm_model.specs.Effects.{no_of_bot, idle_bot}
 use Rattle.swarm_model.specs.Soundness.{IsSound}

@@ -2,11 +2,9 @@
 use Rattle.std.specs.Prelude.{◌≡◌, ℕ, ◌<◌, ◌^◌, [], List, Option, Some, None, codes, unwrap_or}
 use Rattle.serde_json.specs.Data.{Data, string, boolean, object, Members, member, no_members}
 use Rattle.serde_json.specs.Find.{as_str, as_bool}
-use Rattle.blob_rows.specs.declared.blob_row.BlobRow.{BlobRow}
+use Rattle.base_lines.specs.Types.{BlobRow, TaskRow, BotRow}
 use Rattle.blob_rows.specs.Extents.{extent_at}
 use Rattle.blob_rows.specs.BlobRows.{units_of}
-use Rattle.swarm_model.specs.declared.task_row.TaskRow.{TaskRow}
-use Rattle.swarm_model.specs.declared.bot_row.BotRow.{BotRow}
 use Rattle.line_parts.specs.Finding.{◌>>=◌, field, whole, digest_data, digest_in, IsDigest}
 use Rattle.line_parts.specs.Lists.{list_data, or_null, null_or, HoldsOption}
 use Rattle.line_parts.specs.Parts.{word_in, long_in, IsWord, state_data, state_in, values_data, dims_in}

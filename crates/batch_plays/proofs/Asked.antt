@@ -4,7 +4,7 @@ use Rattle.std.specs.Prelude.{nat_lt, slice_get, option_and_then, if◌then◌el
 use Rattle.std.proofs.Math.Dec.{eqb-suc-zero}
 use Rattle.serde_json.specs.Data.{Data}
 use Rattle.dimensions.specs.Rules.{is_empty}
-use Rattle.task_props.specs.declared.new_task.NewTask.{NewTask}
+use Rattle.batch_plays.specs.Types.{NewTask, PoolSettings, Settings, Asked, WireFault, Parts}
 use Rattle.task_props.specs.declared.prop_fault.PropFault.{PropFault}
 use Rattle.task_props.specs.declared.prop_rule.PropRule.TheVariants.{WrongType}
 use Rattle.task_props.specs.Checked.{pool_of_task}
@@ -13,13 +13,8 @@ use Rattle.json_fields.specs.Readings.{reading, ◌>>=◌}
 use Rattle.task_bodies.specs.Tasks.{task_in}
 use Rattle.refusal_codes.specs.declared.refusal_code.RefusalCode.TheVariants as code
 use Rattle.routes.specs.declared.route.Route.TheVariants as route
-use Rattle.swarm_model.specs.declared.pool_settings.PoolSettings.{PoolSettings}
-use Rattle.swarm_model.specs.declared.pool_settings.Settings.{Settings}
 use Rattle.swarm_model.specs.declared.request.Request.TheVariants as ask
-use Rattle.swarm_wire.specs.declared.asked.Asked.{Asked}
-use Rattle.swarm_wire.specs.declared.asked.WireFault.{WireFault}
 use Rattle.swarm_wire.specs.declared.asked.WireFault.TheVariants as fault
-use Rattle.swarm_wire.specs.declared.parts.Parts.{Parts}
 use Rattle.swarm_wire.specs.Asking.{asked, asked_of, object_in, object_of, new_of, or_bad_field, pool_named}
 use Rattle.swarm_batch.specs.Batches.{BatchValue, body_data, uuid_of}
 use Rattle.swarm_batch.specs.Named.{named, named_in}

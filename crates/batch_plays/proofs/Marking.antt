@@ -4,13 +4,10 @@ use Rattle.std.specs.Prelude.{⊤, nat_lt, if◌then◌else◌}
 use Rattle.std.proofs.lemmas.Bool.{ltb-true, ltb-false}
 use Rattle.std.proofs.lemmas.Option.{same_Some}
 use Rattle.refusal_codes.specs.Codes.{is_transient_code}
-use Rattle.swarm_model.specs.declared.task_state.TaskState.{TaskState}
-use Rattle.swarm_model.specs.declared.reply.Reply.{Reply}
+use Rattle.batch_plays.specs.Types.{TaskState, Reply, Told, Mark}
 use Rattle.swarm_model.specs.declared.reply.Reply.TheVariants as reply
 use Rattle.reply_bodies.specs.Refusals.{code_of}
-use Rattle.server_calls.specs.declared.told.Told.{Told}
 use Rattle.server_calls.specs.declared.told.Told.TheVariants as told
-use Rattle.swarm_batch.specs.declared.mark.Mark.{Mark}
 use Rattle.swarm_batch.specs.declared.mark.Mark.TheVariants as mark
 use Rattle.swarm_batch.specs.Batches.{BatchValue, next_line}
 use Rattle.swarm_batch.specs.Marks.{is_task, is_mark}

@@ -5,15 +5,11 @@ use Rattle.std.specs.Option.{option_map_or}
 use Rattle.std.proofs.lemmas.Bool.{and_parts}
 use Rattle.std.proofs.lemmas.List.{take_more}
 use Rattle.std.proofs.lemmas.Option.{slice_get_read, slice_get_past, none-some}
-use Rattle.swarm_model.specs.declared.entry.Entry.{Entry}
-use Rattle.swarm_model.specs.declared.pool_settings.PoolSettings.{PoolSettings}
-use Rattle.swarm_model.specs.declared.pool_settings.Settings.{Settings}
-use Rattle.swarm_model.specs.declared.request.Request.{Request}
+use Rattle.batch_plays.specs.Types.{Entry, PoolSettings, Settings, Request, Told}
 use Rattle.swarm_model.specs.BaseRules.{IsBase}
 use Rattle.swarm_model.specs.Bases.{Base}
 use Rattle.swarm_model.specs.Fits.{fits}
 use Rattle.swarm_model.specs.MachineState.{MachineState, IsHistory}
-use Rattle.server_calls.specs.declared.told.Told.{Told}
 use Rattle.swarm_batch.specs.Batches.{BatchValue, next_line}
 use Rattle.batch_plays.specs.declared.saved_batch.SavedBatch.{SavedBatch}
 use Rattle.batch_plays.specs.declared.turn.BatchTurn.{BatchTurn}

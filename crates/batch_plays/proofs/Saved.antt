@@ -2,11 +2,10 @@
 use Rattle.std.proofs.Common.{◌≡◌, ◌⊎◌, inl, inr, ℕ, ◌≤◌, Bool, true, false, List, [], ◌∷◌, ◌++◌, length, Option, Some, None, Result, Ok, Err, refl, ap, sym, ◌∙◌, subst, true≢false}
 use Rattle.std.specs.Prelude.{⊤, IsSomeAnd, if◌then◌else◌}
 use Rattle.std.specs.Option.{option_map_or}
-use Rattle.server_calls.specs.declared.told.Told.{Told}
+use Rattle.batch_plays.specs.Types.{Told, Mark}
 use Rattle.swarm_batch.specs.declared.faults.BatchFault.{BatchFault}
 use Rattle.swarm_batch.specs.declared.faults.BatchFault.TheVariants as fault
 use Rattle.swarm_batch.specs.declared.faults.BatchRule.{BatchRule}
-use Rattle.swarm_batch.specs.declared.mark.Mark.{Mark}
 use Rattle.swarm_batch.specs.declared.mark.Marked.{Marked}
 use Rattle.swarm_batch.specs.declared.mark.Marked.TheVariants as marked_as
 use Rattle.swarm_batch.specs.Batches.{BatchValue, AreMarks}

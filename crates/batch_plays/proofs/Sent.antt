@@ -3,10 +3,8 @@ use Rattle.std.proofs.Common.{◌≡◌, ◌⊎◌, inl, inr, ℕ, ◌+◌, ◌-
 use Rattle.std.specs.Prelude.{slice_get}
 use Rattle.std.specs.List.{list_any}
 use Rattle.std.proofs.lemmas.List.{append_cancel_left}
-use Rattle.task_props.specs.declared.new_task.NewTask.{NewTask}
-use Rattle.swarm_model.specs.declared.entry.Entry.{Entry}
+use Rattle.batch_plays.specs.Types.{NewTask, Entry, Settings, Mark}
 use Rattle.swarm_model.specs.declared.entry.EntryKind.TheVariants as kind
-use Rattle.swarm_model.specs.declared.pool_settings.Settings.{Settings}
 use Rattle.swarm_model.specs.BaseRules.{IsBase}
 use Rattle.swarm_model.specs.Bases.{Base}
 use Rattle.swarm_model.specs.History.{IsCaused, IsLegal}
@@ -14,7 +12,6 @@ use Rattle.pool_laws.proofs.Lists.{Among, among_either}
 use Rattle.log_laws.specs.Runs.{HasEntry}
 use Rattle.log_laws.specs.Sent.{sends, sends_as}
 use Rattle.log_laws.proofs.Once.{at_most_once}
-use Rattle.swarm_batch.specs.declared.mark.Mark.{Mark}
 use Rattle.swarm_batch.specs.declared.mark.Mark.TheVariants as mark
 use Rattle.swarm_batch.specs.Batches.{BatchValue, AreMarks, next_line, uuid_of}
 use Rattle.swarm_batch.proofs.Uuids.{uuids_are_apart}

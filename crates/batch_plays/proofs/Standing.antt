@@ -9,12 +9,8 @@ use Rattle.std.proofs.lemmas.List.Folds.{list_any-append}
 use Rattle.std.proofs.lemmas.Option.{same_Some}
 use Rattle.dimensions.specs.Alike.{same}
 use Rattle.dimensions.specs.Rules.{is_empty}
-use Rattle.task_props.specs.declared.new_task.NewTask.{NewTask}
-use Rattle.swarm_model.specs.declared.entry.Entry.{Entry}
-use Rattle.swarm_model.specs.declared.pool_settings.Settings.{Settings}
-use Rattle.swarm_model.specs.declared.reply.Reply.{Reply}
+use Rattle.batch_plays.specs.Types.{NewTask, Entry, Settings, Reply, Request, RefusalCode, Told, Asked, Mark}
 use Rattle.swarm_model.specs.declared.reply.Reply.TheVariants as reply
-use Rattle.swarm_model.specs.declared.request.Request.{Request}
 use Rattle.swarm_model.specs.declared.request.Request.TheVariants as ask
 use Rattle.swarm_model.specs.Bases.{Base}
 use Rattle.swarm_model.specs.History.{IsCaused}
@@ -23,12 +19,8 @@ use Rattle.swarm_model.specs.Soundness.{IsSound}
 use Rattle.pool_laws.proofs.Alike.{is_same}
 use Rattle.pool_laws.proofs.Lists.{Among, among_either}
 use Rattle.log_laws.specs.Sent.{sends_as}
-use Rattle.refusal_codes.specs.declared.refusal_code.RefusalCode.{RefusalCode}
-use Rattle.server_calls.specs.declared.told.Told.{Told}
 use Rattle.server_calls.specs.declared.told.Told.TheVariants as told
-use Rattle.swarm_wire.specs.declared.asked.Asked.{Asked}
 use Rattle.swarm_history.specs.Calls.{first_call}
-use Rattle.swarm_batch.specs.declared.mark.Mark.{Mark}
 use Rattle.swarm_batch.specs.declared.mark.Mark.TheVariants as mark
 use Rattle.swarm_batch.specs.Batches.{BatchValue, AreMarks, next_line, uuid_of}
 use Rattle.swarm_batch.specs.Marks.{is_mark, progress_text}

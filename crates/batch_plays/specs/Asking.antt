@@ -1,21 +1,15 @@
 -- What the body of a line asks of the pool, or the refusal that comes before any pool is asked.
 use Rattle.std.specs.Prelude.{ℕ, ⊤, Bool, false, nat_lt, List, [], length, Option, slice_get, Result, Ok, Err, if◌then◌else◌}
 use Rattle.std.specs.Option.{option_map_or}
-use Rattle.refusal_codes.specs.declared.refusal_code.RefusalCode.{RefusalCode}
+use Rattle.batch_plays.specs.Types.{RefusalCode, Settings, Reply, Told, Asked, WireFault, Parts}
 use Rattle.refusal_codes.specs.declared.refusal_code.RefusalCode.TheVariants as code
 use Rattle.routes.specs.declared.route.Route.TheVariants as route
 use Rattle.swarm_model.specs.declared.permission.Permission.TheVariants.{CreateTask}
-use Rattle.swarm_model.specs.declared.pool_settings.Settings.{Settings}
-use Rattle.swarm_model.specs.declared.reply.Reply.{Reply}
 use Rattle.swarm_model.specs.declared.reply.Reply.TheVariants as reply
 use Rattle.swarm_model.specs.Settings.{permits}
 use Rattle.reply_bodies.specs.Refusals.{code_of}
-use Rattle.server_calls.specs.declared.told.Told.{Told}
 use Rattle.server_calls.specs.declared.told.Told.TheVariants as told
-use Rattle.swarm_wire.specs.declared.asked.Asked.{Asked}
-use Rattle.swarm_wire.specs.declared.asked.WireFault.{WireFault}
 use Rattle.swarm_wire.specs.declared.asked.WireFault.TheVariants as fault
-use Rattle.swarm_wire.specs.declared.parts.Parts.{Parts}
 use Rattle.swarm_wire.specs.Asking.{asked_of, FitsPool, CarriesBytes}
 use Rattle.batch_plays.specs.declared.asking.Asking.{Asking}
 use Rattle.batch_plays.specs.declared.asking.Asking.TheVariants as asking

@@ -1,3 +1,4 @@
+pub mod Types
 pub mod Asking
 pub mod Saving
 pub mod World

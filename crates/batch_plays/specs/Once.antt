@@ -2,11 +2,8 @@
 use Rattle.std.specs.Prelude.{◌≡◌, ℕ, ◌-◌, ◌≤◌, List, [], ◌++◌, length, slice_get, Option, Some, None, Ok}
 use Rattle.std.specs.List.{count_by}
 use Rattle.serde_json.specs.Data.{Data}
-use Rattle.task_props.specs.declared.new_task.NewTask.{NewTask}
-use Rattle.swarm_model.specs.declared.entry.Entry.{Entry}
+use Rattle.batch_plays.specs.Types.{NewTask, Entry, Settings, TaskState}
 use Rattle.swarm_model.specs.declared.entry.EntryKind.TheVariants as kind
-use Rattle.swarm_model.specs.declared.pool_settings.Settings.{Settings}
-use Rattle.swarm_model.specs.declared.task_state.TaskState.{TaskState}
 use Rattle.swarm_model.specs.BaseRules.{IsBase}
 use Rattle.swarm_model.specs.Bases.{Base}
 use Rattle.swarm_model.specs.History.{IsLegal}

@@ -1,8 +1,7 @@
 -- A batch with what is saved of it.
 use Rattle.std.specs.Prelude.{◌≡◌, ◌⊎◌, ℕ, ◌≤◌, Bool, true, false, List, [], ◌∷◌, ◌++◌, length, Option, Some, None, Ok, if◌then◌else◌}
 use Rattle.std.specs.Option.{option_map_or}
-use Rattle.server_calls.specs.declared.told.Told.{Told}
-use Rattle.swarm_batch.specs.declared.mark.Mark.{Mark}
+use Rattle.batch_plays.specs.Types.{Told, Mark}
 use Rattle.swarm_batch.specs.Batches.{BatchValue, AreMarks}
 use Rattle.swarm_batch.specs.Marks.{progress_text}
 use Rattle.swarm_batch.specs.Reopened.{IsReadAgain}

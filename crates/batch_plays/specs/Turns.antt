@@ -6,18 +6,14 @@ use Rattle.std.specs.Option.{option_map_or}
 use Rattle.sha2.specs.Sha256.{sha256}
 use Rattle.dimensions.specs.Alike.{same}
 use Rattle.json_fields.specs.Readings.{reading}
-use Rattle.swarm_model.specs.declared.entry.Entry.{Entry}
-use Rattle.swarm_model.specs.declared.pool_settings.Settings.{Settings}
-use Rattle.swarm_model.specs.declared.reply.Reply.{Reply}
+use Rattle.batch_plays.specs.Types.{Entry, Settings, Reply, Request, Told}
 use Rattle.swarm_model.specs.declared.reply.Reply.TheVariants as reply
-use Rattle.swarm_model.specs.declared.request.Request.{Request}
 use Rattle.swarm_model.specs.declared.request.Request.TheVariants as ask
 use Rattle.swarm_model.specs.declared.rule.Rule.TheVariants as rule
 use Rattle.swarm_model.specs.Bases.{Base}
 use Rattle.swarm_model.specs.Entries.{is_deadline}
 use Rattle.swarm_model.specs.Fits.{fits}
 use Rattle.swarm_model.specs.Points.{Call}
-use Rattle.server_calls.specs.declared.told.Told.{Told}
 use Rattle.server_calls.specs.declared.told.Told.TheVariants as told_as
 use Rattle.swarm_history.specs.Calls.{first_call}
 use Rattle.swarm_history.specs.Settling.{IsPointAlone, IsOwnStop}

@@ -2,8 +2,7 @@
 use Rattle.std.specs.Prelude.{◌≡◌, List, [], ◌∷◌}
 use Rattle.swarm_batch.specs.Batches.{BatchValue}
 use Rattle.swarm_batch.specs.Marks.{progress_text}
-use Rattle.swarm_model.specs.declared.entry.Entry.{Entry}
-use Rattle.swarm_model.specs.declared.pool_settings.Settings.{Settings}
+use Rattle.batch_plays.specs.Types.{Entry, Settings}
 use Rattle.swarm_model.specs.Bases.{Base}
 use Rattle.swarm_model.specs.MachineState.{MachineState}
 use Rattle.pool_loading.specs.Records.{AreFilled}

@@ -6,15 +6,11 @@ use Rattle.std.proofs.lemmas.List.{length-map}
 use Rattle.std.proofs.lemmas.List.Elements.{All-nil, All-same, All-map, All-from_recursion}
 use Rattle.sw_base.specs.Acceptors.{AcceptorState}
 use Rattle.sw_base.specs.Listeners.{ListenerState, Gives}
-use Rattle.swarm_model.specs.declared.entry.Entry.{Entry}
-use Rattle.swarm_model.specs.declared.pool_settings.PoolSettings.{PoolSettings}
-use Rattle.swarm_model.specs.declared.pool_settings.Settings.{Settings}
+use Rattle.board_workers.specs.Types.{Entry, PoolSettings, Settings, PoolView, WorkStop}
 use Rattle.pool_doors.specs.Doors.{DoorState, Logs}
 use Rattle.turnstile.specs.Numbers.{times, own}
-use Rattle.shared_doors.specs.declared.view.PoolView.{PoolView}
 use Rattle.shared_doors.specs.Joined.{by, IsAloneView}
 use Rattle.shared_doors.specs.Views.{view_at}
-use Rattle.swarm_workers.specs.declared.worked.WorkStop.{WorkStop}
 use Rattle.swarm_workers.specs.Crews.{WorkerState, HasWorked, AreNewDoors, KnowsMade, ShutsAll, stop_of}
 use Rattle.swarm_workers.specs.Shared.{AreRuns}
 use Rattle.swarm_workers.specs.Splits.{IsNewPass}

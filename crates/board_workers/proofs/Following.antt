@@ -4,15 +4,10 @@ use Rattle.std.proofs.lemmas.List.{length-map, length-set, map-set, get_or-map, 
 use mathlib.Core.List.{IsPrefix}
 use mathlib.Core.Logic.{dite}
 use native.Mathlib.Decide.{ℕ_discrete}
-use Rattle.swarm_model.specs.declared.entry.Entry.{Entry}
-use Rattle.swarm_model.specs.declared.pool_settings.PoolSettings.{PoolSettings}
+use Rattle.board_workers.specs.Types.{Entry, PoolSettings, Pass, Turnstile, Lasting, PoolView}
 use Rattle.swarm_model.specs.declared.pool_state.PoolState.{PoolState}
 use Rattle.swarm_model.specs.Bases.{Base}
-use Rattle.turnstile.specs.declared.pass.Pass.{Pass}
-use Rattle.turnstile.specs.declared.turnstile.Turnstile.{Turnstile}
 use Rattle.turnstile.specs.Numbers.{times}
-use Rattle.shared_doors.specs.declared.view.Lasting.{Lasting}
-use Rattle.shared_doors.specs.declared.view.PoolView.{PoolView}
 use Rattle.shared_doors.specs.SharedDoors.{pools_of, start_of}
 use Rattle.shared_doors.specs.Turns.{TakesTurn, TakesTurnAt}
 use Rattle.shared_doors.specs.Views.{AreOf, view_at, views}

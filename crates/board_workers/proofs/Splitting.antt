@@ -2,14 +2,9 @@
 use Rattle.std.proofs.Common.{◌≡◌, ℕ, ◌+◌, ◌<◌, List, [], ◌∷◌, ◌++◌, length, map, get_or, take, Option, refl, arith, ap, sym, subst, ◌∙◌}
 use Rattle.std.proofs.lemmas.List.{length-map, get_or-map, map-append, take_more}
 use Rattle.swarm_history.specs.Machines.{no_pool}
-use Rattle.swarm_model.specs.declared.entry.Entry.{Entry}
-use Rattle.swarm_model.specs.declared.pool_settings.PoolSettings.{PoolSettings}
+use Rattle.board_workers.specs.Types.{Entry, PoolSettings, Pass, Turnstile, Lasting, PoolView}
 use Rattle.swarm_model.specs.Bases.{empty_base}
-use Rattle.turnstile.specs.declared.pass.Pass.{Pass}
-use Rattle.turnstile.specs.declared.turnstile.Turnstile.{Turnstile}
 use Rattle.turnstile.specs.Passes.{fixed_of}
-use Rattle.shared_doors.specs.declared.view.Lasting.{Lasting}
-use Rattle.shared_doors.specs.declared.view.PoolView.{PoolView}
 use Rattle.shared_doors.specs.Joined.{MaySplit, Splits}
 use Rattle.shared_doors.specs.SharedDoors.{pools_of, start_of}
 use Rattle.shared_doors.specs.Views.{AreOf, view_at, views}

@@ -5,12 +5,9 @@ use Rattle.std.proofs.lemmas.List.{length-map, map-append}
 use Rattle.sw_base.specs.Link.{LinkState}
 use Rattle.sw_base.specs.Told.{Loses, Gains}
 use Rattle.sw_base.specs.Acceptors.{AcceptorState}
-use Rattle.swarm_model.specs.declared.pool_settings.PoolSettings.{PoolSettings}
+use Rattle.board_workers.specs.Types.{PoolSettings, Ended, Worked, WorkStop}
 use Rattle.pool_views.specs.Views.{Known, pools_of}
-use Rattle.swarm_http.specs.declared.ended.Ended.{Ended}
 use Rattle.swarm_http.specs.declared.ended.Ended.TheVariants as ended
-use Rattle.swarm_workers.specs.declared.worked.Worked.{Worked}
-use Rattle.swarm_workers.specs.declared.worked.WorkStop.{WorkStop}
 use Rattle.swarm_workers.specs.declared.worked.WorkStop.TheVariants as stop
 use Rattle.swarm_workers.specs.Visits.{Visit, TellsFault, IsFaultCounted, NoneLacked, LastLacked, StopsServing, Follow, HasServed}
 use Rattle.swarm_workers.proofs.Slices.{map_both}

@@ -2,8 +2,7 @@
 use Rattle.std.proofs.Common.{◌≡◌, ℕ, List, [], ◌∷◌, map, refl, ap, ◌∙◌}
 use Rattle.std.specs.List.{All, AllZip}
 use Rattle.std.proofs.lemmas.List.Elements.{All-nil, All-cons, All-head, All-tail, All-same, All-weaker}
-use Rattle.swarm_model.specs.declared.pool_settings.PoolSettings.{PoolSettings}
-use Rattle.swarm_model.specs.declared.pool_settings.Settings.{Settings}
+use Rattle.board_workers.specs.Types.{PoolSettings, Settings}
 use Rattle.pool_views.specs.Views.{Known, pools_of}
 use Rattle.board_workers.specs.Boards.{HasServedBoard, IsBoardRun, ServedBoard, new_view}
 use Rattle.board_workers.specs.Posts.{new_posters, view_of}

@@ -3,12 +3,9 @@ use Rattle.std.specs.Prelude.{◌≡◌, ℕ, List, [], ◌∷◌, map}
 use Rattle.sw_base.specs.Acceptors.{AcceptorState}
 use Rattle.sw_base.specs.Link.{LinkState}
 use Rattle.swarm_model.specs.Bases.{empty_base}
-use Rattle.swarm_model.specs.declared.pool_settings.PoolSettings.{PoolSettings}
-use Rattle.swarm_model.specs.declared.pool_settings.Settings.{Settings}
+use Rattle.board_workers.specs.Types.{PoolSettings, Settings, Ended, Worked}
 use Rattle.pool_views.specs.Views.{Known}
-use Rattle.swarm_http.specs.declared.ended.Ended.{Ended}
 use Rattle.board_sessions.specs.Boards.{IsBoardAnswered, KeepsViews}
-use Rattle.swarm_workers.specs.declared.worked.Worked.{Worked}
 use Rattle.swarm_workers.specs.Visits.{HasServed}
 
 -- what a board has: its acceptor, what its views know, in the order of the pools, and what it did

@@ -4,9 +4,8 @@ use Rattle.std.specs.List.{All, AllZip}
 use Rattle.sw_base.specs.Acceptors.{AcceptorState}
 use Rattle.sw_base.specs.Listeners.{ListenerState, Gives, FailsToListen}
 use Rattle.sw_base.specs.declared.start_fault.StartFault.{StartFault}
-use Rattle.swarm_model.specs.declared.pool_settings.Settings.{Settings}
+use Rattle.board_workers.specs.Types.{Settings, WorkStop}
 use Rattle.pool_doors.specs.Doors.{Logs}
-use Rattle.swarm_workers.specs.declared.worked.WorkStop.{WorkStop}
 use Rattle.swarm_workers.specs.Crews.{WorkerState, ShutsAll, stop_of}
 use Rattle.swarm_workers.specs.Shared.{AreLegal, AreRuns}
 use Rattle.board_workers.specs.Boards.{ServedBoard, IsBoardRun}

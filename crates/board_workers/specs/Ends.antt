@@ -4,9 +4,8 @@ use Rattle.std.specs.List.{AllZip}
 use Rattle.sw_base.specs.Listeners.{ListenerState}
 use Rattle.pool_doors.specs.Doors.{DoorState}
 use Rattle.shared_doors.specs.Joined.{Joins}
-use Rattle.shared_doors.specs.declared.view.PoolView.{PoolView}
+use Rattle.board_workers.specs.Types.{PoolView, WorkStop}
 use Rattle.shared_doors.specs.Views.{view_at}
-use Rattle.swarm_workers.specs.declared.worked.WorkStop.{WorkStop}
 use Rattle.swarm_workers.specs.Crews.{WorkerState, HasWorked, IsFirst, IsJoined, ShutsAll, stop_of}
 use Rattle.board_workers.specs.Boards.{ServedBoard, HasServedBoard}
 use Rattle.board_workers.specs.Posts.{EachReads}

@@ -1,3 +1,4 @@
+pub mod Types
 pub mod Boards
 pub mod Crews
 pub mod Posts

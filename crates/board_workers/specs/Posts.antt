@@ -1,15 +1,10 @@
 -- Posters of pools, and the passes that read the logs for them.
 use Rattle.std.specs.Prelude.{◌≡◌, ◌<◌, ◌≤◌, ℕ, List, [], ◌∷◌, ◌++◌, length, map, slice_index_or, Option}
 use mathlib.Core.List.{IsPrefix}
-use Rattle.swarm_model.specs.declared.entry.Entry.{Entry}
-use Rattle.swarm_model.specs.declared.pool_settings.PoolSettings.{PoolSettings}
+use Rattle.board_workers.specs.Types.{Entry, PoolSettings, Pass, Turnstile, Lasting, PoolView}
 use Rattle.swarm_model.specs.Bases.{Base, empty_base}
 use Rattle.pool_views.specs.Views.{Known}
-use Rattle.turnstile.specs.declared.pass.Pass.{Pass}
-use Rattle.turnstile.specs.declared.turnstile.Turnstile.{Turnstile}
 use Rattle.turnstile.specs.Numbers.{times, own}
-use Rattle.shared_doors.specs.declared.view.Lasting.{Lasting}
-use Rattle.shared_doors.specs.declared.view.PoolView.{PoolView}
 use Rattle.shared_doors.specs.Joined.{by}
 use Rattle.shared_doors.specs.SharedDoors.{pools_of, start_of}
 use Rattle.shared_doors.specs.Views.{AreOf, view_at, views}

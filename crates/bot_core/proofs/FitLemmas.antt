@@ -3,16 +3,10 @@ use Rattle.std.proofs.Common.{◌≡◌, ℕ, ◌+◌, ◌*◌, ◌^◌, ◌≤�
 use Rattle.std.proofs.lemmas.List.Elements.{All-nil, All-cons}
 use Rattle.std.specs.Prelude.{All}
 use Rattle.std.specs.Option.{option_map, option_map_or}
-use Rattle.bot_core.specs.declared.action.Action.{Action}
+use Rattle.bot_core.specs.Types.{Action, BotEvent, BotLimits, BotState, Phase, Awaited, Begin, Answer, Slept}
 use Rattle.bot_core.specs.declared.action.Action.TheVariants as action
 use Rattle.bot_core.specs.declared.action.StopWhy.TheVariants as why
-use Rattle.bot_core.specs.declared.bot_event.BotEvent.{BotEvent}
-use Rattle.bot_core.specs.declared.bot_limits.BotLimits.{BotLimits}
-use Rattle.bot_core.specs.declared.bot_state.BotState.{BotState}
-use Rattle.bot_core.specs.declared.bot_state.Phase.{Phase}
 use Rattle.bot_core.specs.declared.bot_state.Phase.TheVariants as phase
-use Rattle.bot_core.specs.declared.bot_state.Awaited.{Awaited}
-use Rattle.bot_core.specs.declared.bot_state.Awaited.TheVariants.{Begin, Answer, Slept}
 use Rattle.bot_core.specs.Bounds.{RunBounds, Bounds, InBounds}
 use Rattle.bot_core.specs.Table.{opening, enter_stop, is_stop, next_state, record_action, issue_action, phase_action, awaited_action, action_of}
 use Rattle.bot_core.specs.States.{states_after}

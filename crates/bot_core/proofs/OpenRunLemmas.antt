@@ -3,14 +3,8 @@ use Rattle.std.proofs.Common.{◌≡◌, ℕ, Bool, true, false, List, [], ◌�
 use Rattle.std.proofs.lemmas.List.Elements.{All-nil, All-cons}
 use Rattle.std.specs.Prelude.{All}
 use Rattle.std.specs.Option.{option_map_or}
-use Rattle.bot_core.specs.declared.action.Action.{Action}
-use Rattle.bot_core.specs.declared.bot_event.BotEvent.{BotEvent}
-use Rattle.bot_core.specs.declared.bot_limits.BotLimits.{BotLimits}
-use Rattle.bot_core.specs.declared.bot_state.BotState.{BotState}
-use Rattle.bot_core.specs.declared.bot_state.Phase.{Phase}
+use Rattle.bot_core.specs.Types.{Action, BotEvent, BotLimits, BotState, Phase, Awaited, Begin, Answer, Slept}
 use Rattle.bot_core.specs.declared.bot_state.Phase.TheVariants as phase
-use Rattle.bot_core.specs.declared.bot_state.Awaited.{Awaited}
-use Rattle.bot_core.specs.declared.bot_state.Awaited.TheVariants.{Begin, Answer, Slept}
 use Rattle.bot_core.specs.Table.{opening, stepped, phase_action, awaited_action, action_of}
 use Rattle.bot_core.specs.States.{steps_of}
 use Rattle.bot_core.specs.OpenRuns.{is_claim_run, is_clean_up, asks_for_work, is_open_after, open_actions}

@@ -1,14 +1,8 @@
 -- The signals of a run are in order.
 use Rattle.std.proofs.Common.{◌≡◌, ℕ, Bool, true, false, List, [], ◌∷◌, if◌then◌else◌, Option, Some, None, IfSome, refl, sym, ◌∙◌, subst}
 use Rattle.std.specs.Option.{option_map, option_map_or}
-use Rattle.bot_core.specs.declared.action.Signal.TheVariants.{Term, Kill}
-use Rattle.bot_core.specs.declared.bot_event.BotEvent.{BotEvent}
-use Rattle.bot_core.specs.declared.bot_limits.BotLimits.{BotLimits}
-use Rattle.bot_core.specs.declared.bot_state.BotState.{BotState}
-use Rattle.bot_core.specs.declared.bot_state.Phase.{Phase}
+use Rattle.bot_core.specs.Types.{Term, Kill, BotEvent, BotLimits, BotState, Phase, Awaited, Begin, Answer, Slept}
 use Rattle.bot_core.specs.declared.bot_state.Phase.TheVariants as phase
-use Rattle.bot_core.specs.declared.bot_state.Awaited.{Awaited}
-use Rattle.bot_core.specs.declared.bot_state.Awaited.TheVariants.{Begin, Answer, Slept}
 use Rattle.bot_core.specs.Table.{opening, is_stop, after_event, issue_action, stepped, phase_action, awaited_action, action_of}
 use Rattle.bot_core.specs.States.{steps_of}
 use Rattle.bot_core.specs.Signals.{Signals, no_signals, signals_at_event, with_action, signals_after, AreInOrder}

@@ -1,7 +1,6 @@
 -- What the numbers of a bot that goes on keep to.
 use Rattle.std.specs.Prelude.{◌≡◌, ℕ, ◌+◌, ◌-◌, ◌*◌, ◌^◌, ◌≤◌, false}
-use Rattle.bot_core.specs.declared.run.Run.{Run}
-use Rattle.bot_core.specs.declared.bot_state.BotState.{BotState}
+use Rattle.bot_core.specs.Types.{Run, BotState}
 use Rattle.bot_core.specs.RunChanges.{most_pending, most_output}
 use Rattle.bot_core.specs.Table.{is_stop}
 

@@ -1,12 +1,9 @@
 -- A run that goes past its time, by the table.
 use Rattle.std.specs.Prelude.{ℕ, true, false, List, [], ◌∷◌, Some, pos}
-use Rattle.bot_core.specs.declared.action.Action.{Action}
+use Rattle.bot_core.specs.Types.{Action, Term, Kill, BotEvent, BotLimits}
 use Rattle.bot_core.specs.declared.action.Action.TheVariants as action
-use Rattle.bot_core.specs.declared.action.Signal.TheVariants.{Term, Kill}
 use Rattle.bot_core.specs.declared.action.StopWhy.TheVariants as why
-use Rattle.bot_core.specs.declared.bot_event.BotEvent.{BotEvent}
 use Rattle.bot_core.specs.declared.bot_event.BotEvent.TheVariants as event
-use Rattle.bot_core.specs.declared.bot_limits.BotLimits.{BotLimits}
 
 abbrev pub one_task : BotLimits
 one_task = record { tasks = 1; polls = 10; steps = 1000 }

@@ -1,12 +1,9 @@
 -- What is known of the present run by the events and the actions alone.
 use Rattle.std.specs.Prelude.{ℕ, ◌&&◌, ◌||◌, not, Bool, true, false, List, [], ◌∷◌, Option, Some, None, if◌then◌else◌}
 use Rattle.refusal_codes.specs.Codes.{code_numbered}
-use Rattle.bot_core.specs.declared.action.Action.{Action}
+use Rattle.bot_core.specs.Types.{Action, Term, BotEvent, BotLimits}
 use Rattle.bot_core.specs.declared.action.Action.TheVariants as action
-use Rattle.bot_core.specs.declared.action.Signal.TheVariants.{Term}
-use Rattle.bot_core.specs.declared.bot_event.BotEvent.{BotEvent}
 use Rattle.bot_core.specs.declared.bot_event.BotEvent.TheVariants as event
-use Rattle.bot_core.specs.declared.bot_limits.BotLimits.{BotLimits}
 use Rattle.bot_core.specs.Table.{is_transient, is_store_full, opening, action_of}
 use Rattle.bot_core.specs.States.{Step, steps_of}
 

@@ -1,3 +1,4 @@
+pub mod Types
 pub mod RunChanges
 pub mod Table
 pub mod Bounds

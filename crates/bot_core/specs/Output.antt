@@ -1,12 +1,8 @@
 -- A bot beside its output: the bytes that wait to be sent, and those that its command wrote.
 use Rattle.std.specs.Prelude.{◌≡◌, ℕ, ◌+◌, ◌-◌, ◌≤◌, List, [], ◌∷◌, ◌++◌, length, take, drop, Option, Some, IfSome, ⊤}
-use Rattle.bot_core.specs.declared.action.Action.{Action}
+use Rattle.bot_core.specs.Types.{Action, End, BotEvent, BotLimits, BotState}
 use Rattle.bot_core.specs.declared.action.Action.TheVariants as action
-use Rattle.bot_core.specs.declared.action.End.{End}
-use Rattle.bot_core.specs.declared.bot_event.BotEvent.{BotEvent}
 use Rattle.bot_core.specs.declared.bot_event.BotEvent.TheVariants as event
-use Rattle.bot_core.specs.declared.bot_limits.BotLimits.{BotLimits}
-use Rattle.bot_core.specs.declared.bot_state.BotState.{BotState}
 use Rattle.bot_core.specs.RunChanges.{most_pending}
 use Rattle.bot_core.specs.Table.{opening, stepped, action_of}
 

@@ -1,11 +1,9 @@
 -- What follows a request whose answer was lost, or that the server couldn't act on.
 use Rattle.std.specs.Prelude.{◌≡◌, ◌⊎◌, ℕ, ◌+◌, ◌≤◌, Bool, true, false, Some}
-use Rattle.bot_core.specs.declared.action.Action.{Action}
+use Rattle.bot_core.specs.Types.{Action, BotEvent, BotState}
 use Rattle.bot_core.specs.declared.action.Action.TheVariants as action
 use Rattle.bot_core.specs.declared.action.StopWhy.TheVariants as why
-use Rattle.bot_core.specs.declared.bot_event.BotEvent.{BotEvent}
 use Rattle.bot_core.specs.declared.bot_event.BotEvent.TheVariants as event
-use Rattle.bot_core.specs.declared.bot_state.BotState.{BotState}
 use Rattle.bot_core.specs.Table.{stepped, action_of, is_transient}
 
 -- an action that sends requests

@@ -1,7 +1,6 @@
 -- What the bot keeps of a run, and how it changes.
 use Rattle.std.specs.Prelude.{ℕ, ◌+◌, ◌-◌, ◌*◌, ◌^◌, ◌==◌, ◌&&◌, ◌||◌, not, nat_le, nat_lt, min, Bool, true, false, Option, Some, None, ℤ, pos, if◌then◌else◌}
-use Rattle.bot_core.specs.declared.run.Run.{Run}
-use Rattle.bot_core.specs.declared.action.End.{End}
+use Rattle.bot_core.specs.Types.{Run, End}
 
 -- the bytes that may wait to be sent, and those that a run may have
 abbrev pub most_pending : ℕ

@@ -1,13 +1,9 @@
 -- What a bot does for a run by what is known of it: it ends it where it is asked to, reports in time, and tells why it ended it.
 use Rattle.std.specs.Prelude.{◌≡◌, ◌⊎◌, ◌↔◌, ℕ, ◌+◌, ◌/◌, ◌^◌, ◌≤◌, ◌<◌, Bool, true, false, List, Option, Some, None, All, IsSomeAnd, IfSome, ⊤}
-use Rattle.bot_core.specs.declared.action.Action.{Action}
+use Rattle.bot_core.specs.Types.{Action, End, Term, BotEvent, BotLimits}
 use Rattle.bot_core.specs.declared.action.Action.TheVariants as action
-use Rattle.bot_core.specs.declared.action.End.{End}
-use Rattle.bot_core.specs.declared.action.Signal.TheVariants.{Term}
 use Rattle.bot_core.specs.declared.action.StopWhy.TheVariants as why
-use Rattle.bot_core.specs.declared.bot_event.BotEvent.{BotEvent}
 use Rattle.bot_core.specs.declared.bot_event.BotEvent.TheVariants as event
-use Rattle.bot_core.specs.declared.bot_limits.BotLimits.{BotLimits}
 use Rattle.bot_core.specs.RunChanges.{most_pending, most_output}
 use Rattle.bot_core.specs.Table.{opening, action_of}
 use Rattle.bot_core.specs.States.{Step, states_after}

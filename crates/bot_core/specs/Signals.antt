@@ -1,11 +1,8 @@
 -- When a run is sent signals.
 use Rattle.std.specs.Prelude.{ℕ, ◌+◌, ◌≤◌, List, [], ◌∷◌, length, All, Any}
-use Rattle.bot_core.specs.declared.action.Action.{Action}
+use Rattle.bot_core.specs.Types.{Action, Term, Kill, BotEvent, BotLimits}
 use Rattle.bot_core.specs.declared.action.Action.TheVariants as action
-use Rattle.bot_core.specs.declared.action.Signal.TheVariants.{Term, Kill}
-use Rattle.bot_core.specs.declared.bot_event.BotEvent.{BotEvent}
 use Rattle.bot_core.specs.declared.bot_event.BotEvent.TheVariants as event
-use Rattle.bot_core.specs.declared.bot_limits.BotLimits.{BotLimits}
 use Rattle.bot_core.specs.Table.{opening, action_of}
 use Rattle.bot_core.specs.States.{Step, steps_of}
 

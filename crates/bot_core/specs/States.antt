@@ -1,8 +1,7 @@
 -- The states of a bot over a list of events, and its steps.
 use Rattle.std.specs.Prelude.{ℕ, List, [], ◌∷◌}
 use Rattle.std.specs.Option.{option_map_or}
-use Rattle.bot_core.specs.declared.bot_event.BotEvent.{BotEvent}
-use Rattle.bot_core.specs.declared.bot_state.BotState.{BotState}
+use Rattle.bot_core.specs.Types.{BotEvent, BotState}
 use Rattle.bot_core.specs.Table.{stepped}
 
 -- the state after each of these events with their moments, up to the first that can't come

@@ -1,23 +1,13 @@
 -- The table of a bot: its next state, by its phase and the event.
 use Rattle.std.specs.Prelude.{ℕ, ◌+◌, ◌-◌, ◌/◌, ◌==◌, ◌&&◌, ◌||◌, not, nat_le, nat_lt, Bool, true, false, Option, Some, None, is_some, ℤ, negsuc, if◌then◌else◌}
 use Rattle.std.specs.Option.{option_map, option_map_or}
-use Rattle.refusal_codes.specs.declared.refusal_code.RefusalCode.{RefusalCode}
+use Rattle.bot_core.specs.Types.{RefusalCode, Run, Action, Term, Kill, StopWhy, BotEvent, BotLimits, BotState, Phase, Awaited, Begin, Answer, Slept}
 use Rattle.refusal_codes.specs.declared.refusal_code.RefusalCode.TheVariants as code
 use Rattle.refusal_codes.specs.Codes.{code_numbered, is_transient_code}
-use Rattle.bot_core.specs.declared.run.Run.{Run}
-use Rattle.bot_core.specs.declared.action.Action.{Action}
 use Rattle.bot_core.specs.declared.action.Action.TheVariants as action
-use Rattle.bot_core.specs.declared.action.Signal.TheVariants.{Term, Kill}
-use Rattle.bot_core.specs.declared.action.StopWhy.{StopWhy}
 use Rattle.bot_core.specs.declared.action.StopWhy.TheVariants as why
-use Rattle.bot_core.specs.declared.bot_event.BotEvent.{BotEvent}
 use Rattle.bot_core.specs.declared.bot_event.BotEvent.TheVariants as event
-use Rattle.bot_core.specs.declared.bot_limits.BotLimits.{BotLimits}
-use Rattle.bot_core.specs.declared.bot_state.BotState.{BotState}
-use Rattle.bot_core.specs.declared.bot_state.Phase.{Phase}
 use Rattle.bot_core.specs.declared.bot_state.Phase.TheVariants as phase
-use Rattle.bot_core.specs.declared.bot_state.Awaited.{Awaited}
-use Rattle.bot_core.specs.declared.bot_state.Awaited.TheVariants.{Begin, Answer, Slept}
 use Rattle.bot_core.specs.RunChanges.{most_pending, new_run, start_run, drop_output, abandon_run, count_sent, add_output, has_passed, is_reached, is_grace_over, end_run, end_of}
 
 -- what a bot keeps before its begin

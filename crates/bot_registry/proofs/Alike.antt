@@ -4,12 +4,9 @@ use Rattle.std.specs.Bool.{Decides}
 use Rattle.std.specs.Prelude.{◌==◌, unwrap_or, if◌then◌else◌}
 use Rattle.std.specs.Cmp.Lexicographic.{bytes_decides, pointwise}
 use Rattle.std.proofs.lemmas.Slice.Eq.{slice_eq-Decides}
-use Rattle.dimensions.specs.declared.dim_set.DimSet.{DimSet}
-use Rattle.dimensions.specs.declared.bot_dims.BotDims.{BotDims}
-use Rattle.dimensions.specs.declared.text.Text.{Text}
+use Rattle.bot_registry.specs.Types.{DimSet, BotDims, Text, BotRow}
 use Rattle.dimensions.specs.Alike.{same, same_pair, same_values, same_dims}
 use Rattle.dimensions.proofs.Tests.{and-first, and-other, and-both}
-use Rattle.swarm_model.specs.declared.bot_row.BotRow.{BotRow}
 use Rattle.swarm_model.specs.declared.entry.EntryKind.TheVariants as kind
 use Rattle.swarm_model.specs.Effects.{bot_after}
 

@@ -6,10 +6,8 @@ use Rattle.std.specs.List.{find, count_by, list_any, All}
 use Rattle.std.proofs.lemmas.List.Elements.{All-head, All-tail, All-weaker, All-map}
 use Rattle.std.proofs.lemmas.List.{map_more}
 use Rattle.dimensions.proofs.Counting.{count-cons}
-use Rattle.dimensions.specs.declared.dim_set.DimSet.{DimSet}
-use Rattle.dimensions.specs.declared.bot_dims.BotDims.{BotDims}
+use Rattle.bot_registry.specs.Types.{DimSet, BotDims, BotRow}
 use Rattle.dimensions.specs.Matching.{matches}
-use Rattle.swarm_model.specs.declared.bot_row.BotRow.{BotRow}
 use Rattle.swarm_model.specs.Slices.{is_fit, could_run}
 use Rattle.swarm_model.specs.Effects.{runs_task, silent_bot}
 use Rattle.row_changes.specs.Bots.{silent_bot_if}

@@ -4,12 +4,8 @@ use Rattle.std.specs.Prelude.{◌==◌, if◌then◌else◌, MatchOption}
 use Rattle.std.specs.List.{count_by, All}
 use Rattle.std.specs.Option.{option_map, option_and_then}
 use Rattle.std.proofs.lemmas.List.Elements.{All-weaker}
-use Rattle.dimensions.specs.declared.dim_set.DimSet.{DimSet}
-use Rattle.dimensions.specs.declared.bot_dims.BotDims.{BotDims}
-use Rattle.dimensions.specs.declared.text.Text.{Text}
+use Rattle.bot_registry.specs.Types.{DimSet, BotDims, Text, BotRow, EntryKind}
 use Rattle.dimensions.specs.Matching.{matches}
-use Rattle.swarm_model.specs.declared.bot_row.BotRow.{BotRow}
-use Rattle.swarm_model.specs.declared.entry.EntryKind.{EntryKind}
 use Rattle.swarm_model.specs.declared.entry.EntryKind.TheVariants as kind
 use Rattle.swarm_model.specs.Numbers.{AreNumbered}
 use Rattle.swarm_model.specs.Slices.{could_run}

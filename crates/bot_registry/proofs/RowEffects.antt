@@ -4,18 +4,14 @@ use Rattle.std.specs.Prelude.{◌==◌, ◌<◌, if◌then◌else◌, MatchOptio
 use Rattle.std.specs.List.{find}
 use Rattle.std.proofs.lemmas.Bool.Decides.{nat_tests}
 use Rattle.std.proofs.lemmas.List.{map_push, length_push, length-map}
-use Rattle.dimensions.specs.declared.text.Text.{Text}
-use Rattle.dimensions.specs.declared.bot_dims.BotDims.{BotDims}
-use Rattle.swarm_model.specs.declared.bot_row.BotRow.{BotRow}
+use Rattle.bot_registry.specs.Types.{Text, BotDims, BotRow, EntryKind, BotParts}
 use Rattle.swarm_model.specs.declared.attempt.Last.{Last}
-use Rattle.swarm_model.specs.declared.entry.EntryKind.{EntryKind}
 use Rattle.swarm_model.specs.declared.entry.EntryKind.TheVariants as kind
 use Rattle.swarm_model.specs.declared.entry.EventKind.{EventKind}
 use Rattle.swarm_model.specs.declared.entry.EventKind.TheVariants as event
 use Rattle.swarm_model.specs.Numbers.{AreNumbered, change_at}
 use Rattle.swarm_model.specs.Finding.{is_bot}
 use Rattle.swarm_model.specs.Effects.{no_of_bot, bot_after, session_row, event_effect, idle_bot_at, if_some, bot_at, heard, runs_task}
-use Rattle.row_changes.specs.declared.parts.BotParts.{BotParts}
 use Rattle.row_changes.specs.Bots.{with_bot, bots_after, HasRoomFor}
 use Rattle.row_changes.proofs.Numbered.{find_before, changed_none, numbered-map, numbered-push}
 use Rattle.row_changes.proofs.RowEffects.{with_bot-new, with_bot-known}

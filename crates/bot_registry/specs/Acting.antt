@@ -1,10 +1,9 @@
 -- What an entry does to the rows, and what it needs of them.
 use Rattle.std.specs.Prelude.{◌≡◌, ℕ, ◌+◌, ◌<◌, List, length, Option, None, MatchOption, slice_get, ⊤}
 use Rattle.std.specs.List.{find}
-use Rattle.swarm_model.specs.declared.bot_row.BotRow.{BotRow}
+use Rattle.bot_registry.specs.Types.{BotRow, EntryKind}
 use Rattle.swarm_model.specs.declared.pool_state.PoolState.{PoolState}
 use Rattle.swarm_model.specs.declared.entry.Entry.{Entry}
-use Rattle.swarm_model.specs.declared.entry.EntryKind.{EntryKind}
 use Rattle.swarm_model.specs.declared.entry.EntryKind.TheVariants as kind
 use Rattle.swarm_model.specs.Finding.{is_bot, is_called}
 use Rattle.swarm_model.specs.Pages.{listed_bots}

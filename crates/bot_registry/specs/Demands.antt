@@ -4,12 +4,9 @@ use Rattle.std.specs.Bool.{OnTrue}
 use Rattle.std.specs.List.{All, count_by}
 use Rattle.std.specs.Option.{option_map_or, option_and_then}
 use Rattle.std.specs.Cmp.Lexicographic.{pointwise}
-use Rattle.dimensions.specs.declared.dim_set.DimSet.{DimSet}
-use Rattle.dimensions.specs.declared.bot_dims.BotDims.{BotDims}
+use Rattle.bot_registry.specs.Types.{DimSet, BotDims, BotRow, EntryKind}
 use Rattle.dimensions.specs.Alike.{same_pair}
 use Rattle.dimensions.specs.Matching.{matches}
-use Rattle.swarm_model.specs.declared.bot_row.BotRow.{BotRow}
-use Rattle.swarm_model.specs.declared.entry.EntryKind.{EntryKind}
 use Rattle.swarm_model.specs.declared.entry.EntryKind.TheVariants as kind
 use Rattle.swarm_model.specs.Slices.{could_run}
 use Rattle.swarm_model.specs.Effects.{bot_after}

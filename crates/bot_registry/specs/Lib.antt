@@ -1,3 +1,4 @@
+pub mod Types
 pub mod Plain
 pub mod Acting
 pub mod Names

@@ -1,18 +1,12 @@
 -- An event of the bot's action can come.
 use Rattle.std.proofs.Common.{◌≡◌, ℕ, ◌-◌, Bool, true, false, ◌&&◌, if◌then◌else◌, nat_le, Option, Some, None, is_some, refl, ap, ◌∙◌}
 use Rattle.std.specs.Option.{option_map, option_map_or}
-use Rattle.refusal_codes.specs.declared.refusal_code.RefusalCode.{RefusalCode}
+use Rattle.bot_turns.specs.Types.{RefusalCode, Signal, BotEvent, BotState, Phase, Awaited, Begin, Answer, Slept}
 use Rattle.refusal_codes.specs.Codes.{is_transient_code}
 use Rattle.refusal_codes.proofs.CodeLemmas.{number_is_read}
-use Rattle.bot_core.specs.declared.action.Signal.{Signal}
 use Rattle.bot_core.specs.declared.action.Action.TheVariants as action
-use Rattle.bot_core.specs.declared.bot_event.BotEvent.{BotEvent}
 use Rattle.bot_core.specs.declared.bot_event.BotEvent.TheVariants as event
-use Rattle.bot_core.specs.declared.bot_state.BotState.{BotState}
-use Rattle.bot_core.specs.declared.bot_state.Phase.{Phase}
 use Rattle.bot_core.specs.declared.bot_state.Phase.TheVariants as phase
-use Rattle.bot_core.specs.declared.bot_state.Awaited.{Awaited}
-use Rattle.bot_core.specs.declared.bot_state.Awaited.TheVariants.{Begin, Answer, Slept}
 use Rattle.bot_core.specs.RunChanges.{most_pending}
 use Rattle.bot_core.specs.Table.{enter_sleep, is_transient, sends_request, after_answer, after_sleep, after_event, is_stop, next_state, phase_action, awaited_action, action_of, issue_action, stepped}
 use Rattle.bot_turns.specs.Events.{refusal_event, is_event_of}

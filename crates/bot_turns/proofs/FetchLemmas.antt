@@ -1,11 +1,9 @@
 -- Inputs that are fetched one after the other.
 use Rattle.std.proofs.Common.{◌≡◌, ℕ, suc, ◌+◌, ◌<◌, length, take, drop, get_or, List, [], ◌∷◌, ◌++◌, refl, ap, subst}
 use Rattle.std.specs.Prelude.{Ok, Err}
-use Rattle.task_props.specs.declared.file.File.{File}
-use Rattle.bot_requests.specs.declared.hands.Hands.{Hands}
+use Rattle.bot_turns.specs.Types.{File, Hands, BotEvent}
 use Rattle.sw_base.specs.Dialers.{DialerState}
 use Rattle.bot_turns.specs.Inputs.{FetchesFile, FetchesAll, FetchEnds}
-use Rattle.bot_core.specs.declared.bot_event.BotEvent.{BotEvent}
 use Rattle.bot_turns.proofs.SplitLemmas.{take_next, parts_at}
 
 fetched_next : (h : Hands) (files : List File) (file : File) (bytes : List ℕ) (inputs : List (List ℕ × List ℕ)) (a b c : DialerState) →

@@ -1,18 +1,14 @@
 -- What a turn that prepares a run comes to is an event of Prepare.
 use Rattle.std.proofs.Common.{◌≡◌, ℕ, Bool, true, false, if◌then◌else◌, List, Option, Some, None, Result, Ok, Err, IfOk, refl, ap, sym, ◌∙◌}
 use Rattle.std.specs.Option.{option_map_or}
-use Rattle.task_props.specs.declared.properties.Properties.{Properties}
-use Rattle.sw_base.specs.declared.start_fault.StartFault.{StartFault}
+use Rattle.bot_turns.specs.Types.{Properties, StartFault, Exchanged, BotEvent, Hands}
 use Rattle.sw_base.specs.declared.start_fault.StartFault.TheVariants as start
 use Rattle.sw_base.specs.Dialers.{DialerState}
 use Rattle.server_calls.specs.declared.told.Told.TheVariants as told
-use Rattle.server_calls.specs.declared.exchanged.Exchanged.{Exchanged}
 use Rattle.server_calls.specs.declared.exchanged.Exchanged.TheVariants as exchanged
 use Rattle.runners.specs.Calls.{RunnerState}
-use Rattle.bot_core.specs.declared.bot_event.BotEvent.{BotEvent}
 use Rattle.bot_core.specs.declared.bot_event.BotEvent.TheVariants as event
 use Rattle.bot_core.specs.Table.{is_transient}
-use Rattle.bot_requests.specs.declared.hands.Hands.{Hands}
 use Rattle.bot_turns.specs.Events.{refusal_event, is_of_prepare}
 use Rattle.bot_turns.specs.ServerTurns.{OfRun}
 use Rattle.bot_turns.specs.Inputs.{unfetched_event, prepare_event, FetchesInputs, Prepares, IsPrepareTurn}

@@ -4,19 +4,12 @@ use Rattle.std.specs.Option.{option_map_or}
 use Rattle.sw_base.specs.Clock.{HandsIn}
 use Rattle.sw_base.specs.Dialers.{DialerState}
 use Rattle.runners.specs.Calls.{RunnerState}
-use Rattle.bot_core.specs.declared.action.Action.{Action}
-use Rattle.bot_core.specs.declared.bot_event.BotEvent.{BotEvent}
+use Rattle.bot_turns.specs.Types.{Action, BotEvent, BotLimits, BotState, Phase, Awaited, Begin, Answer, Slept, Hands}
 use Rattle.bot_core.specs.declared.bot_event.BotEvent.TheVariants as event
-use Rattle.bot_core.specs.declared.bot_limits.BotLimits.{BotLimits}
-use Rattle.bot_core.specs.declared.bot_state.BotState.{BotState}
-use Rattle.bot_core.specs.declared.bot_state.Phase.{Phase}
 use Rattle.bot_core.specs.declared.bot_state.Phase.TheVariants as phase
-use Rattle.bot_core.specs.declared.bot_state.Awaited.{Awaited}
-use Rattle.bot_core.specs.declared.bot_state.Awaited.TheVariants.{Begin, Answer, Slept}
 use Rattle.bot_core.specs.RunChanges.{most_pending}
 use Rattle.bot_core.specs.States.{states_after}
 use Rattle.bot_core.specs.Table.{opening, phase_action, awaited_action, action_of, stepped, is_stop}
-use Rattle.bot_requests.specs.declared.hands.Hands.{Hands}
 use Rattle.bot_turns.specs.Events.{is_event_of}
 use Rattle.bot_turns.specs.Turns.{BotWorld, bot_world, IsTurnOf, CanAct}
 use Rattle.bot_turns.specs.Runs.{states_of, TellsMoment, TakesTurn, TakesTurns, HasTaken, HandsFit, is_stop_action, takes_events, has_run}

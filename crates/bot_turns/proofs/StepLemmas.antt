@@ -4,17 +4,11 @@ use Rattle.std.proofs.lemmas.Bool.Decides.{nat_tests}
 use Rattle.std.specs.Option.{option_map}
 use Rattle.refusal_codes.specs.Codes.{code_numbered}
 use Rattle.bot_core.specs.declared.run.Run.{Run}
-use Rattle.bot_core.specs.declared.action.Signal.{Signal}
+use Rattle.bot_turns.specs.Types.{Signal, Action, BotEvent, BotState, Phase, Awaited, Begin, Answer, Slept}
 use Rattle.bot_core.specs.declared.action.StopWhy.TheVariants as why
-use Rattle.bot_core.specs.declared.action.Action.{Action}
 use Rattle.bot_core.specs.declared.action.Action.TheVariants as action
-use Rattle.bot_core.specs.declared.bot_event.BotEvent.{BotEvent}
 use Rattle.bot_core.specs.declared.bot_event.BotEvent.TheVariants as event
-use Rattle.bot_core.specs.declared.bot_state.BotState.{BotState}
-use Rattle.bot_core.specs.declared.bot_state.Phase.{Phase}
 use Rattle.bot_core.specs.declared.bot_state.Phase.TheVariants as phase
-use Rattle.bot_core.specs.declared.bot_state.Awaited.{Awaited}
-use Rattle.bot_core.specs.declared.bot_state.Awaited.TheVariants.{Begin, Answer, Slept}
 use Rattle.bot_core.specs.RunChanges.{most_pending, drop_output, abandon_run, is_dropped, add_output, has_passed, is_reached, is_grace_over, end_run}
 use Rattle.bot_core.specs.Table.{enter, enter_stop, enter_sleep, next_session, with_run, is_transient, needs_new_session, is_claim_over, is_store_full, abandons_run, sends_request, after_handshake, after_poll, after_claim, after_prepare, after_start, signal_term, signal_kill, send_or_sleep, continue_run, after_look, after_signal, after_send, after_upload, after_last_send, end_task, after_clean_up, after_answer, after_begin, after_sleep, after_event, is_stop, next_state, action_of, record_action, issue_action, stepped}
 use Rattle.bot_turns.specs.Runs.{takes_events, has_run}

@@ -1,14 +1,11 @@
 -- A runner tells its calls after each of them, where it told them before.
 use Rattle.std.proofs.Common.{◌≡◌, ℕ, List, [], ◌∷◌, ◌++◌, Option, Some, None, IfSome, Result, Ok, Err, inl, inr, refl, sym, subst}
 use Rattle.std.specs.Prelude.{IsSome}
-use Rattle.sw_base.specs.declared.failed.Failed.{Failed}
-use Rattle.sw_base.specs.declared.start_fault.StartFault.{StartFault}
+use Rattle.bot_turns.specs.Types.{Failed, StartFault, Look, CollectFault}
 use Rattle.sw_base.specs.declared.start_fault.StartFault.TheVariants as start
-use Rattle.runners.specs.declared.answer.Look.{Look}
 use Rattle.runners.specs.declared.answer.RunnerAnswer.{RunnerAnswer}
 use Rattle.runners.specs.declared.call.RunnerCall.{RunnerCall}
 use Rattle.runners.specs.declared.call.RunnerCall.TheVariants as call
-use Rattle.runners.specs.declared.collect_fault.CollectFault.{CollectFault}
 use Rattle.runners.specs.declared.collect_fault.CollectFault.TheVariants as fault
 use Rattle.runners.specs.Calls.{RunnerState, TakesAnswer, Succeeds, TellsSame, FailsCall, LacksMemory, HasFault, Performs, Signals, Looks, IsTooLong, CollectsFile, Cleans}
 use Rattle.bot_turns.specs.ChildTurns.{IsSignalTurn}

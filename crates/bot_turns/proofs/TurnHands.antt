@@ -2,21 +2,15 @@
 use Rattle.std.proofs.Common.{◌≡◌, ℕ, ◌+◌, ◌-◌, ◌≤◌, true, false, List, ◌++◌, length, take, Option, Some, None, is_some, Result, Ok, Err, refl, ap, sym, ◌∙◌, subst, arith}
 use Rattle.std.specs.Prelude.{⊤}
 use Rattle.std.proofs.lemmas.List.{length-take-le, length-append}
-use Rattle.task_props.specs.declared.properties.Properties.{Properties}
-use Rattle.sw_base.specs.declared.failed.Failed.{Failed}
+use Rattle.bot_turns.specs.Types.{Properties, Failed, Exchanged, Look, Action, BotEvent, Hands}
 use Rattle.swarm_model.specs.declared.reply.Reply.TheVariants as reply
 use Rattle.server_calls.specs.declared.told.Told.TheVariants as told
-use Rattle.server_calls.specs.declared.exchanged.Exchanged.{Exchanged}
 use Rattle.server_calls.specs.declared.exchanged.Exchanged.TheVariants as exchanged
-use Rattle.runners.specs.declared.answer.Look.{Look}
 use Rattle.runners.specs.declared.answer.Look.TheVariants as look
 use Rattle.runners.specs.Calls.{RunnerState, Looks}
-use Rattle.bot_core.specs.declared.action.Action.{Action}
 use Rattle.bot_core.specs.declared.action.Action.TheVariants as action
-use Rattle.bot_core.specs.declared.bot_event.BotEvent.{BotEvent}
 use Rattle.bot_core.specs.declared.bot_event.BotEvent.TheVariants as event
 use Rattle.bot_core.specs.RunChanges.{most_pending}
-use Rattle.bot_requests.specs.declared.hands.Hands.{Hands}
 use Rattle.bot_turns.specs.Events.{exchange_event, claim_event, is_of_handshake, is_of_poll, is_of_claim, is_of_prepare, is_of_start, is_of_signal, is_of_send, is_of_upload, is_of_clean_up, is_event_of}
 use Rattle.bot_turns.specs.ServerTurns.{OfRun, hands_after_claim}
 use Rattle.bot_turns.specs.Inputs.{Prepares}

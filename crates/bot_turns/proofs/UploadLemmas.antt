@@ -1,10 +1,8 @@
 -- Outputs that are uploaded one after the other.
 use Rattle.std.proofs.Common.{◌≡◌, ℕ, suc, ◌+◌, ◌<◌, length, take, drop, get_or, List, [], ◌∷◌, ◌++◌, refl, ap, ◌∙◌, subst}
 use Rattle.std.specs.Prelude.{Ok, Err, Option, Some, None}
-use Rattle.task_props.specs.declared.file.File.{File}
+use Rattle.bot_turns.specs.Types.{File, BotEvent, Hands}
 use Rattle.runners.specs.Calls.{RunnerState}
-use Rattle.bot_core.specs.declared.bot_event.BotEvent.{BotEvent}
-use Rattle.bot_requests.specs.declared.hands.Hands.{Hands}
 use Rattle.sw_base.specs.Dialers.{DialerState}
 use Rattle.bot_turns.proofs.SplitLemmas.{take_next, parts_at}
 use Rattle.bot_turns.specs.Outputs.{UploadsOutput, UploadsAll, UploadEnds, with_optional_file, then_file}

@@ -2,17 +2,13 @@
 use Rattle.std.specs.Prelude.{◌≡◌, ℕ, ◌-◌, ◌&&◌, nat_le, Bool, true, false, List, [], ◌∷◌, length, map, Option, Some, None, Result, Ok, Err, if◌then◌else◌}
 use Rattle.std.specs.Map.{remove_entry}
 use Rattle.std.specs.Str.{bytes_eq}
-use Rattle.task_props.specs.declared.cache.Cache.{Cache}
-use Rattle.task_props.specs.declared.properties.Properties.{Properties}
-use Rattle.sw_base.specs.declared.start_fault.StartFault.{StartFault}
+use Rattle.bot_turns.specs.Types.{Cache, Properties, StartFault, BotEvent, Hands}
 use Rattle.sw_base.specs.declared.start_fault.StartFault.TheVariants as start
 use Rattle.named_caches.specs.Caches.{Caches}
 use Rattle.runners.specs.declared.cache.CachePath.{CachePath}
 use Rattle.runners.specs.declared.call.RunnerCall.TheVariants as call
 use Rattle.runners.specs.Calls.{RunnerState, Performs, Cleans}
-use Rattle.bot_core.specs.declared.bot_event.BotEvent.{BotEvent}
 use Rattle.bot_core.specs.declared.bot_event.BotEvent.TheVariants as event
-use Rattle.bot_requests.specs.declared.hands.Hands.{Hands}
 use Rattle.bot_turns.specs.ServerTurns.{AreCacheNames, OfRun}
 
 -- ---- the table

@@ -1,18 +1,12 @@
 -- The turns of the child: Start, Look and Signal.
 use Rattle.std.specs.Prelude.{◌≡◌, ℕ, ◌-◌, List, ◌++◌, length, take, Option, Some, None, Result, Ok, Err}
-use Rattle.task_props.specs.declared.properties.Properties.{Properties}
-use Rattle.sw_base.specs.declared.failed.Failed.{Failed}
-use Rattle.sw_base.specs.declared.start_fault.StartFault.{StartFault}
+use Rattle.bot_turns.specs.Types.{Properties, Failed, StartFault, Look, Signal, BotEvent, Hands}
 use Rattle.sw_base.specs.declared.start_fault.StartFault.TheVariants as start
-use Rattle.runners.specs.declared.answer.Look.{Look}
 use Rattle.runners.specs.declared.answer.Look.TheVariants as look
 use Rattle.runners.specs.declared.call.RunnerCall.TheVariants as call
 use Rattle.runners.specs.Calls.{RunnerState, Performs, Signals, Looks}
-use Rattle.bot_core.specs.declared.action.Signal.{Signal}
-use Rattle.bot_core.specs.declared.bot_event.BotEvent.{BotEvent}
 use Rattle.bot_core.specs.declared.bot_event.BotEvent.TheVariants as event
 use Rattle.bot_core.specs.RunChanges.{most_pending}
-use Rattle.bot_requests.specs.declared.hands.Hands.{Hands}
 use Rattle.bot_turns.specs.ServerTurns.{OfRun}
 
 -- ---- Start

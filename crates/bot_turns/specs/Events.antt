@@ -1,15 +1,11 @@
 -- The events of a bot, by what the calls of an action came to.
 use Rattle.std.specs.Prelude.{ℕ, ◌&&◌, nat_le, Bool, true, false, Option, Some, None}
-use Rattle.refusal_codes.specs.declared.refusal_code.RefusalCode.{RefusalCode}
+use Rattle.bot_turns.specs.Types.{RefusalCode, Reply, Exchanged, Action, BotEvent}
 use Rattle.refusal_codes.specs.Codes.{code_number}
-use Rattle.swarm_model.specs.declared.reply.Reply.{Reply}
 use Rattle.swarm_model.specs.declared.reply.Reply.TheVariants as reply
 use Rattle.server_calls.specs.declared.told.Told.TheVariants as told
-use Rattle.server_calls.specs.declared.exchanged.Exchanged.{Exchanged}
 use Rattle.server_calls.specs.declared.exchanged.Exchanged.TheVariants as exchanged
-use Rattle.bot_core.specs.declared.action.Action.{Action}
 use Rattle.bot_core.specs.declared.action.Action.TheVariants as action
-use Rattle.bot_core.specs.declared.bot_event.BotEvent.{BotEvent}
 use Rattle.bot_core.specs.declared.bot_event.BotEvent.TheVariants as event
 use Rattle.bot_core.specs.Table.{is_transient}
 

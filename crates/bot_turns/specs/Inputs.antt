@@ -2,25 +2,18 @@
 use Rattle.std.specs.Prelude.{◌≡◌, ℕ, List, [], ◌∷◌, ◌++◌, Option, Some, None, is_some, Result, Ok, Err, if◌then◌else◌}
 use Rattle.std.specs.Map.{lookup, remove_entry}
 use Rattle.std.specs.Str.{bytes_eq}
-use Rattle.refusal_codes.specs.declared.refusal_code.RefusalCode.{RefusalCode}
-use Rattle.task_props.specs.declared.cache.Cache.{Cache}
-use Rattle.task_props.specs.declared.file.File.{File}
-use Rattle.task_props.specs.declared.properties.Properties.{Properties}
-use Rattle.sw_base.specs.declared.start_fault.StartFault.{StartFault}
+use Rattle.bot_turns.specs.Types.{RefusalCode, Cache, File, Properties, StartFault, Exchanged, BotEvent, Hands}
 use Rattle.sw_base.specs.declared.start_fault.StartFault.TheVariants as start
 use Rattle.sw_base.specs.Dialers.{DialerState}
 use Rattle.swarm_model.specs.declared.reply.Reply.TheVariants as reply
 use Rattle.routes.specs.declared.route.Route.TheVariants as route
 use Rattle.server_calls.specs.declared.told.Told.TheVariants as told
-use Rattle.server_calls.specs.declared.exchanged.Exchanged.{Exchanged}
 use Rattle.server_calls.specs.declared.exchanged.Exchanged.TheVariants as exchanged
 use Rattle.runners.specs.declared.cache.PreparedCache.{PreparedCache}
 use Rattle.runners.specs.declared.call.RunnerCall.TheVariants as call
 use Rattle.runners.specs.Calls.{RunnerState, Performs}
-use Rattle.bot_core.specs.declared.bot_event.BotEvent.{BotEvent}
 use Rattle.bot_core.specs.declared.bot_event.BotEvent.TheVariants as event
 use Rattle.bot_core.specs.Table.{is_transient}
-use Rattle.bot_requests.specs.declared.hands.Hands.{Hands}
 use Rattle.bot_requests.specs.Requests.{get_blob_text}
 use Rattle.bot_turns.specs.Events.{refusal_event}
 use Rattle.bot_turns.specs.ServerTurns.{AsksServer, OfRun}

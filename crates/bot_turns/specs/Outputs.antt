@@ -1,21 +1,16 @@
 -- Upload: the outputs of the run are collected and put, in order.
 use Rattle.std.specs.Prelude.{◌≡◌, ℕ, List, [], ◌∷◌, ◌++◌, length, Option, Some, None, Result, Ok, Err}
 use Rattle.sha2.specs.Sha256.{sha256}
-use Rattle.task_props.specs.declared.file.File.{File}
+use Rattle.bot_turns.specs.Types.{File, Reply, Exchanged, CollectFault, BotEvent, Hands}
 use Rattle.sw_base.specs.Dialers.{DialerState}
-use Rattle.swarm_model.specs.declared.reply.Reply.{Reply}
 use Rattle.swarm_model.specs.declared.reply.Reply.TheVariants as reply
 use Rattle.routes.specs.declared.route.Route.TheVariants as route
 use Rattle.server_calls.specs.declared.told.Told.TheVariants as told
-use Rattle.server_calls.specs.declared.exchanged.Exchanged.{Exchanged}
 use Rattle.server_calls.specs.declared.exchanged.Exchanged.TheVariants as exchanged
 use Rattle.runners.specs.declared.call.RunnerCall.TheVariants as call
-use Rattle.runners.specs.declared.collect_fault.CollectFault.{CollectFault}
 use Rattle.runners.specs.declared.collect_fault.CollectFault.TheVariants as fault
 use Rattle.runners.specs.Calls.{RunnerState, CollectsFile}
-use Rattle.bot_core.specs.declared.bot_event.BotEvent.{BotEvent}
 use Rattle.bot_core.specs.declared.bot_event.BotEvent.TheVariants as event
-use Rattle.bot_requests.specs.declared.hands.Hands.{Hands}
 use Rattle.bot_requests.specs.Requests.{put_blob_text}
 use Rattle.bot_turns.specs.Events.{refusal_event}
 use Rattle.bot_turns.specs.ServerTurns.{AsksServer, OfRun}

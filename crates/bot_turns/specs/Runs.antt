@@ -1,20 +1,13 @@
 -- The run of a bot: turns, one after the other, up to its stop.
 use Rattle.std.specs.Prelude.{◌≡◌, ℕ, ◌≤◌, Bool, true, false, not, List, [], ◌∷◌, length, Some, is_some}
 use Rattle.sw_base.specs.Clock.{HandsIn}
-use Rattle.bot_core.specs.declared.action.Action.{Action}
+use Rattle.bot_turns.specs.Types.{Action, BotEvent, BotLimits, BotState, Phase, Awaited, Begin, Answer, Slept, Hands}
 use Rattle.bot_core.specs.declared.action.Action.TheVariants as action
-use Rattle.bot_core.specs.declared.bot_event.BotEvent.{BotEvent}
 use Rattle.bot_core.specs.declared.bot_event.BotEvent.TheVariants as event
-use Rattle.bot_core.specs.declared.bot_limits.BotLimits.{BotLimits}
-use Rattle.bot_core.specs.declared.bot_state.BotState.{BotState}
-use Rattle.bot_core.specs.declared.bot_state.Phase.{Phase}
 use Rattle.bot_core.specs.declared.bot_state.Phase.TheVariants as phase
-use Rattle.bot_core.specs.declared.bot_state.Awaited.{Awaited}
-use Rattle.bot_core.specs.declared.bot_state.Awaited.TheVariants.{Begin, Answer, Slept}
 use Rattle.bot_core.specs.RunChanges.{most_pending}
 use Rattle.bot_core.specs.States.{states_after}
 use Rattle.bot_core.specs.Table.{opening, action_of, stepped, is_stop}
-use Rattle.bot_requests.specs.declared.hands.Hands.{Hands}
 use Rattle.bot_turns.specs.declared.stopped.Stopped.{Stopped}
 use Rattle.bot_turns.specs.Turns.{BotWorld, IsTurnOf}
 

@@ -1,21 +1,17 @@
 -- The turns of one request: Handshake, Poll, Claim and Send.
 use Rattle.std.specs.Prelude.{◌≡◌, ℕ, List, [], Option, Some, None, IsSorted, IsPermutation}
 use Rattle.dimensions.specs.Order.{text_cmp}
-use Rattle.task_props.specs.declared.properties.Properties.{Properties}
+use Rattle.bot_turns.specs.Types.{Properties, Reply, Exchanged, BotEvent, Hands}
 use Rattle.sw_base.specs.Dialers.{DialerState}
-use Rattle.swarm_model.specs.declared.reply.Reply.{Reply}
 use Rattle.swarm_model.specs.declared.reply.Reply.TheVariants as reply
 use Rattle.json_fields.specs.Ids.{run_id}
 use Rattle.routes.specs.declared.route.Route.{Route}
 use Rattle.routes.specs.declared.route.Route.TheVariants as route
 use Rattle.server_calls.specs.declared.told.Told.TheVariants as told
-use Rattle.server_calls.specs.declared.exchanged.Exchanged.{Exchanged}
 use Rattle.server_calls.specs.declared.exchanged.Exchanged.TheVariants as exchanged
 use Rattle.server_calls.specs.Exchanges.{IsExchanged}
 use Rattle.named_caches.specs.Caches.{Caches, names_of}
 use Rattle.bot_core.specs.declared.action.End.{End}
-use Rattle.bot_core.specs.declared.bot_event.BotEvent.{BotEvent}
-use Rattle.bot_requests.specs.declared.hands.Hands.{Hands}
 use Rattle.bot_requests.specs.Requests.{handshake_text, poll_text, claim_text, update_text}
 use Rattle.bot_turns.specs.Events.{exchange_event, handshake_event, poll_event, claim_event, update_event}
 

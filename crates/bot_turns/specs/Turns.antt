@@ -3,12 +3,10 @@ use Rattle.std.specs.Prelude.{◌≡◌, ℕ, ◌≤◌, List, length, Option, I
 use Rattle.sw_base.specs.Clock.{Waits}
 use Rattle.sw_base.specs.Dialers.{DialerState}
 use Rattle.runners.specs.Calls.{RunnerState}
-use Rattle.bot_core.specs.declared.action.Action.{Action}
+use Rattle.bot_turns.specs.Types.{Action, BotEvent, Hands}
 use Rattle.bot_core.specs.declared.action.Action.TheVariants as action
-use Rattle.bot_core.specs.declared.bot_event.BotEvent.{BotEvent}
 use Rattle.bot_core.specs.declared.bot_event.BotEvent.TheVariants as event
 use Rattle.bot_core.specs.RunChanges.{most_pending}
-use Rattle.bot_requests.specs.declared.hands.Hands.{Hands}
 use Rattle.bot_turns.specs.ServerTurns.{IsHandshakeTurn, IsPollTurn, IsClaimTurn, IsSendTurn}
 use Rattle.bot_turns.specs.Inputs.{IsPrepareTurn}
 use Rattle.bot_turns.specs.Outputs.{IsUploadTurn}

@@ -4,15 +4,9 @@ use Rattle.std.specs.List.{AllByRecursion}
 use Rattle.std.specs.Option.{option_to_list}
 use Rattle.std.proofs.lemmas.List.{append_assoc}
 use Rattle.std.proofs.lemmas.Option.{same_Some}
-use Rattle.task_props.specs.declared.properties.Properties.{Properties}
-use Rattle.swarm_model.specs.declared.attempt.Chunk.{Chunk}
-use Rattle.swarm_model.specs.declared.attempt.Last.{Last}
-use Rattle.swarm_model.specs.declared.entry.Entry.{Entry}
+use Rattle.bot_worlds.specs.Types.{Properties, Chunk, Last, Entry, PoolState, Reply, Request}
 use Rattle.swarm_model.specs.declared.entry.EntryKind.TheVariants as kind
-use Rattle.swarm_model.specs.declared.pool_state.PoolState.{PoolState}
-use Rattle.swarm_model.specs.declared.reply.Reply.{Reply}
 use Rattle.swarm_model.specs.declared.reply.Reply.TheVariants as reply
-use Rattle.swarm_model.specs.declared.request.Request.{Request}
 use Rattle.swarm_model.specs.declared.request.Request.TheVariants as ask
 use Rattle.swarm_model.specs.declared.rule.Rule.TheVariants as rule
 use Rattle.swarm_model.specs.Answers.{answer}

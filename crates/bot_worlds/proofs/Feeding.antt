@@ -3,17 +3,13 @@ use Rattle.std.proofs.Common.{◌≡◌, ◌⊎◌, inl, inr, ℕ, ◌+◌, ◌<
 use Rattle.std.specs.Prelude.{slice_get}
 use Rattle.std.specs.Option.{option_map}
 use Rattle.bot_core.specs.declared.action.Action.TheVariants as action
-use Rattle.bot_core.specs.declared.bot_event.BotEvent.{BotEvent}
+use Rattle.bot_worlds.specs.Types.{BotEvent, BotState, Phase, Chunk, Last}
 use Rattle.bot_core.specs.declared.bot_event.BotEvent.TheVariants as event
-use Rattle.bot_core.specs.declared.bot_state.BotState.{BotState}
-use Rattle.bot_core.specs.declared.bot_state.Phase.{Phase}
 use Rattle.bot_core.specs.declared.bot_state.Phase.TheVariants as phase
 use Rattle.bot_core.specs.Bounds.{InBounds}
 use Rattle.bot_core.specs.Output.{output_start, waiting_at, waiting_after, wrote_after, HasBytes}
 use Rattle.bot_core.specs.Table.{stepped, next_state, issue_action, is_stop, is_transient, sends_request, phase_action, action_of}
 use Rattle.bot_core.proofs.StateBounds.{stepped_keeps}
-use Rattle.swarm_model.specs.declared.attempt.Chunk.{Chunk}
-use Rattle.swarm_model.specs.declared.attempt.Last.{Last}
 use Rattle.pool_laws.proofs.Lists.{Among, among_left, among_either}
 use Rattle.bot_worlds.specs.declared.child_run.ChildRun.{ChildRun}
 use Rattle.bot_worlds.specs.declared.sent.Sent.{Sent}

@@ -3,13 +3,8 @@ use Rattle.std.proofs.Common.{◌≡◌, inl, inr, ℕ, zero, suc, ◌+◌, ◌�
 use Rattle.std.specs.Prelude.{slice_get}
 use Rattle.std.proofs.lemmas.List.{take-append-le}
 use Rattle.sha2.specs.Sha256.{sha256}
-use Rattle.bot_core.specs.declared.bot_state.BotState.{BotState}
+use Rattle.bot_worlds.specs.Types.{BotState, Chunk, Last, Entry, Reply, Request}
 use Rattle.bot_core.specs.Output.{OutputState, OutputEvent, OutputStep, OutputSteps}
-use Rattle.swarm_model.specs.declared.attempt.Chunk.{Chunk}
-use Rattle.swarm_model.specs.declared.attempt.Last.{Last}
-use Rattle.swarm_model.specs.declared.entry.Entry.{Entry}
-use Rattle.swarm_model.specs.declared.reply.Reply.{Reply}
-use Rattle.swarm_model.specs.declared.request.Request.{Request}
 use Rattle.pool_laws.proofs.Lists.{Among}
 use Rattle.pool_laws.proofs.Lists.Among.{here, later}
 use Rattle.bot_worlds.specs.declared.child_run.ChildRun.{ChildRun}

@@ -1,13 +1,9 @@
 -- What a step of the bot does to each part of what stands.
 use Rattle.std.proofs.Common.{◌≡◌, inl, inr, ℕ, ◌+◌, ◌<◌, ◌^◌, true, false, List, [], ◌∷◌, ◌++◌, Option, Some, None, IfSome, refl, ap, sym, ◌∙◌, subst, arith}
-use Rattle.bot_core.specs.declared.bot_event.BotEvent.{BotEvent}
+use Rattle.bot_worlds.specs.Types.{BotEvent, BotState, Phase, Chunk, Last}
 use Rattle.bot_core.specs.declared.bot_event.BotEvent.TheVariants as event
-use Rattle.bot_core.specs.declared.bot_state.BotState.{BotState}
-use Rattle.bot_core.specs.declared.bot_state.Phase.{Phase}
 use Rattle.bot_core.specs.declared.bot_state.Phase.TheVariants as phase
 use Rattle.bot_requests.specs.Bodies.{claim_name}
-use Rattle.swarm_model.specs.declared.attempt.Chunk.{Chunk}
-use Rattle.swarm_model.specs.declared.attempt.Last.{Last}
 use Rattle.pool_laws.proofs.Lists.{Among}
 use Rattle.pool_laws.proofs.Lists.Among.{here, later}
 use Rattle.bot_worlds.specs.declared.child_run.ChildRun.{ChildRun}

@@ -2,15 +2,10 @@
 use Rattle.std.proofs.Common.{◌≡◌, ◌⊎◌, inl, inr, ℕ, ◌+◌, Bool, true, false, ◌&&◌, if◌then◌else◌, nat_le, Option, Some, None, IfSome, refl, sym, ◌∙◌, subst}
 use Rattle.std.specs.Option.{option_map}
 use Rattle.bot_core.specs.declared.action.StopWhy.TheVariants as why
-use Rattle.bot_core.specs.declared.action.Action.{Action}
+use Rattle.bot_worlds.specs.Types.{Action, BotEvent, BotState, Phase, Awaited, Begin, Answer, Slept}
 use Rattle.bot_core.specs.declared.action.Action.TheVariants as action
-use Rattle.bot_core.specs.declared.bot_event.BotEvent.{BotEvent}
 use Rattle.bot_core.specs.declared.bot_event.BotEvent.TheVariants as event
-use Rattle.bot_core.specs.declared.bot_state.BotState.{BotState}
-use Rattle.bot_core.specs.declared.bot_state.Phase.{Phase}
 use Rattle.bot_core.specs.declared.bot_state.Phase.TheVariants as phase
-use Rattle.bot_core.specs.declared.bot_state.Awaited.{Awaited}
-use Rattle.bot_core.specs.declared.bot_state.Awaited.TheVariants.{Begin, Answer, Slept}
 use Rattle.bot_core.specs.Table.{enter_stop, enter_sleep, is_stop, sends_request, is_transient, after_answer, after_begin, after_sleep, after_event, phase_action, action_of, record_action, count_step, issue_action, stepped}
 
 -- behind a step the bot has the same action before it, or has stopped and sends nothing

@@ -1,11 +1,7 @@
 -- The requests of phases.
 use Rattle.std.proofs.Common.{◌≡◌, ℕ, true, List, Some, refl, ap, sym, ◌∙◌}
-use Rattle.dimensions.specs.declared.bot_dims.BotDims.{BotDims}
-use Rattle.bot_core.specs.declared.bot_state.BotState.{BotState}
-use Rattle.bot_core.specs.declared.bot_state.Phase.{Phase}
+use Rattle.bot_worlds.specs.Types.{BotDims, BotState, Phase, Awaited, Begin, Answer, Slept}
 use Rattle.bot_core.specs.declared.bot_state.Phase.TheVariants as phase
-use Rattle.bot_core.specs.declared.bot_state.Awaited.{Awaited}
-use Rattle.bot_core.specs.declared.bot_state.Awaited.TheVariants.{Begin, Answer, Slept}
 use Rattle.bot_core.specs.Output.{waiting_at}
 use Rattle.bot_core.specs.Table.{sends_request, phase_action, awaited_action}
 use Rattle.bot_worlds.specs.declared.child_run.ChildRun.{ChildRun}

@@ -3,21 +3,13 @@ use Rattle.std.proofs.Common.{◌≡◌, ◌⊎◌, inl, inr, ℕ, ◌+◌, ◌�
 use Rattle.std.specs.Prelude.{slice_get}
 use Rattle.std.specs.Option.{option_map}
 use Rattle.sha2.specs.Sha256.{sha256}
-use Rattle.dimensions.specs.declared.bot_dims.BotDims.{BotDims}
-use Rattle.bot_core.specs.declared.action.Action.{Action}
+use Rattle.bot_worlds.specs.Types.{BotDims, Action, End, BotState, Phase, Awaited, Begin, Answer, Slept, Chunk, Last}
 use Rattle.bot_core.specs.declared.action.Action.TheVariants as action
-use Rattle.bot_core.specs.declared.action.End.{End}
-use Rattle.bot_core.specs.declared.bot_state.BotState.{BotState}
-use Rattle.bot_core.specs.declared.bot_state.Phase.{Phase}
 use Rattle.bot_core.specs.declared.bot_state.Phase.TheVariants as phase
-use Rattle.bot_core.specs.declared.bot_state.Awaited.{Awaited}
-use Rattle.bot_core.specs.declared.bot_state.Awaited.TheVariants.{Begin, Answer, Slept}
 use Rattle.bot_core.specs.Output.{CarriesOutput}
 use Rattle.bot_core.specs.Table.{is_stop, phase_action, awaited_action, action_of}
 use Rattle.bot_core.proofs.OutputLemmas.{all_carry}
 use Rattle.bot_requests.specs.Bodies.{session_name, claim_name}
-use Rattle.swarm_model.specs.declared.attempt.Chunk.{Chunk}
-use Rattle.swarm_model.specs.declared.attempt.Last.{Last}
 use Rattle.swarm_model.specs.declared.request.Request.TheVariants as ask
 use Rattle.bot_worlds.specs.declared.child_run.ChildRun.{ChildRun}
 use Rattle.bot_worlds.specs.declared.sent.Sent.{Sent}

@@ -5,21 +5,14 @@ use Rattle.std.specs.Option.{option_map_or}
 use Rattle.std.proofs.lemmas.Bool.{and_parts}
 use Rattle.std.proofs.lemmas.Option.{same_Some}
 use Rattle.sha2.specs.Sha256.{sha256}
-use Rattle.bot_core.specs.declared.bot_event.BotEvent.{BotEvent}
+use Rattle.bot_worlds.specs.Types.{BotEvent, BotState, Phase, Chunk, Last, Entry, Reply, Request}
 use Rattle.bot_core.specs.declared.bot_event.BotEvent.TheVariants as event
-use Rattle.bot_core.specs.declared.bot_state.BotState.{BotState}
-use Rattle.bot_core.specs.declared.bot_state.Phase.{Phase}
 use Rattle.bot_core.specs.declared.bot_state.Phase.TheVariants as phase
 use Rattle.bot_core.specs.Output.{HasBytes}
 use Rattle.bot_core.specs.Table.{stepped, is_transient, phase_action}
 use Rattle.bot_requests.specs.Bodies.{claim_name}
-use Rattle.swarm_model.specs.declared.attempt.Chunk.{Chunk}
-use Rattle.swarm_model.specs.declared.attempt.Last.{Last}
-use Rattle.swarm_model.specs.declared.entry.Entry.{Entry}
 use Rattle.swarm_model.specs.declared.entry.EntryKind.TheVariants as kind
-use Rattle.swarm_model.specs.declared.reply.Reply.{Reply}
 use Rattle.swarm_model.specs.declared.reply.Reply.TheVariants as reply
-use Rattle.swarm_model.specs.declared.request.Request.{Request}
 use Rattle.swarm_model.specs.declared.request.Request.TheVariants as ask
 use Rattle.swarm_model.specs.Fits.{fits}
 use Rattle.swarm_model.specs.History.{IsLegal}

@@ -1,21 +1,13 @@
 -- What holds between the two ends, at any time.
 use Rattle.std.specs.Prelude.{◌≡◌, ◌⊎◌, ℕ, ◌+◌, ◌≤◌, ◌<◌, ◌^◌, Bool, true, List, [], ◌∷◌, ◌++◌, length, take, drop, Option, Some, None, IfSome, ⊤, slice_get}
 use Rattle.sha2.specs.Sha256.{sha256}
-use Rattle.bot_core.specs.declared.bot_limits.BotLimits.{BotLimits}
-use Rattle.bot_core.specs.declared.bot_state.BotState.{BotState}
+use Rattle.bot_worlds.specs.Types.{BotLimits, BotState, Properties, Chunk, Last, Entry, PoolState, Reply, Request}
 use Rattle.bot_core.specs.Bounds.{InBounds}
 use Rattle.bot_core.specs.Output.{OutputEvent, OutputSteps, output_start}
 use Rattle.bot_core.specs.Table.{phase_action}
 use Rattle.bot_requests.specs.Bodies.{claim_name}
-use Rattle.task_props.specs.declared.properties.Properties.{Properties}
-use Rattle.swarm_model.specs.declared.attempt.Chunk.{Chunk}
-use Rattle.swarm_model.specs.declared.attempt.Last.{Last}
-use Rattle.swarm_model.specs.declared.entry.Entry.{Entry}
 use Rattle.swarm_model.specs.declared.entry.EntryKind.TheVariants as kind
-use Rattle.swarm_model.specs.declared.pool_state.PoolState.{PoolState}
-use Rattle.swarm_model.specs.declared.reply.Reply.{Reply}
 use Rattle.swarm_model.specs.declared.reply.Reply.TheVariants as reply
-use Rattle.swarm_model.specs.declared.request.Request.{Request}
 use Rattle.swarm_model.specs.declared.request.Request.TheVariants as ask
 use Rattle.swarm_model.specs.BaseRules.{IsBase}
 use Rattle.swarm_model.specs.Bases.{Base}

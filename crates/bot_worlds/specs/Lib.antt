@@ -1,3 +1,4 @@
+pub mod Types
 pub mod World
 pub mod Pool
 pub mod Turns

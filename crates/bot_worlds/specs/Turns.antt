@@ -4,14 +4,11 @@ use Rattle.std.specs.Bool.{MatchBool}
 use Rattle.std.specs.List.{AllByRecursion}
 use Rattle.std.specs.Option.{option_map_or}
 use Rattle.refusal_codes.specs.Codes.{code_number}
-use Rattle.bot_core.specs.declared.bot_event.BotEvent.{BotEvent}
+use Rattle.bot_worlds.specs.Types.{BotEvent, Entry, Reply, Request}
 use Rattle.bot_core.specs.declared.bot_event.BotEvent.TheVariants as event
 use Rattle.bot_core.specs.Table.{is_transient}
 use Rattle.reply_bodies.specs.Refusals.{code_of}
-use Rattle.swarm_model.specs.declared.entry.Entry.{Entry}
-use Rattle.swarm_model.specs.declared.reply.Reply.{Reply}
 use Rattle.swarm_model.specs.declared.reply.Reply.TheVariants as reply
-use Rattle.swarm_model.specs.declared.request.Request.{Request}
 use Rattle.swarm_model.specs.declared.request.Request.TheVariants as ask
 use Rattle.swarm_model.specs.Bases.{Base}
 use Rattle.swarm_model.specs.Entries.{is_deadline}

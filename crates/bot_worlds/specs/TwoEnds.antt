@@ -2,11 +2,7 @@
 -- their commands were started.
 use Rattle.std.specs.Prelude.{◌≡◌, ◌≢◌, ◌⊎◌, ℕ, ◌≤◌, ◌<◌, ◌^◌, List, [], length, Some, None, IfSome, slice_get}
 use Rattle.std.specs.List.{All, AllPairs}
-use Rattle.bot_core.specs.declared.bot_limits.BotLimits.{BotLimits}
-use Rattle.dimensions.specs.declared.bot_dims.BotDims.{BotDims}
-use Rattle.swarm_model.specs.declared.attempt.Attempt.{Attempt}
-use Rattle.swarm_model.specs.declared.entry.Entry.{Entry}
-use Rattle.swarm_model.specs.declared.task_row.TaskRow.{TaskRow}
+use Rattle.bot_worlds.specs.Types.{BotLimits, BotDims, Attempt, Entry, TaskRow}
 use Rattle.swarm_model.specs.BaseRules.{IsBase}
 use Rattle.swarm_model.specs.Bases.{Base}
 use Rattle.swarm_model.specs.Finding.{bot_named, task_of}

@@ -2,9 +2,7 @@
 use Rattle.std.proofs.Common.{ℕ, ◌≤◌, [], ◌∷◌, map, length, length-append, arith, Option, Some, None}
 use Rattle.std.specs.Option.{option_map_or}
 use Rattle.std.proofs.lemmas.List.{length-map}
-use Rattle.swarm_model.specs.declared.bot_row.BotRow.{BotRow}
-use Rattle.swarm_model.specs.declared.pool_state.PoolState.{PoolState}
-use Rattle.swarm_model.specs.declared.entry.EntryKind.{EntryKind}
+use Rattle.index_laws.specs.Types.{BotRow, PoolState, EntryKind}
 use Rattle.swarm_model.specs.declared.entry.EntryKind.TheVariants as kind
 use Rattle.swarm_model.specs.Finding.{bot_of}
 use Rattle.swarm_model.specs.Effects.{session_row, task_after, added_tasks, bot_after, added_bots}

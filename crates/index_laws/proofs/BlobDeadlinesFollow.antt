@@ -4,12 +4,8 @@ use Rattle.std.specs.List.{count_by, filter}
 use Rattle.std.specs.Option.{option_map, option_map_or, option_and_then}
 use Rattle.std.proofs.lemmas.Bool.{cases_Bool, eq-eqb, cond-false}
 use Rattle.blob_rows.proofs.Texts.{same_text}
-use Rattle.blob_rows.specs.declared.blob_row.BlobRow.{BlobRow}
+use Rattle.index_laws.specs.Types.{BlobRow, Chunk, Deadline, PoolState, EntryKind}
 use Rattle.blob_rows.specs.BlobRows.{BlobRowsState, has_digest, is_blob, is_other, blob_of, renewed, renewed_until, longer_kept, place_for, new_blob, put}
-use Rattle.swarm_model.specs.declared.attempt.Chunk.{Chunk}
-use Rattle.swarm_model.specs.declared.deadline.Deadline.{Deadline}
-use Rattle.swarm_model.specs.declared.pool_state.PoolState.{PoolState}
-use Rattle.swarm_model.specs.declared.entry.EntryKind.{EntryKind}
 use Rattle.swarm_model.specs.declared.entry.EntryKind.TheVariants as kind
 use Rattle.swarm_model.specs.Deadlines.{blob_end}
 use Rattle.swarm_model.specs.Effects.{life, blobs_in, put_chunk, with_blobs, fresh_chunk, attempt_of, after}

@@ -1,9 +1,7 @@
 -- The claims that an index holds are those of the rows.
 use Rattle.std.proofs.Common.{◌≡◌, ◌↔◌, ℕ, List, [], ◌∷◌, ◌++◌, refl, sym, ◌∙◌, subst, Option, Some, None, IfSome, MatchOption}
 use Rattle.std.specs.Option.{option_map, option_and_then}
-use Rattle.swarm_model.specs.declared.task_row.TaskRow.{TaskRow}
-use Rattle.swarm_model.specs.declared.pool_state.PoolState.{PoolState}
-use Rattle.swarm_model.specs.declared.entry.EntryKind.{EntryKind}
+use Rattle.index_laws.specs.Types.{TaskRow, PoolState, EntryKind, ClaimLink}
 use Rattle.swarm_model.specs.declared.entry.EntryKind.TheVariants as kind
 use Rattle.swarm_model.specs.Finding.{task_of}
 use Rattle.swarm_model.specs.Answers.{claimed, has_claim}
@@ -14,7 +12,6 @@ use Rattle.pool_laws.proofs.Preconditions.{Finds}
 use Rattle.pool_laws.proofs.EntryPreconditions.{finds}
 use Rattle.pool_laws.proofs.Rows.{find_task}
 use Rattle.pool_laws.proofs.Claimed.{claim_keys, claim_found}
-use Rattle.pool_index.specs.declared.claim_link.ClaimLink.{ClaimLink}
 use Rattle.pool_index.specs.Claims.{HasClaim, HasNone, key_of, links_with}
 use Rattle.index_laws.specs.Keys.{IsKnown}
 use Rattle.index_laws.specs.TaskClaims.{Claimed, IsClaimOf, claim_to_come, claim_link, AreClaims, ClaimsFollow, ClaimsAreFresh, ClaimIsFound}

@@ -1,7 +1,6 @@
 -- The count of a state is a sum over the rows.
 use Rattle.std.proofs.Common.{◌≡◌, ℕ, cond, refl, arith, Option, Some, None}
-use Rattle.swarm_model.specs.declared.task_state.TaskState.{TaskState}
-use Rattle.swarm_model.specs.declared.task_row.TaskRow.{TaskRow}
+use Rattle.index_laws.specs.Types.{TaskState, TaskRow}
 use Rattle.swarm_model.specs.Finding.{has_state}
 use Rattle.index_laws.specs.Touched.{touched_task}
 use Rattle.index_laws.specs.StateCounts.{touched_row, count_of_row, CountsFollow}

@@ -5,10 +5,7 @@ use Rattle.std.specs.Option.{option_and_then}
 use Rattle.std.proofs.lemmas.Bool.{cases_Bool, cond-true, cond-false, cond_both, false_from_ne_true}
 use Rattle.std.proofs.lemmas.List.{append_assoc}
 use Rattle.std.proofs.lemmas.List.Sums.{fold-append}
-use Rattle.swarm_model.specs.declared.task_state.TaskState.TheVariants.{Pending, Running}
-use Rattle.swarm_model.specs.declared.task_row.TaskRow.{TaskRow}
-use Rattle.swarm_model.specs.declared.pool_state.PoolState.{PoolState}
-use Rattle.swarm_model.specs.declared.deadline.Deadline.{Deadline}
+use Rattle.index_laws.specs.Types.{Pending, Running, TaskRow, PoolState, Deadline}
 use Rattle.swarm_model.specs.Finding.{has_state, state_place}
 use Rattle.swarm_model.specs.Deadlines.{is_earlier, earlier, sooner, slice_end, silence_end, bot_end, blob_end, deadlines}
 use Rattle.swarm_model.specs.Effects.{no_of_task, no_of_bot}

@@ -6,19 +6,13 @@ use Rattle.std.specs.Option.{option_map, option_and_then}
 use Rattle.std.proofs.lemmas.Bool.{cases_Bool, cond-true, cond-false, false≢true, and_parts, and_from}
 use Rattle.std.proofs.lemmas.Bool.Decides.{nat_tests}
 use Rattle.std.proofs.lemmas.Option.{same_Some}
-use Rattle.dim_queue.specs.declared.queue_set.QueueSet.{QueueSet}
-use Rattle.dimensions.specs.declared.bot_dims.BotDims.{BotDims}
+use Rattle.index_laws.specs.Types.{QueueSet, BotDims, Slice, Pending, TaskRow, PoolState, Waiting}
 use Rattle.dimensions.specs.Matching.{matches}
-use Rattle.task_props.specs.declared.slice.Slice.{Slice}
-use Rattle.swarm_model.specs.declared.task_state.TaskState.TheVariants.{Pending}
-use Rattle.swarm_model.specs.declared.task_row.TaskRow.{TaskRow}
-use Rattle.swarm_model.specs.declared.pool_state.PoolState.{PoolState}
 use Rattle.swarm_model.specs.Finding.{has_state, task_of}
 use Rattle.swarm_model.specs.Slices.{current_slice, takes_slice, is_kept_from, waits_for, goes_before, foremost, first}
 use Rattle.swarm_model.specs.Soundness.{IsSound}
 use Rattle.pool_laws.proofs.Lists.{Among, here, later, filter_is, filter_has}
 use Rattle.pool_laws.proofs.Rows.{one_task, find_task}
-use Rattle.dim_queue.specs.declared.waiting.Waiting.{Waiting}
 use Rattle.dim_queue.specs.Order.{goes_first}
 use Rattle.dim_queue.specs.Taking.{taker, may_take}
 use Rattle.dim_queue.specs.Plain.{QueueState, Waits, IsNextOf}

@@ -6,21 +6,14 @@ use Rattle.std.proofs.lemmas.Option.{same_Some}
 use Rattle.std.proofs.lemmas.List.{map-append}
 use Rattle.std.proofs.lemmas.List.Sums.{sum_by_push}
 use Rattle.dimensions.specs.Rules.{is_empty}
-use Rattle.swarm_model.specs.declared.attempt.Attempt.{Attempt}
-use Rattle.swarm_model.specs.declared.retried.Retried.{Retried}
-use Rattle.swarm_model.specs.declared.task_row.TaskRow.{TaskRow}
-use Rattle.swarm_model.specs.declared.pool_state.PoolState.{PoolState}
-use Rattle.swarm_model.specs.declared.deadline.Deadline.{Deadline}
+use Rattle.index_laws.specs.Types.{Attempt, Retried, TaskRow, PoolState, Deadline, QueueSet, Waiting, ClaimLink}
 use Rattle.swarm_model.specs.Numbers.{AreNumbered}
 use Rattle.swarm_model.specs.Deadlines.{bot_end, blob_end}
 use Rattle.swarm_model.specs.Effects.{no_of_task, no_of_bot}
 use Rattle.swarm_model.specs.Soundness.{IsRightTry, key_of, claim_key, lost_key, sent_key, AreClaimedApart, AreSentApart}
 use Rattle.swarm_model.specs.Soundness as soundness
 use Rattle.pool_laws.proofs.Lists.{Among, here, each, each_append, each_one, among_left, among_right, number_finds, number_within, find_is, find_none, Found, has_number}
-use Rattle.dim_queue.specs.declared.queue_set.QueueSet.{QueueSet}
-use Rattle.dim_queue.specs.declared.waiting.Waiting.{Waiting}
 use Rattle.dim_queue.specs.Plain.{Enters, SameWaits}
-use Rattle.pool_index.specs.declared.claim_link.ClaimLink.{ClaimLink}
 use Rattle.pool_index.specs.Claims as claims
 use Rattle.pool_index.specs.Uuids as uuids
 use Rattle.pool_index.specs.Links.{links_with}

@@ -1,10 +1,7 @@
 -- A run that is lost and tried again is the only one of its task.
 use Rattle.std.proofs.Common.{◌≡◌, ◌==◌, not, true, refl, arith, Option, Some, None, IfSome, eqb-true}
 use Rattle.std.proofs.lemmas.Bool.{and_parts}
-use Rattle.swarm_model.specs.declared.attempt.Attempt.{Attempt}
-use Rattle.swarm_model.specs.declared.retried.Retried.{Retried}
-use Rattle.swarm_model.specs.declared.task_row.TaskRow.{TaskRow}
-use Rattle.swarm_model.specs.declared.pool_state.PoolState.{PoolState}
+use Rattle.index_laws.specs.Types.{Attempt, Retried, TaskRow, PoolState}
 use Rattle.swarm_model.specs.Effects.{is_first_run, is_idempotent, is_tried_again}
 use Rattle.swarm_model.specs.Soundness.{IsSound, IsRightTry}
 use Rattle.pool_laws.proofs.Lists.{Among}

@@ -2,13 +2,10 @@
 use Rattle.std.proofs.Common.{◌≡◌, Bool, true, false, cond, inl, inr, ap, Option, Some, None}
 use Rattle.std.specs.Option.{option_map}
 use Rattle.std.proofs.lemmas.Option.{same_Some}
-use Rattle.dim_queue.specs.declared.queue_set.QueueSet.{QueueSet}
-use Rattle.task_props.specs.declared.slice.Slice.{Slice}
-use Rattle.swarm_model.specs.declared.task_row.TaskRow.{TaskRow}
+use Rattle.index_laws.specs.Types.{QueueSet, Slice, TaskRow, Waiting}
 use Rattle.swarm_model.specs.Slices.{current_slice}
 use Rattle.swarm_model.specs.Effects.{after}
 use Rattle.pool_laws.proofs.Preconditions.{waits}
-use Rattle.dim_queue.specs.declared.waiting.Waiting.{Waiting}
 use Rattle.dim_queue.specs.Plain.{Waits}
 use Rattle.index_laws.specs.Keys.{HasKey}
 use Rattle.index_laws.specs.TaskQueues.{waiting_of, place_in, QueuesFollow}

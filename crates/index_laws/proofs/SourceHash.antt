@@ -4,16 +4,8 @@ use Rattle.std.specs.Prelude.{pos}
 use Rattle.std.specs.Option.{option_map, option_map_or, option_and_then}
 use Rattle.std.specs.Ordering.{int_eq}
 use Rattle.std.proofs.lemmas.Bool.{and_left, and_right, cond_both, cond-false}
-use Rattle.swarm_model.specs.declared.task_state.TaskState.{TaskState}
-use Rattle.swarm_model.specs.declared.task_state.TaskState.TheVariants.{Expired, Completed, BotDied, Killed, NoResource, TimedOut}
-use Rattle.swarm_model.specs.declared.attempt.Attempt.{Attempt}
-use Rattle.swarm_model.specs.declared.attempt.Chunk.{Chunk}
-use Rattle.swarm_model.specs.declared.attempt.Last.{Last}
-use Rattle.swarm_model.specs.declared.task_row.TaskRow.{TaskRow}
-use Rattle.swarm_model.specs.declared.pool_state.PoolState.{PoolState}
-use Rattle.swarm_model.specs.declared.entry.EntryKind.{EntryKind}
+use Rattle.index_laws.specs.Types.{TaskState, Expired, Completed, BotDied, Killed, NoResource, TimedOut, Attempt, Chunk, Last, TaskRow, PoolState, EntryKind, Outcome}
 use Rattle.swarm_model.specs.declared.entry.EntryKind.TheVariants as kind
-use Rattle.swarm_model.specs.declared.entry.Outcome.{Outcome}
 use Rattle.swarm_model.specs.declared.entry.Outcome.TheVariants as outcome
 use Rattle.swarm_model.specs.Numbers.{AreNumbered}
 use Rattle.swarm_model.specs.Finding.{is_state, is_final, is_task}

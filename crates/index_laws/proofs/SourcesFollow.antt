@@ -6,12 +6,7 @@ use Rattle.std.proofs.lemmas.Bool.{and_parts, and_from, cases_Bool, cond_both, c
 use Rattle.std.proofs.lemmas.Option.{same_Some}
 use Rattle.dimensions.specs.Alike.{same}
 use Rattle.task_props.specs.Canonical.{hash}
-use Rattle.task_props.specs.declared.slice.Slice.{Slice}
-use Rattle.swarm_model.specs.declared.task_state.TaskState.{TaskState}
-use Rattle.swarm_model.specs.declared.task_state.TaskState.TheVariants.{Completed}
-use Rattle.swarm_model.specs.declared.task_row.TaskRow.{TaskRow}
-use Rattle.swarm_model.specs.declared.pool_state.PoolState.{PoolState}
-use Rattle.swarm_model.specs.declared.entry.Entry.{Entry}
+use Rattle.index_laws.specs.Types.{Slice, TaskState, Completed, TaskRow, PoolState, Entry, SourceLink}
 use Rattle.swarm_model.specs.Finding.{has_state, is_state, is_final}
 use Rattle.swarm_model.specs.Slices.{current_slice}
 use Rattle.swarm_model.specs.Reuse.{ended_well, has_hash, ran_hash}
@@ -22,7 +17,6 @@ use Rattle.swarm_model.specs.Soundness.{IsSound}
 use Rattle.pool_laws.proofs.Alike.{same_is, is_same}
 use Rattle.pool_laws.proofs.EntryPreconditions.{finds}
 use Rattle.pool_laws.proofs.Numbers.{tasks_numbered}
-use Rattle.pool_index.specs.declared.source_link.SourceLink.{SourceLink}
 use Rattle.pool_index.specs.Sources.{newest_in, greater_of, IsNoted, AreWith}
 use Rattle.index_laws.specs.Touched.{touched_task}
 use Rattle.index_laws.specs.Keys.{IsKey, HasKey, KeysGrow}

@@ -3,16 +3,7 @@ use Rattle.std.proofs.Common.{◌≡◌, ℕ, ◌+◌, ◌==◌, arith, Bool, tr
 use Rattle.std.specs.Option.{option_map, option_map_or, option_and_then}
 use Rattle.std.proofs.lemmas.Bool.{eq-eqb, cond-true}
 use Rattle.std.proofs.lemmas.Option.{same_Some}
-use Rattle.task_props.specs.declared.slice.Slice.{Slice}
-use Rattle.swarm_model.specs.declared.task_state.TaskState.{TaskState}
-use Rattle.swarm_model.specs.declared.task_state.TaskState.TheVariants.{Pending, Running, BotDied}
-use Rattle.swarm_model.specs.declared.attempt.Attempt.{Attempt}
-use Rattle.swarm_model.specs.declared.attempt.Chunk.{Chunk}
-use Rattle.swarm_model.specs.declared.attempt.Last.{Last}
-use Rattle.swarm_model.specs.declared.retried.Retried.{Retried}
-use Rattle.swarm_model.specs.declared.task_row.TaskRow.{TaskRow}
-use Rattle.swarm_model.specs.declared.pool_state.PoolState.{PoolState}
-use Rattle.swarm_model.specs.declared.entry.EntryKind.{EntryKind}
+use Rattle.index_laws.specs.Types.{Slice, TaskState, Pending, Running, BotDied, Attempt, Chunk, Last, Retried, TaskRow, PoolState, EntryKind, QueueSet, Waiting}
 use Rattle.swarm_model.specs.declared.entry.EntryKind.TheVariants as kind
 use Rattle.swarm_model.specs.declared.entry.Outcome.TheVariants as outcome
 use Rattle.swarm_model.specs.Finding.{is_state, is_task, task_of}
@@ -26,8 +17,6 @@ use Rattle.pool_laws.proofs.EntryPreconditions.{finds}
 use Rattle.pool_laws.proofs.Rows.{agree, find_task, row_is, goes_to, lost_is, reported_task, update_task, update_runs, has_runner, HasRun, run_is}
 use Rattle.pool_laws.proofs.Tasks.{end_final, finished_final, last_final, not_pending}
 use Rattle.pool_laws.proofs.Numbers.{task_no}
-use Rattle.dim_queue.specs.declared.queue_set.QueueSet.{QueueSet}
-use Rattle.dim_queue.specs.declared.waiting.Waiting.{Waiting}
 use Rattle.index_laws.specs.Touched.{touched_task}
 use Rattle.index_laws.specs.TaskQueues.{set_of, waiting_of, place_in, touched_place}
 use Rattle.index_laws.specs.SetToCome.{set_at, set_moved, set_again, set_if_lost, set_of_lost, set_to_come, IsReadyFor, PlaceIsReady}

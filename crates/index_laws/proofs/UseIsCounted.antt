@@ -5,9 +5,7 @@ use Rattle.std.specs.List.{list_any, count_by, sum_by}
 use Rattle.std.specs.Option.{option_map_or}
 use Rattle.std.proofs.lemmas.Bool.{lt-ltb, ltb-true, ltb-false}
 use Rattle.std.proofs.lemmas.List.Sums.{sum_by-cons}
-use Rattle.swarm_model.specs.declared.attempt.Attempt.{Attempt}
-use Rattle.swarm_model.specs.declared.retried.Retried.{Retried}
-use Rattle.swarm_model.specs.declared.task_row.TaskRow.{TaskRow}
+use Rattle.index_laws.specs.Types.{Attempt, Retried, TaskRow}
 use Rattle.swarm_model.specs.Finding.{is_final}
 use Rattle.swarm_model.specs.Uses.{is_file_of, has_input, is_chunk_of, has_chunk, needs}
 use Rattle.index_laws.specs.TaskUses.{inputs_with, uses_of_slices, chunks_with, times_named, uses_of, UseIsCounted}

@@ -5,9 +5,7 @@ use Rattle.std.proofs.lemmas.Bool.{and_parts}
 use Rattle.std.proofs.lemmas.Option.{same_Some}
 use Rattle.dimensions.specs.Alike.{same}
 use Rattle.dimensions.specs.Rules.{is_empty}
-use Rattle.swarm_model.specs.declared.task_row.TaskRow.{TaskRow}
-use Rattle.swarm_model.specs.declared.pool_state.PoolState.{PoolState}
-use Rattle.swarm_model.specs.declared.entry.EntryKind.{EntryKind}
+use Rattle.index_laws.specs.Types.{TaskRow, PoolState, EntryKind, UuidLink}
 use Rattle.swarm_model.specs.declared.entry.EntryKind.TheVariants as kind
 use Rattle.swarm_model.specs.Finding.{task_of}
 use Rattle.swarm_model.specs.Reuse.{sent, is_sent}
@@ -19,7 +17,6 @@ use Rattle.pool_laws.proofs.Preconditions.{Finds}
 use Rattle.pool_laws.proofs.EntryPreconditions.{finds}
 use Rattle.pool_laws.proofs.Rows.{find_task}
 use Rattle.pool_laws.proofs.UuidLaw.{sent_found}
-use Rattle.pool_index.specs.declared.uuid_link.UuidLink.{UuidLink}
 use Rattle.pool_index.specs.Uuids.{HasUuid, HasNone, key_of, links_with}
 use Rattle.index_laws.specs.Keys.{HasKey}
 use Rattle.index_laws.specs.TaskUuids.{Sent, sent_of, uuid_to_come, uuid_link, AreUuids, UuidsFollow, UuidsAreFresh, UuidIsFound}

@@ -2,13 +2,8 @@
 use Rattle.std.specs.Prelude.{◌≡◌, ◌≢◌, ◌↔◌, ◌⊎◌, List, map, Option, Some, None}
 use Rattle.std.specs.List.{Contains}
 use Rattle.std.specs.Option.{option_map, option_and_then}
-use Rattle.blob_rows.specs.declared.blob_row.BlobRow.{BlobRow}
+use Rattle.index_laws.specs.Types.{BlobRow, Chunk, Deadline, PoolState, Entry, EntryKind}
 use Rattle.blob_rows.specs.BlobRows.{blob_of, blob_numbered}
-use Rattle.swarm_model.specs.declared.attempt.Chunk.{Chunk}
-use Rattle.swarm_model.specs.declared.deadline.Deadline.{Deadline}
-use Rattle.swarm_model.specs.declared.pool_state.PoolState.{PoolState}
-use Rattle.swarm_model.specs.declared.entry.Entry.{Entry}
-use Rattle.swarm_model.specs.declared.entry.EntryKind.{EntryKind}
 use Rattle.swarm_model.specs.declared.entry.EntryKind.TheVariants as kind
 use Rattle.swarm_model.specs.Deadlines.{blob_end}
 use Rattle.swarm_model.specs.Effects.{attempt_of, fresh_chunk, after}

@@ -1,3 +1,4 @@
+pub mod Types
 pub mod Touched
 pub mod BlobDeadlines
 pub mod RowDeadlines

@@ -2,21 +2,13 @@
 use Rattle.std.specs.Prelude.{◌≡◌, ℕ, ◌+◌, ◌<◌, List, [], ◌∷◌, ◌++◌, length, slice_set, Option, Some, IfSome, MatchOption}
 use Rattle.std.specs.List.{All}
 use Rattle.std.specs.Option.{option_map}
-use Rattle.blob_rows.specs.declared.blob_row.BlobRow.{BlobRow}
-use Rattle.swarm_model.specs.declared.task_state.TaskState.{TaskState}
-use Rattle.swarm_model.specs.declared.task_row.TaskRow.{TaskRow}
-use Rattle.swarm_model.specs.declared.bot_row.BotRow.{BotRow}
-use Rattle.swarm_model.specs.declared.pool_state.PoolState.{PoolState}
-use Rattle.swarm_model.specs.declared.deadline.Deadline.{Deadline}
+use Rattle.index_laws.specs.Types.{BlobRow, TaskState, TaskRow, BotRow, PoolState, Deadline, ClaimLink, UuidLink, SourceLink}
 use Rattle.swarm_model.specs.Numbers.{AreNumbered}
 use Rattle.swarm_model.specs.Effects.{no_of_task, no_of_bot}
 use Rattle.swarm_model.specs.History.{count_in}
 use Rattle.swarm_model.specs.Deadlines.{bot_end, blob_end}
 use Rattle.swarm_model.specs.Soundness.{IsRightTry, claim_key, lost_key, AreClaimedApart, AreSentApart}
 use Rattle.dim_queue.specs.Plain.{QueueState, Enters, IsAbsent, SameWaits}
-use Rattle.pool_index.specs.declared.claim_link.ClaimLink.{ClaimLink}
-use Rattle.pool_index.specs.declared.uuid_link.UuidLink.{UuidLink}
-use Rattle.pool_index.specs.declared.source_link.SourceLink.{SourceLink}
 use Rattle.pool_index.specs.Claims as claims
 use Rattle.pool_index.specs.Uuids as uuids
 use Rattle.pool_index.specs.Links.{links_with}

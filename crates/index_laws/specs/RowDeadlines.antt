@@ -1,11 +1,7 @@
 -- The deadlines of a pool's rows: those of tasks and bots at the places of their numbers, those of blobs in any order.
 use Rattle.std.specs.Prelude.{◌≡◌, ◌<◌, ℕ, List, Option, Some, None, length, slice_set, if◌then◌else◌}
 use Rattle.std.specs.Option.{option_and_then}
-use Rattle.swarm_model.specs.declared.task_state.TaskState.TheVariants.{Pending}
-use Rattle.swarm_model.specs.declared.task_row.TaskRow.{TaskRow}
-use Rattle.swarm_model.specs.declared.deadline.Deadline.{Deadline}
-use Rattle.swarm_model.specs.declared.pool_state.PoolState.{PoolState}
-use Rattle.swarm_model.specs.declared.entry.Entry.{Entry}
+use Rattle.index_laws.specs.Types.{Pending, TaskRow, Deadline, PoolState, Entry}
 use Rattle.swarm_model.specs.Finding.{has_state, task_of, bot_of}
 use Rattle.swarm_model.specs.Deadlines.{slice_end, silence_end, bot_end, next_deadline}
 use Rattle.swarm_model.specs.Effects.{after}

@@ -1,10 +1,7 @@
 -- How many tasks are in a state.
 use Rattle.std.specs.Prelude.{◌≡◌, ℕ, ◌+◌, false, Option, if◌then◌else◌}
 use Rattle.std.specs.Option.{option_map_or, option_and_then}
-use Rattle.swarm_model.specs.declared.task_state.TaskState.{TaskState}
-use Rattle.swarm_model.specs.declared.task_row.TaskRow.{TaskRow}
-use Rattle.swarm_model.specs.declared.pool_state.PoolState.{PoolState}
-use Rattle.swarm_model.specs.declared.entry.Entry.{Entry}
+use Rattle.index_laws.specs.Types.{TaskState, TaskRow, PoolState, Entry}
 use Rattle.swarm_model.specs.Finding.{has_state, task_of}
 use Rattle.swarm_model.specs.Effects.{after}
 use Rattle.swarm_model.specs.History.{MayFollow, count_in}

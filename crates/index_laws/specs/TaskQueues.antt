@@ -1,19 +1,12 @@
 -- The queues of the pending tasks.
 use Rattle.std.specs.Prelude.{◌≡◌, ◌↔◌, ◌⊎◌, ℕ, List, Option, Some, None, if◌then◌else◌}
 use Rattle.std.specs.Option.{option_map, option_and_then}
-use Rattle.dimensions.specs.declared.bot_dims.BotDims.{BotDims}
-use Rattle.dim_queue.specs.declared.queue_set.QueueSet.{QueueSet}
-use Rattle.task_props.specs.declared.slice.Slice.{Slice}
-use Rattle.swarm_model.specs.declared.task_state.TaskState.TheVariants.{Pending}
-use Rattle.swarm_model.specs.declared.task_row.TaskRow.{TaskRow}
-use Rattle.swarm_model.specs.declared.pool_state.PoolState.{PoolState}
-use Rattle.swarm_model.specs.declared.entry.Entry.{Entry}
+use Rattle.index_laws.specs.Types.{BotDims, QueueSet, Slice, Pending, TaskRow, PoolState, Entry, Waiting}
 use Rattle.swarm_model.specs.Finding.{has_state, task_of}
 use Rattle.swarm_model.specs.Slices.{current_slice, kept_from, first}
 use Rattle.swarm_model.specs.Effects.{after}
 use Rattle.swarm_model.specs.History.{MayFollow}
 use Rattle.swarm_model.specs.Soundness.{IsSound}
-use Rattle.dim_queue.specs.declared.waiting.Waiting.{Waiting}
 use Rattle.dim_queue.specs.Taking.{taker, set_with}
 use Rattle.dim_queue.specs.Plain.{QueueState, Waits, IsNextOf}
 use Rattle.index_laws.specs.Touched.{touched_task}

@@ -3,13 +3,7 @@ use Rattle.std.specs.Prelude.{◌≡◌, ℕ, ◌+◌, ◌*◌, ◌≤◌, Bool,
 use Rattle.std.specs.List.{count_by, find, sum_by}
 use Rattle.std.specs.Option.{option_map_or, option_and_then}
 use Rattle.dimensions.specs.Alike.{same}
-use Rattle.task_props.specs.declared.slice.Slice.{Slice}
-use Rattle.swarm_model.specs.declared.attempt.Attempt.{Attempt}
-use Rattle.swarm_model.specs.declared.attempt.Chunk.{Chunk}
-use Rattle.swarm_model.specs.declared.task_row.TaskRow.{TaskRow}
-use Rattle.swarm_model.specs.declared.pool_state.PoolState.{PoolState}
-use Rattle.swarm_model.specs.declared.entry.Entry.{Entry}
-use Rattle.swarm_model.specs.declared.entry.EntryKind.{EntryKind}
+use Rattle.index_laws.specs.Types.{Slice, Attempt, Chunk, TaskRow, PoolState, Entry, EntryKind}
 use Rattle.swarm_model.specs.declared.entry.EntryKind.TheVariants as kind
 use Rattle.swarm_model.specs.Finding.{is_final, is_task}
 use Rattle.swarm_model.specs.Uses.{is_file_of, is_chunk_of, is_used}

@@ -2,17 +2,13 @@
 use Rattle.std.specs.Prelude.{◌≡◌, ◌↔◌, ℕ, List, Option, Some, None, IfSome, MatchOption, if◌then◌else◌}
 use Rattle.std.specs.Option.{option_map, option_and_then}
 use Rattle.dimensions.specs.Rules.{is_empty}
-use Rattle.swarm_model.specs.declared.task_row.TaskRow.{TaskRow}
-use Rattle.swarm_model.specs.declared.pool_state.PoolState.{PoolState}
-use Rattle.swarm_model.specs.declared.entry.Entry.{Entry}
-use Rattle.swarm_model.specs.declared.entry.EntryKind.{EntryKind}
+use Rattle.index_laws.specs.Types.{TaskRow, PoolState, Entry, EntryKind, UuidLink}
 use Rattle.swarm_model.specs.declared.entry.EntryKind.TheVariants as kind
 use Rattle.swarm_model.specs.Finding.{task_of}
 use Rattle.swarm_model.specs.Reuse.{sent}
 use Rattle.swarm_model.specs.Effects.{after}
 use Rattle.swarm_model.specs.History.{MayFollow}
 use Rattle.swarm_model.specs.Soundness.{IsSound}
-use Rattle.pool_index.specs.declared.uuid_link.UuidLink.{UuidLink}
 use Rattle.pool_index.specs.Uuids.{HasUuid, HasNone, key_of, links_with}
 use Rattle.index_laws.specs.Keys.{HasKey}
 

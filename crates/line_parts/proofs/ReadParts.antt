@@ -2,17 +2,8 @@
 use Rattle.std.proofs.Common.{ℕ, List, refl, arith, All}
 use Rattle.std.specs.Prelude.{⊤}
 use Rattle.serde_json.specs.Data.{string}
-use Rattle.dimensions.specs.declared.text.Text.{Text}
-use Rattle.dimensions.specs.declared.bot_dims.BotDims.{BotDims}
-use Rattle.task_props.specs.declared.cache.Cache.{Cache}
-use Rattle.task_props.specs.declared.file.File.{File}
-use Rattle.task_props.specs.declared.properties.Properties.{Properties}
-use Rattle.task_props.specs.declared.slice.Slice.{Slice}
-use Rattle.task_props.specs.declared.new_task.NewTask.{NewTask}
+use Rattle.line_parts.specs.Types.{Text, BotDims, Cache, File, Properties, Slice, NewTask, Chunk, Last, Outcome}
 use Rattle.task_props.specs.Shown.{later_members, properties_with}
-use Rattle.swarm_model.specs.declared.attempt.Chunk.{Chunk}
-use Rattle.swarm_model.specs.declared.attempt.Last.{Last}
-use Rattle.swarm_model.specs.declared.entry.Outcome.{Outcome}
 use Rattle.swarm_model.specs.declared.entry.Outcome.TheVariants as outcome
 use Rattle.line_parts.specs.Finding.{whole}
 use Rattle.line_parts.specs.Lists.{list_data}

@@ -1,3 +1,4 @@
+pub mod Types
 pub mod Finding
 pub mod Lists
 pub mod Numbers

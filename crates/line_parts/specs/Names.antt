@@ -2,9 +2,8 @@
 use Rattle.std.proofs.Common.{◌≡◌, List, Option, Some, None, refl}
 use Rattle.std.specs.Prelude.{ℕ, codes, if◌then◌else◌}
 use Rattle.dimensions.specs.Alike.{same}
-use Rattle.swarm_model.specs.declared.task_state.TaskState.{TaskState}
+use Rattle.line_parts.specs.Types.{TaskState, EventKind}
 use Rattle.swarm_model.specs.declared.task_state.TaskState.TheVariants.{Pending, Running, Expired, TimedOut, BotDied, Canceled, Completed, Killed, NoResource}
-use Rattle.swarm_model.specs.declared.entry.EventKind.{EventKind}
 use Rattle.swarm_model.specs.declared.entry.EventKind.TheVariants.{Ping, Quarantine, Unquarantine}
 use Rattle.swarm_model.specs.States.{state_name, state_named}
 

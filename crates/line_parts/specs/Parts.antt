@@ -5,16 +5,7 @@ use Rattle.std.specs.List.{All}
 use Rattle.serde_json.specs.Data.{Data, string, boolean, array, object, member, no_members}
 use Rattle.serde_json.specs.Find.{as_str, as_bool}
 use Rattle.serde_json.specs.View.{items_of}
-use Rattle.dimensions.specs.declared.text.Text.{Text}
-use Rattle.dimensions.specs.declared.dim_set.DimSet.{DimSet}
-use Rattle.dimensions.specs.declared.bot_dims.BotDims.{BotDims}
-use Rattle.task_props.specs.declared.cache.Cache.{Cache}
-use Rattle.task_props.specs.declared.file.File.{File}
-use Rattle.swarm_model.specs.declared.task_state.TaskState.{TaskState}
-use Rattle.swarm_model.specs.declared.attempt.Chunk.{Chunk}
-use Rattle.swarm_model.specs.declared.attempt.Last.{Last}
-use Rattle.swarm_model.specs.declared.entry.EventKind.{EventKind}
-use Rattle.swarm_model.specs.declared.entry.Outcome.{Outcome}
+use Rattle.line_parts.specs.Types.{Text, DimSet, BotDims, Cache, File, TaskState, Chunk, Last, EventKind, Outcome}
 use Rattle.swarm_model.specs.declared.entry.Outcome.TheVariants as outcome
 use Rattle.line_parts.specs.Finding.{◌>>=◌, field, whole, number_in, signed, signed_in, IsInt, digest_data, digest_in, IsDigest}
 use Rattle.line_parts.specs.Lists.{list_data, list_in, items_in}

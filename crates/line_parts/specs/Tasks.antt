@@ -5,12 +5,7 @@ use Rattle.std.specs.List.{All}
 use Rattle.serde_json.specs.Data.{Data, string, boolean, object, member, no_members, depth}
 use Rattle.serde_json.specs.Find.{as_str, as_bool}
 use Rattle.serde_json.specs.Written.{has_float}
-use Rattle.dimensions.specs.declared.text.Text.{Text}
-use Rattle.task_props.specs.declared.cache.Cache.{Cache}
-use Rattle.task_props.specs.declared.file.File.{File}
-use Rattle.task_props.specs.declared.properties.Properties.{Properties}
-use Rattle.task_props.specs.declared.slice.Slice.{Slice}
-use Rattle.task_props.specs.declared.new_task.NewTask.{NewTask}
+use Rattle.line_parts.specs.Types.{Text, Cache, File, Properties, Slice, NewTask}
 use Rattle.task_props.specs.Shown.{later_members, properties_with, HasWordTimes}
 use Rattle.task_props.proofs.NoFloats.{properties_are_plain}
 use Rattle.line_parts.specs.Finding.{◌>>=◌, field, whole}

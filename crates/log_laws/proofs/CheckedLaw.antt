@@ -6,9 +6,7 @@ use Rattle.std.proofs.lemmas.List.Sums.{AllPass-from_list_all}
 use Rattle.task_props.specs.Checked.{is_checked, is_sound_slice, are_sound}
 use Rattle.task_props.specs.FieldRules.{expiration_rule}
 use Rattle.task_props.specs.Slices.{slices_rule}
-use Rattle.task_props.specs.declared.slice.Slice.{Slice}
-use Rattle.task_props.specs.declared.new_task.NewTask.{NewTask}
-use Rattle.swarm_model.specs.declared.task_row.TaskRow.{TaskRow}
+use Rattle.log_laws.specs.Types.{Slice, NewTask, TaskRow}
 use Rattle.swarm_model.specs.History.{replay}
 use Rattle.pool_laws.proofs.Lists.{each, all}
 use Rattle.pool_laws.proofs.Rows.{task_is}

@@ -2,8 +2,7 @@
 use Rattle.std.proofs.Common.{◌≡◌, ◌⊎◌, inl, inr, List, [], ◌∷◌, ◌++◌, ap, ◌∙◌}
 use Rattle.std.proofs.lemmas.List.Elements.{Contains-append_left, Contains-append_right, Contains-push, Contains-push_cases}
 use Rattle.std.specs.List.{Contains}
-use Rattle.swarm_model.specs.declared.entry.Entry.{Entry}
-use Rattle.swarm_model.specs.declared.entry.EntryKind.{EntryKind}
+use Rattle.log_laws.specs.Types.{Entry, EntryKind}
 use Rattle.log_laws.specs.Runs.{HasEntry}
 
 pub has_left : (log more : List Entry) (k : EntryKind) → HasEntry log k → HasEntry (log ++ more) k

@@ -1,8 +1,6 @@
 -- A run that is named by its task and its try, and goes on.
 use Rattle.std.proofs.Common.{◌≡◌, ◌⊎◌, inl, inr, ℕ, ◌==◌, ◌||◌, Bool, true, false, Option, Some, ap, sym, ◌∙◌, subst, eqb-true}
-use Rattle.swarm_model.specs.declared.attempt.Attempt.{Attempt}
-use Rattle.swarm_model.specs.declared.task_row.TaskRow.{TaskRow}
-use Rattle.swarm_model.specs.declared.pool_state.PoolState.{PoolState}
+use Rattle.log_laws.specs.Types.{Attempt, TaskRow, PoolState}
 use Rattle.swarm_model.specs.Answers.{named_task, has_try}
 use Rattle.swarm_model.specs.Finding.{is_final}
 use Rattle.pool_laws.proofs.EntryPreconditions.{IsNamed, IsLost, IsWhole, named_is}

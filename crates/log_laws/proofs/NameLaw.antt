@@ -1,9 +1,7 @@
 -- A log leaves a bot its number and its name.
 use Rattle.std.proofs.Common.{◌≡◌, ℕ, List, [], ◌∷◌, refl, ap, sym, ◌∙◌, subst, map, option_map, Option, Some, None, eqb-true}
 use Rattle.std.proofs.lemmas.Option.{same_Some}
-use Rattle.swarm_model.specs.declared.bot_row.BotRow.{BotRow}
-use Rattle.swarm_model.specs.declared.pool_state.PoolState.{PoolState}
-use Rattle.swarm_model.specs.declared.entry.Entry.{Entry}
+use Rattle.log_laws.specs.Types.{BotRow, PoolState, Entry}
 use Rattle.swarm_model.specs.Effects.{after, bot_after, added_bots}
 use Rattle.swarm_model.specs.Finding.{bot_of, bot_named, is_bot, is_called}
 use Rattle.swarm_model.specs.History.{MayFollow}

@@ -6,12 +6,7 @@ use Rattle.std.proofs.lemmas.Bool.{and_parts, and_from, eq-eqb}
 use Rattle.std.proofs.lemmas.List.Sums.{sum_by-cons}
 use Rattle.dimensions.specs.Alike.{same}
 use Rattle.dimensions.specs.Rules.{is_empty}
-use Rattle.task_props.specs.declared.new_task.NewTask.{NewTask}
-use Rattle.swarm_model.specs.declared.task_state.TaskState.{TaskState}
-use Rattle.swarm_model.specs.declared.task_row.TaskRow.{TaskRow}
-use Rattle.swarm_model.specs.declared.pool_state.PoolState.{PoolState}
-use Rattle.swarm_model.specs.declared.entry.Entry.{Entry}
-use Rattle.swarm_model.specs.declared.entry.EntryKind.{EntryKind}
+use Rattle.log_laws.specs.Types.{NewTask, TaskState, TaskRow, PoolState, Entry, EntryKind}
 use Rattle.swarm_model.specs.declared.entry.EntryKind.TheVariants as kind
 use Rattle.swarm_model.specs.Effects.{task_after, added_tasks, new_row, after}
 use Rattle.swarm_model.specs.History.{MayFollow, IsCaused, replay}

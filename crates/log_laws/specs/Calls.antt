@@ -1,12 +1,8 @@
 -- What stands in a log once a call is answered.
 use Rattle.std.specs.Prelude.{◌≡◌, ℕ, Bool, IsTrue, List, Option, Some, None}
-use Rattle.task_props.specs.declared.properties.Properties.{Properties}
-use Rattle.swarm_model.specs.declared.attempt.Chunk.{Chunk}
-use Rattle.swarm_model.specs.declared.attempt.Last.{Last}
-use Rattle.swarm_model.specs.declared.entry.Entry.{Entry}
+use Rattle.log_laws.specs.Types.{Properties, Chunk, Last, Entry, Reply}
 use Rattle.swarm_model.specs.declared.entry.EntryKind.TheVariants as kind
 use Rattle.swarm_model.specs.declared.request.Request.TheVariants as ask
-use Rattle.swarm_model.specs.declared.reply.Reply.{Reply}
 use Rattle.swarm_model.specs.declared.reply.Reply.TheVariants as reply
 use Rattle.swarm_model.specs.Bases.{Base}
 use Rattle.swarm_model.specs.BaseRules.{AreBaseRows}

@@ -1,11 +1,9 @@
 -- The properties of the tasks of a pool.
 use Rattle.std.specs.Prelude.{IsTrue, List}
 use Rattle.std.specs.List.{All}
-use Rattle.swarm_model.specs.declared.pool_state.PoolState.{PoolState}
-use Rattle.swarm_model.specs.declared.entry.Entry.{Entry}
+use Rattle.log_laws.specs.Types.{PoolState, Entry, Slice}
 use Rattle.swarm_model.specs.History.{replay, IsCaused}
 use Rattle.swarm_model.specs.Soundness.{IsSound}
-use Rattle.task_props.specs.declared.slice.Slice.{Slice}
 use Rattle.task_props.specs.Checked.{are_sound}
 
 -- each slice of each task has properties that break no rule

@@ -1,18 +1,12 @@
 -- A bot that asks again after lost replies, request by request.
 use Rattle.std.specs.Prelude.{◌≡◌, ℕ, false, List, [], ◌∷◌, length, Option, Some, None, pos, codes}
 use Rattle.std.specs.Option.{option_map_or}
-use Rattle.dimensions.specs.declared.bot_dims.BotDims.{BotDims}
-use Rattle.swarm_model.specs.declared.task_state.TaskState.{TaskState}
+use Rattle.log_laws.specs.Types.{BotDims, TaskState, Chunk, PoolState, Entry, Request, Reply}
 use Rattle.swarm_model.specs.declared.task_state.TaskState.TheVariants.{Pending, Completed, BotDied}
-use Rattle.swarm_model.specs.declared.attempt.Chunk.{Chunk}
-use Rattle.swarm_model.specs.declared.pool_state.PoolState.{PoolState}
-use Rattle.swarm_model.specs.declared.entry.Entry.{Entry}
 use Rattle.swarm_model.specs.declared.entry.EntryKind.TheVariants as kind
-use Rattle.swarm_model.specs.declared.request.Request.{Request}
 use Rattle.swarm_model.specs.declared.request.Request.TheVariants as ask
 use Rattle.swarm_model.specs.declared.rule.Rule.TheVariants as rule
 use Rattle.swarm_model.specs.declared.rule.Unfit.TheVariants as unfit
-use Rattle.swarm_model.specs.declared.reply.Reply.{Reply}
 use Rattle.swarm_model.specs.declared.reply.Reply.TheVariants as reply
 use Rattle.swarm_model.specs.Answers.{answer, entry_at}
 use Rattle.swarm_model.specs.Deadlines.{due_entry}

@@ -1,12 +1,8 @@
 -- Pools with blobs, and tasks that need them.
 use Rattle.std.specs.Prelude.{ℕ, true, List, [], ◌∷◌, ◌++◌, Option, Some, None, slice_get, codes}
 use Rattle.std.specs.Option.{option_map}
-use Rattle.task_props.specs.declared.new_task.NewTask.{NewTask}
-use Rattle.swarm_model.specs.declared.pool_settings.PoolSettings.{PoolSettings}
-use Rattle.swarm_model.specs.declared.pool_state.PoolState.{PoolState}
-use Rattle.swarm_model.specs.declared.request.Request.{Request}
+use Rattle.model_examples.specs.Types.{NewTask, PoolSettings, PoolState, Request, Reply}
 use Rattle.swarm_model.specs.declared.request.Request.TheVariants as ask
-use Rattle.swarm_model.specs.declared.reply.Reply.{Reply}
 use Rattle.swarm_model.specs.Finding.{blob_of}
 use Rattle.swarm_model.specs.Examples.{settings, properties, small_task}
 use Rattle.model_examples.specs.BotExamples.{from}

@@ -1,12 +1,8 @@
 -- What a new pool does with small tasks.
 use Rattle.std.specs.Prelude.{ℕ, Bool, List, [], ◌∷◌, Option, codes}
 use Rattle.std.specs.Option.{option_map, option_map_or}
-use Rattle.task_props.specs.declared.slice.Slice.{Slice}
-use Rattle.task_props.specs.declared.new_task.NewTask.{NewTask}
-use Rattle.swarm_model.specs.declared.pool_state.PoolState.{PoolState}
+use Rattle.model_examples.specs.Types.{Slice, NewTask, PoolState, Answer, TaskState}
 use Rattle.swarm_model.specs.declared.request.Request.TheVariants as ask
-use Rattle.swarm_model.specs.declared.answer.Answer.{Answer}
-use Rattle.swarm_model.specs.declared.task_state.TaskState.{TaskState}
 use Rattle.swarm_model.specs.Finding.{task_of}
 use Rattle.swarm_model.specs.Deadlines.{due_entry}
 use Rattle.swarm_model.specs.Answers.{answer}

@@ -1,3 +1,4 @@
+pub mod Types
 pub mod BlobExamples
 pub mod BotExamples
 pub mod EndExamples

@@ -1,12 +1,7 @@
 -- Runs that are lost and tried again.
 use Rattle.std.specs.Prelude.{ℕ, Bool, true, List, [], ◌∷◌, ◌++◌, map, Option, Some, None, codes}
-use Rattle.swarm_model.specs.declared.task_state.TaskState.{TaskState}
-use Rattle.task_props.specs.declared.properties.Properties.{Properties}
-use Rattle.task_props.specs.declared.slice.Slice.{Slice}
-use Rattle.task_props.specs.declared.new_task.NewTask.{NewTask}
-use Rattle.swarm_model.specs.declared.request.Request.{Request}
+use Rattle.model_examples.specs.Types.{TaskState, Properties, Slice, NewTask, Request, Reply}
 use Rattle.swarm_model.specs.declared.request.Request.TheVariants as ask
-use Rattle.swarm_model.specs.declared.reply.Reply.{Reply}
 use Rattle.swarm_model.specs.declared.reply.Reply.TheVariants as reply
 use Rattle.swarm_model.specs.Examples.{settings, properties, small_task}
 use Rattle.model_examples.specs.BotExamples.{Script, from, greets, claims, with_tolerance}

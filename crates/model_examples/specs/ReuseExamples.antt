@@ -1,11 +1,7 @@
 -- Tasks that are sent again, and outcomes that are taken over.
 use Rattle.std.specs.Prelude.{ℕ, ℤ, Bool, true, List, [], ◌∷◌, ◌++◌, drop, Some, codes}
-use Rattle.task_props.specs.declared.properties.Properties.{Properties}
-use Rattle.task_props.specs.declared.new_task.NewTask.{NewTask}
-use Rattle.swarm_model.specs.declared.pool_settings.PoolSettings.{PoolSettings}
-use Rattle.swarm_model.specs.declared.request.Request.{Request}
+use Rattle.model_examples.specs.Types.{Properties, NewTask, PoolSettings, Request, Reply}
 use Rattle.swarm_model.specs.declared.request.Request.TheVariants as ask
-use Rattle.swarm_model.specs.declared.reply.Reply.{Reply}
 use Rattle.swarm_model.specs.Examples.{settings, properties, small_task, exited_with}
 use Rattle.model_examples.specs.BotExamples.{from, greets, claims}
 use Rattle.model_examples.specs.EndExamples.{reports}

@@ -5,14 +5,10 @@ use Rattle.std.specs.Bool.{Decides, beq}
 use Rattle.std.specs.Cmp.Lexicographic.{bytes_decides, pointwise}
 use Rattle.std.proofs.lemmas.Bool.{cond_both, and_parts, and_from, eq-eqb}
 use Rattle.std.proofs.lemmas.Slice.Eq.{slice_eq-Decides}
-use Rattle.dimensions.specs.declared.bot_dims.BotDims.{BotDims}
+use Rattle.pool_laws.specs.Types.{BotDims, File, Properties, Slice, NewTask}
 use Rattle.dimensions.specs.Alike.{same, same_pair, same_values, same_dims}
 use Rattle.task_props.specs.declared.cache.Cache.{Cache}
-use Rattle.task_props.specs.declared.file.File.{File}
-use Rattle.task_props.specs.declared.properties.Properties.{Properties}
 use Rattle.task_props.specs.Alike.{same_cache, same_file, same_properties}
-use Rattle.task_props.specs.declared.slice.Slice.{Slice}
-use Rattle.task_props.specs.declared.new_task.NewTask.{NewTask}
 use Rattle.task_props.specs.Alike.{same_slice, same_task}
 use Rattle.swarm_model.specs.Answers.{dims_unless, text_unless}
 

@@ -2,8 +2,7 @@
 use Rattle.std.proofs.Common.{◌≡◌, Bool, true, false, Option, Some, None, refl}
 use Rattle.std.specs.Option.{option_map}
 use Rattle.dimensions.specs.Choosing.{when}
-use Rattle.swarm_model.specs.declared.answer.Decision.{Decision}
-use Rattle.swarm_model.specs.declared.rule.Rule.{Rule}
+use Rattle.pool_laws.specs.Types.{Decision, Rule}
 use Rattle.swarm_model.specs.Words.{◌otherwise◌}
 use Rattle.swarm_model.specs.Answers.{or_refuse, refusal}
 

@@ -1,11 +1,7 @@
 -- Each entry keeps the rules of a base's rows, so a log leads from a base to a base.
 use Rattle.std.proofs.Common.{◌≤◌, List, [], ◌∷◌, refl, ◌∙◌, arith, IfSome}
 use Rattle.std.proofs.lemmas.List.Elements.{All-nil}
-use Rattle.blob_rows.specs.declared.blob_row.BlobRow.{BlobRow}
-use Rattle.swarm_model.specs.declared.pool_settings.PoolSettings.{PoolSettings}
-use Rattle.swarm_model.specs.declared.task_row.TaskRow.{TaskRow}
-use Rattle.swarm_model.specs.declared.pool_state.PoolState.{PoolState}
-use Rattle.swarm_model.specs.declared.entry.Entry.{Entry}
+use Rattle.pool_laws.specs.Types.{BlobRow, PoolSettings, TaskRow, PoolState, Entry}
 use Rattle.swarm_model.specs.Effects.{after, opening}
 use Rattle.swarm_model.specs.History.{replay, IsCaused}
 use Rattle.swarm_model.specs.Soundness.{IsSound}

@@ -8,13 +8,7 @@ use Rattle.blob_rows.specs.Extents.{extent_at}
 use Rattle.blob_rows.specs.declared.held.Held.{Held}
 use Rattle.blob_rows.specs.declared.held.Held.TheVariants.{Placed, Present, NoNames, NoRoom}
 use Rattle.blob_rows.specs.BlobRows.{units_of, BlobRowsState, renewed_until, longer_kept, is_other, new_blob, place_for}
-use Rattle.blob_rows.specs.declared.blob_row.BlobRow.{BlobRow}
-use Rattle.swarm_model.specs.declared.attempt.Chunk.{Chunk}
-use Rattle.swarm_model.specs.declared.attempt.Attempt.{Attempt}
-use Rattle.swarm_model.specs.declared.attempt.Last.{Last}
-use Rattle.swarm_model.specs.declared.task_row.TaskRow.{TaskRow}
-use Rattle.swarm_model.specs.declared.pool_state.PoolState.{PoolState}
-use Rattle.swarm_model.specs.declared.entry.EntryKind.{EntryKind}
+use Rattle.pool_laws.specs.Types.{BlobRow, Chunk, Attempt, Last, TaskRow, PoolState, EntryKind}
 use Rattle.swarm_model.specs.declared.entry.EntryKind.TheVariants as kind
 use Rattle.swarm_model.specs.Blobs.{most_blobs, is_taken, can_take}
 use Rattle.swarm_model.specs.Answers.{unplaced_chunk}

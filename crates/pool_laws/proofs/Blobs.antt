@@ -6,13 +6,10 @@ use Rattle.std.proofs.lemmas.Option.{same_Some}
 use Rattle.std.proofs.lemmas.List.{length-map, length-append}
 use Rattle.std.proofs.lemmas.List.Sums.{length-filter, count_by-le-length}
 use Rattle.std.proofs.lemmas.List.Elements.{All-map, All-filter, All-push, All-weaker}
-use Rattle.blob_rows.specs.declared.blob_row.BlobRow.{BlobRow}
+use Rattle.pool_laws.specs.Types.{BlobRow, PoolState, PoolSettings, Entry}
 use Rattle.blob_rows.specs.BlobRows.{has_digest, is_blob, is_other, extent_of_row, renewed, renewed_until, longer_kept, new_blob}
 use Rattle.blob_rows.proofs.Distinct.{stored-renewed, no-renewed}
 use Rattle.blob_rows.specs.Extents.{AreApart}
-use Rattle.swarm_model.specs.declared.pool_state.PoolState.{PoolState}
-use Rattle.swarm_model.specs.declared.pool_settings.PoolSettings.{PoolSettings}
-use Rattle.swarm_model.specs.declared.entry.Entry.{Entry}
 use Rattle.swarm_model.specs.declared.entry.EntryKind.TheVariants as kind
 use Rattle.swarm_model.specs.Blobs.{most_blobs}
 use Rattle.swarm_model.specs.Effects.{life, blobs_in, after}

@@ -5,16 +5,8 @@ use Rattle.std.specs.List.{All}
 use Rattle.std.specs.Option.{option_map_or}
 use Rattle.std.proofs.lemmas.Bool.{cond_both, and_parts, and_from}
 use Rattle.std.proofs.lemmas.Option.{IfSome_then}
-use Rattle.dimensions.specs.declared.text.Text.{Text}
-use Rattle.dimensions.specs.declared.bot_dims.BotDims.{BotDims}
-use Rattle.swarm_model.specs.declared.bot_row.BotRow.{BotRow}
-use Rattle.swarm_model.specs.declared.attempt.Chunk.{Chunk}
-use Rattle.swarm_model.specs.declared.pool_state.PoolState.{PoolState}
-use Rattle.swarm_model.specs.declared.pool_settings.PoolSettings.{PoolSettings}
-use Rattle.swarm_model.specs.declared.entry.Entry.{Entry}
-use Rattle.swarm_model.specs.declared.entry.EntryKind.{EntryKind}
+use Rattle.pool_laws.specs.Types.{Text, BotDims, BotRow, Chunk, PoolState, PoolSettings, Entry, EntryKind, EventKind}
 use Rattle.swarm_model.specs.declared.entry.EntryKind.TheVariants as kind
-use Rattle.swarm_model.specs.declared.entry.EventKind.{EventKind}
 use Rattle.swarm_model.specs.declared.entry.EventKind.TheVariants as event
 use Rattle.swarm_model.specs.declared.request.Request.TheVariants as ask
 use Rattle.swarm_model.specs.Finding.{bot_of}

@@ -4,18 +4,9 @@ use Rattle.std.specs.Option.{option_and_then}
 use Rattle.sha2.specs.Sha256.{sha256}
 use Rattle.dimensions.specs.Alike.{same}
 use Rattle.dimensions.specs.Choosing.{when}
-use Rattle.swarm_model.specs.declared.attempt.Attempt.{Attempt}
-use Rattle.swarm_model.specs.declared.attempt.Chunk.{Chunk}
-use Rattle.swarm_model.specs.declared.attempt.Last.{Last}
-use Rattle.swarm_model.specs.declared.pool_state.PoolState.{PoolState}
-use Rattle.swarm_model.specs.declared.deadline.Deadline.{Deadline}
-use Rattle.swarm_model.specs.declared.deadline.Cause.{Cause}
+use Rattle.pool_laws.specs.Types.{Attempt, Chunk, Last, PoolState, Deadline, Cause, Decision, Entry, EntryKind, Request}
 use Rattle.swarm_model.specs.declared.deadline.Cause.TheVariants as cause
-use Rattle.swarm_model.specs.declared.answer.Decision.{Decision}
-use Rattle.swarm_model.specs.declared.entry.Entry.{Entry}
-use Rattle.swarm_model.specs.declared.entry.EntryKind.{EntryKind}
 use Rattle.swarm_model.specs.declared.entry.EntryKind.TheVariants as kind
-use Rattle.swarm_model.specs.declared.request.Request.{Request}
 use Rattle.swarm_model.specs.Finding.{blob_of}
 use Rattle.swarm_model.specs.Bytes.{brings, new_digest, Carries}
 use Rattle.swarm_model.specs.Deadlines.{entry_of, settled, due_entry}

@@ -7,20 +7,9 @@ use Rattle.std.proofs.lemmas.Bool.{cond_both, and_parts, eqb-false}
 use Rattle.dimensions.specs.Matching.{matches}
 use Rattle.dimensions.specs.Choosing.{when, ◌or_else◌}
 use Rattle.dimensions.specs.Rules.{is_empty}
-use Rattle.dimensions.specs.declared.bot_dims.BotDims.{BotDims}
-use Rattle.task_props.specs.declared.slice.Slice.{Slice}
+use Rattle.pool_laws.specs.Types.{BotDims, Slice, TaskState, Pending, Attempt, Retried, PoolSettings, TaskRow, PoolState, Entry, EntryKind, Outcome}
 use Rattle.swarm_model.specs.declared.rule.Unfit.TheVariants as unfit
-use Rattle.swarm_model.specs.declared.task_state.TaskState.{TaskState}
-use Rattle.swarm_model.specs.declared.task_state.TaskState.TheVariants.{Pending}
-use Rattle.swarm_model.specs.declared.attempt.Attempt.{Attempt}
-use Rattle.swarm_model.specs.declared.retried.Retried.{Retried}
-use Rattle.swarm_model.specs.declared.pool_settings.PoolSettings.{PoolSettings}
-use Rattle.swarm_model.specs.declared.task_row.TaskRow.{TaskRow}
-use Rattle.swarm_model.specs.declared.pool_state.PoolState.{PoolState}
-use Rattle.swarm_model.specs.declared.entry.Entry.{Entry}
-use Rattle.swarm_model.specs.declared.entry.EntryKind.{EntryKind}
 use Rattle.swarm_model.specs.declared.entry.EntryKind.TheVariants as kind
-use Rattle.swarm_model.specs.declared.entry.Outcome.{Outcome}
 use Rattle.swarm_model.specs.declared.entry.Outcome.TheVariants as outcome
 use Rattle.swarm_model.specs.Finding.{is_state}
 use Rattle.swarm_model.specs.Deadlines.{next_of}

@@ -3,31 +3,16 @@ use Rattle.std.proofs.Common.{◌≡◌, ℕ, ◌+◌, ◌==◌, ◌&&◌, not, 
 use Rattle.std.specs.Prelude.{⊤, nat_le}
 use Rattle.std.specs.Option.{option_map_or, option_and_then}
 use Rattle.std.proofs.lemmas.Bool.{cond_both}
-use Rattle.dimensions.specs.declared.bot_dims.BotDims.{BotDims}
+use Rattle.pool_laws.specs.Types.{BotDims, BlobRow, NewTask, Slice, Attempt, Chunk, Last, TaskState, TaskRow, BotRow, PoolState, EntryKind, EventKind, Request, Reply, Decision, Pending, Running}
 use Rattle.dimensions.specs.Alike.{same}
 use Rattle.dimensions.specs.Rules.{is_empty}
-use Rattle.blob_rows.specs.declared.blob_row.BlobRow.{BlobRow}
-use Rattle.task_props.specs.declared.new_task.NewTask.{NewTask}
-use Rattle.task_props.specs.declared.slice.Slice.{Slice}
 use Rattle.task_props.specs.Alike.{same_task}
-use Rattle.swarm_model.specs.declared.attempt.Attempt.{Attempt}
-use Rattle.swarm_model.specs.declared.attempt.Chunk.{Chunk}
-use Rattle.swarm_model.specs.declared.attempt.Last.{Last}
 use Rattle.swarm_model.specs.declared.permission.Permission.TheVariants as permission
-use Rattle.swarm_model.specs.declared.task_state.TaskState.{TaskState}
-use Rattle.swarm_model.specs.declared.task_row.TaskRow.{TaskRow}
-use Rattle.swarm_model.specs.declared.bot_row.BotRow.{BotRow}
-use Rattle.swarm_model.specs.declared.pool_state.PoolState.{PoolState}
-use Rattle.swarm_model.specs.declared.entry.EntryKind.{EntryKind}
 use Rattle.swarm_model.specs.declared.entry.EntryKind.TheVariants as kind
-use Rattle.swarm_model.specs.declared.entry.EventKind.{EventKind}
-use Rattle.swarm_model.specs.declared.request.Request.{Request}
 use Rattle.swarm_model.specs.declared.request.Request.TheVariants as ask
 use Rattle.swarm_model.specs.declared.rule.Rule.TheVariants as rule
 use Rattle.swarm_model.specs.declared.rule.Unfit.TheVariants as unfit
-use Rattle.swarm_model.specs.declared.reply.Reply.{Reply}
 use Rattle.swarm_model.specs.declared.reply.Reply.TheVariants as reply
-use Rattle.swarm_model.specs.declared.answer.Decision.{Decision}
 use Rattle.swarm_model.specs.Blobs.{lacks_chunk, missing_file, inputs_of, can_take}
 use Rattle.swarm_model.specs.Effects.{fresh_chunk, next_try}
 use Rattle.swarm_model.specs.Output.{chunks_within, parts_within}
@@ -36,7 +21,6 @@ use Rattle.swarm_model.specs.Pages.{listed_tasks}
 use Rattle.swarm_model.specs.Views.{view_of, files_of}
 use Rattle.swarm_model.specs.Slices.{admit, current_slice, first}
 use Rattle.swarm_model.specs.Reuse.{sent, reuse}
-use Rattle.swarm_model.specs.declared.task_state.TaskState.TheVariants.{Pending, Running}
 use Rattle.swarm_model.specs.Answers.{decide, reply_only, reply_with_entry, resubmitted, reuse_outcome, accepted, accepted_at, tasks_full, named_task, whole_task, try_of, result_of, list_tasks, show_bot, may, denied, cancel, cancel_row, stop, is_killed, known_bot, handshake, poll, busy, run_on, run_from, claim, claim_again, run_again, as_claimed, claimed, claims, unfit_of, unfit_refusal, event, is_kept, updates, refusal, file_missing, output_gone, output_between, chunks_shown, stdout_of, chunk_rule, store_full, unplaced_chunk, is_first_report, put_blob, show_blob, report, report_again, report_running, report_on, not_claimant, update, update_row, terminate}
 use Rattle.pool_laws.proofs.Answering.{by_when, by_map, by_with}
 

@@ -6,8 +6,7 @@ use Rattle.std.specs.Option.{option_and_then}
 use Rattle.std.proofs.lemmas.Bool.{cond_both, and_parts, and_cases, or_parts, or_from, and_left, and_right, eqb-false, lt-ltb, le-ltb, ne_eqb, cases_order}
 use Rattle.std.proofs.lemmas.Option.{same_Some}
 use Rattle.std.proofs.lemmas.List.Elements.{All-contains_itself}
-use Rattle.swarm_model.specs.declared.pool_state.PoolState.{PoolState}
-use Rattle.swarm_model.specs.declared.deadline.Deadline.{Deadline}
+use Rattle.pool_laws.specs.Types.{PoolState, Deadline}
 use Rattle.swarm_model.specs.Deadlines.{rank, deadlines, is_earlier, earlier, sooner, next_deadline, if_come}
 use Rattle.swarm_model.specs.DueLaw.{IsEarliestDue, DueIsEarliest}
 use Rattle.pool_laws.proofs.Lists.{Among, here, later, all}

@@ -7,9 +7,7 @@ use Rattle.std.specs.Option.{option_map, option_and_then}
 use Rattle.std.proofs.lemmas.Bool.{cond_both, and_parts, or_parts}
 use Rattle.std.proofs.lemmas.Option.{same_Some}
 use Rattle.std.proofs.lemmas.List.Elements.{All-nil, All-cons, All-head, All-tail}
-use Rattle.swarm_model.specs.declared.pool_state.PoolState.{PoolState}
-use Rattle.swarm_model.specs.declared.deadline.Deadline.{Deadline}
-use Rattle.swarm_model.specs.declared.entry.Entry.{Entry}
+use Rattle.pool_laws.specs.Types.{PoolState, Deadline, Entry}
 use Rattle.swarm_model.specs.Deadlines.{rank, deadlines, is_earlier, earlier, sooner, next_deadline, if_come, entry_of, due_entry}
 use Rattle.swarm_model.specs.Entries.{asks, is_deadline, Asked}
 use Rattle.swarm_model.specs.History.{MayFollow, IsDue, IsAnswered}

@@ -3,27 +3,15 @@ use Rattle.std.proofs.Common.{◌≡◌, ℕ, ◌+◌, ◌==◌, ◌&&◌, ◌||
 use Rattle.std.specs.Prelude.{nat_le, unwrap_or}
 use Rattle.std.specs.Option.{option_map, option_and_then}
 use Rattle.std.proofs.lemmas.Bool.{cond_both, and_parts, and_from}
-use Rattle.dimensions.specs.declared.bot_dims.BotDims.{BotDims}
+use Rattle.pool_laws.specs.Types.{BotDims, NewTask, Attempt, Chunk, Last, TaskRow, BotRow, PoolState, Decision, Reply, EventKind, EntryKind, Request}
 use Rattle.dimensions.specs.Alike.{same}
 use Rattle.dimensions.specs.Rules.{is_empty}
-use Rattle.task_props.specs.declared.new_task.NewTask.{NewTask}
 use Rattle.task_props.specs.Alike.{same_task}
-use Rattle.swarm_model.specs.declared.attempt.Attempt.{Attempt}
-use Rattle.swarm_model.specs.declared.attempt.Chunk.{Chunk}
-use Rattle.swarm_model.specs.declared.attempt.Last.{Last}
 use Rattle.swarm_model.specs.declared.permission.Permission.TheVariants as permission
-use Rattle.swarm_model.specs.declared.task_row.TaskRow.{TaskRow}
-use Rattle.swarm_model.specs.declared.bot_row.BotRow.{BotRow}
-use Rattle.swarm_model.specs.declared.pool_state.PoolState.{PoolState}
-use Rattle.swarm_model.specs.declared.answer.Decision.{Decision}
 use Rattle.swarm_model.specs.declared.rule.Rule.TheVariants as rule
 use Rattle.swarm_model.specs.declared.rule.Unfit.TheVariants as unfit
-use Rattle.swarm_model.specs.declared.reply.Reply.{Reply}
 use Rattle.swarm_model.specs.declared.reply.Reply.TheVariants as reply
-use Rattle.swarm_model.specs.declared.entry.EventKind.{EventKind}
-use Rattle.swarm_model.specs.declared.entry.EntryKind.{EntryKind}
 use Rattle.swarm_model.specs.declared.entry.EntryKind.TheVariants as kind
-use Rattle.swarm_model.specs.declared.request.Request.{Request}
 use Rattle.swarm_model.specs.declared.request.Request.TheVariants as ask
 use Rattle.swarm_model.specs.Finding.{is_final, task_of, bot_of, bot_named, blob_of, is_called}
 use Rattle.swarm_model.specs.Words.{is_between}

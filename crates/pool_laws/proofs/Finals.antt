@@ -1,8 +1,6 @@
 -- A task that has ended stays as it is, whatever follows.
 use Rattle.std.proofs.Common.{◌≡◌, ℕ, List, [], ◌∷◌, ◌++◌, refl, ap, ◌∙◌, Some, IsTrue, eqb-true}
-use Rattle.swarm_model.specs.declared.task_row.TaskRow.{TaskRow}
-use Rattle.swarm_model.specs.declared.pool_state.PoolState.{PoolState}
-use Rattle.swarm_model.specs.declared.entry.Entry.{Entry}
+use Rattle.pool_laws.specs.Types.{TaskRow, PoolState, Entry}
 use Rattle.swarm_model.specs.Finding.{is_final, is_task, task_of}
 use Rattle.swarm_model.specs.Effects.{opening, after}
 use Rattle.swarm_model.specs.History.{replay, IsCaused, MayFollow}

@@ -3,13 +3,8 @@ use Rattle.std.proofs.Common.{◌≡◌, ℕ, ◌≤◌, ◌^◌, ◌⊎◌, inl
 use Rattle.std.specs.Option.{option_map}
 use Rattle.std.specs.Bool.{MatchBool}
 use Rattle.std.proofs.lemmas.Option.{same_Some}
-use Rattle.swarm_model.specs.declared.pool_state.PoolState.{PoolState}
-use Rattle.swarm_model.specs.declared.deadline.Cause.{Cause}
+use Rattle.pool_laws.specs.Types.{PoolState, Cause, Decision, Entry, EntryKind, Request}
 use Rattle.swarm_model.specs.declared.deadline.Cause.TheVariants as cause
-use Rattle.swarm_model.specs.declared.answer.Decision.{Decision}
-use Rattle.swarm_model.specs.declared.entry.Entry.{Entry}
-use Rattle.swarm_model.specs.declared.entry.EntryKind.{EntryKind}
-use Rattle.swarm_model.specs.declared.request.Request.{Request}
 use Rattle.swarm_model.specs.Fits.{fits}
 use Rattle.swarm_model.specs.Answers.{decide, answer, entry_at}
 use Rattle.swarm_model.specs.Deadlines.{due_entry, settled}

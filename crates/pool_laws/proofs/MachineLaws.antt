@@ -2,11 +2,7 @@
 use Rattle.std.proofs.Common.{option_and_then, ◌≡◌, ℕ, ◌+◌, ◌≤◌, ◌^◌, ◌++◌, List, length, Option, Some, None, IfSome, IsTrue, refl, subst, sym, ap, ◌∙◌, sum_by}
 use Rattle.std.specs.List.{All}
 use Rattle.std.proofs.lemmas.Option.{same_Some}
-use Rattle.swarm_model.specs.declared.pool_settings.PoolSettings.{PoolSettings}
-use Rattle.swarm_model.specs.declared.task_row.TaskRow.{TaskRow}
-use Rattle.swarm_model.specs.declared.pool_state.PoolState.{PoolState}
-use Rattle.swarm_model.specs.declared.entry.Entry.{Entry}
-use Rattle.swarm_model.specs.declared.request.Request.{Request}
+use Rattle.pool_laws.specs.Types.{PoolSettings, TaskRow, PoolState, Entry, Request}
 use Rattle.swarm_model.specs.Fits.{fits}
 use Rattle.swarm_model.specs.Finding.{is_task, task_of}
 use Rattle.swarm_model.specs.Answers.{answer, if_named, named_task}

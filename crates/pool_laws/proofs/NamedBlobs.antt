@@ -4,13 +4,9 @@ use Rattle.std.specs.List.{All}
 use Rattle.std.specs.Option.{option_map_or}
 use Rattle.std.proofs.lemmas.Bool.{eq-eqb, not-false}
 use Rattle.std.proofs.lemmas.List.Elements.{All-map}
-use Rattle.blob_rows.specs.declared.blob_row.BlobRow.{BlobRow}
+use Rattle.pool_laws.specs.Types.{BlobRow, Chunk, PoolState, Reply, Decision}
 use Rattle.blob_rows.specs.BlobRows.{has_digest}
-use Rattle.swarm_model.specs.declared.attempt.Chunk.{Chunk}
-use Rattle.swarm_model.specs.declared.pool_state.PoolState.{PoolState}
-use Rattle.swarm_model.specs.declared.reply.Reply.{Reply}
 use Rattle.swarm_model.specs.declared.reply.Reply.TheVariants as reply
-use Rattle.swarm_model.specs.declared.answer.Decision.{Decision}
 use Rattle.swarm_model.specs.Answers.{show_blob}
 use Rattle.swarm_model.specs.Blobs.{lacks_chunk}
 use Rattle.swarm_model.specs.Finding.{blob_of}

@@ -1,10 +1,6 @@
 -- What no entry changes of a task.
 use Rattle.std.proofs.Common.{◌≡◌, ℕ, List, Option, refl}
-use Rattle.task_props.specs.declared.new_task.NewTask.{NewTask}
-use Rattle.swarm_model.specs.declared.task_row.TaskRow.{TaskRow}
-use Rattle.swarm_model.specs.declared.pool_state.PoolState.{PoolState}
-use Rattle.swarm_model.specs.declared.entry.EntryKind.{EntryKind}
-use Rattle.swarm_model.specs.declared.entry.Outcome.{Outcome}
+use Rattle.pool_laws.specs.Types.{NewTask, TaskRow, PoolState, EntryKind, Outcome}
 use Rattle.swarm_model.specs.declared.entry.Outcome.TheVariants as outcome
 use Rattle.swarm_model.specs.Deadlines.{next_of}
 use Rattle.swarm_model.specs.Effects.{task_after, expired_slice}

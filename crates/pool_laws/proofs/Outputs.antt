@@ -4,9 +4,7 @@ use Rattle.std.specs.List.{All}
 use Rattle.std.specs.Option.{option_map}
 use Rattle.std.proofs.lemmas.Bool.{and_parts, leb-true}
 use Rattle.std.proofs.lemmas.List.Elements.{All-nil, All-push}
-use Rattle.swarm_model.specs.declared.attempt.Attempt.{Attempt}
-use Rattle.swarm_model.specs.declared.attempt.Chunk.{Chunk}
-use Rattle.swarm_model.specs.declared.attempt.Last.{Last}
+use Rattle.pool_laws.specs.Types.{Attempt, Chunk, Last}
 use Rattle.swarm_model.specs.Effects.{fresh_chunk, with_chunk, killed, with_last_report}
 use Rattle.swarm_model.specs.Fits.{fits_chunk}
 use Rattle.swarm_model.specs.Output.{AreInRow}

@@ -4,13 +4,7 @@ use Rattle.std.specs.Prelude.{if◌then◌else◌}
 use Rattle.std.specs.Option.{option_map}
 use Rattle.std.proofs.lemmas.Bool.{eq-eqb, ne_eqb, eqb-false}
 use Rattle.dimensions.specs.Choosing.{when}
-use Rattle.swarm_model.specs.declared.task_state.TaskState.{TaskState}
-use Rattle.swarm_model.specs.declared.task_state.TaskState.TheVariants.{Pending, Running, BotDied, Canceled, Killed}
-use Rattle.swarm_model.specs.declared.attempt.Attempt.{Attempt}
-use Rattle.swarm_model.specs.declared.attempt.Chunk.{Chunk}
-use Rattle.swarm_model.specs.declared.retried.Retried.{Retried}
-use Rattle.swarm_model.specs.declared.task_row.TaskRow.{TaskRow}
-use Rattle.swarm_model.specs.declared.entry.EntryKind.{EntryKind}
+use Rattle.pool_laws.specs.Types.{TaskState, Pending, Running, BotDied, Canceled, Killed, Attempt, Chunk, Retried, TaskRow, EntryKind}
 use Rattle.swarm_model.specs.Finding.{is_state, is_final}
 use Rattle.swarm_model.specs.Effects.{end_state, killed, with_chunk, is_idempotent, is_first_run, is_tried_again, retried_from, retried_run, died_run, lost_run}
 use Rattle.swarm_model.specs.Soundness.{IsRightTry, runner}

@@ -3,22 +3,10 @@ use Rattle.std.proofs.Common.{◌≡◌, ℕ, ◌+◌, ◌<◌, Bool, true, fals
 use Rattle.std.specs.Prelude.{⊤, slice_get}
 use Rattle.std.specs.Option.{option_map_or, option_and_then}
 use Rattle.dimensions.specs.Alike.{same}
-use Rattle.blob_rows.specs.declared.blob_row.BlobRow.{BlobRow}
+use Rattle.pool_laws.specs.Types.{BlobRow, NewTask, Slice, TaskState, Pending, Running, Completed, NoResource, Attempt, Chunk, Last, TaskRow, BotRow, PoolState, EntryKind, Outcome}
 use Rattle.task_props.specs.Canonical.{hash}
-use Rattle.task_props.specs.declared.new_task.NewTask.{NewTask}
-use Rattle.task_props.specs.declared.slice.Slice.{Slice}
 use Rattle.task_props.specs.Checked.{is_checked}
-use Rattle.swarm_model.specs.declared.task_state.TaskState.{TaskState}
-use Rattle.swarm_model.specs.declared.task_state.TaskState.TheVariants.{Pending, Running, Completed, NoResource}
-use Rattle.swarm_model.specs.declared.attempt.Attempt.{Attempt}
-use Rattle.swarm_model.specs.declared.attempt.Chunk.{Chunk}
-use Rattle.swarm_model.specs.declared.attempt.Last.{Last}
-use Rattle.swarm_model.specs.declared.task_row.TaskRow.{TaskRow}
-use Rattle.swarm_model.specs.declared.bot_row.BotRow.{BotRow}
-use Rattle.swarm_model.specs.declared.pool_state.PoolState.{PoolState}
-use Rattle.swarm_model.specs.declared.entry.EntryKind.{EntryKind}
 use Rattle.swarm_model.specs.declared.entry.EntryKind.TheVariants as kind
-use Rattle.swarm_model.specs.declared.entry.Outcome.{Outcome}
 use Rattle.swarm_model.specs.declared.entry.Outcome.TheVariants as outcome
 use Rattle.swarm_model.specs.Finding.{has_state, is_state, is_final, task_of, bot_named, blob_numbered}
 use Rattle.swarm_model.specs.Slices.{first}

@@ -2,13 +2,8 @@
 use Rattle.std.proofs.Common.{◌≡◌, ℕ, true, false, List, Option, Some, None, refl, ap, sym, subst, ◌∙◌}
 use Rattle.std.specs.Option.{option_map}
 use Rattle.std.proofs.lemmas.Bool.{false≢true}
-use Rattle.swarm_model.specs.declared.pool_state.PoolState.{PoolState}
-use Rattle.swarm_model.specs.declared.entry.EntryKind.{EntryKind}
-use Rattle.swarm_model.specs.declared.request.Request.{Request}
-use Rattle.swarm_model.specs.declared.rule.Rule.{Rule}
-use Rattle.swarm_model.specs.declared.reply.Reply.{Reply}
+use Rattle.pool_laws.specs.Types.{PoolState, EntryKind, Request, Rule, Reply, Decision}
 use Rattle.swarm_model.specs.declared.reply.Reply.TheVariants as reply
-use Rattle.swarm_model.specs.declared.answer.Decision.{Decision}
 use Rattle.swarm_model.specs.Answers.{decide, entry_at}
 use Rattle.swarm_model.specs.RefusalLaw.{RefusalsAddNothing}
 use Rattle.pool_laws.proofs.Decisions.{BringsNone, IsPlain, is_refusal, of_each}

@@ -3,26 +3,15 @@ use Rattle.std.proofs.Common.{◌≡◌, ℕ, ◌==◌, ◌&&◌, ◌||◌, ◌�
 use Rattle.std.specs.Option.{option_map, option_map_or, option_and_then}
 use Rattle.std.proofs.lemmas.Bool.{cond_both, eq-eqb, ne_eqb}
 use Rattle.std.proofs.lemmas.Option.{same_Some}
-use Rattle.swarm_model.specs.declared.attempt.Attempt.{Attempt}
-use Rattle.swarm_model.specs.declared.retried.Retried.{Retried}
-use Rattle.swarm_model.specs.declared.attempt.Chunk.{Chunk}
-use Rattle.swarm_model.specs.declared.attempt.Last.{Last}
-use Rattle.swarm_model.specs.declared.task_state.TaskState.{TaskState}
-use Rattle.swarm_model.specs.declared.task_state.TaskState.TheVariants.{BotDied}
+use Rattle.pool_laws.specs.Types.{Attempt, Retried, Chunk, Last, TaskState, BotDied, Reply, Answer, Decision, TaskRow, BotRow, PoolState}
 use Rattle.dimensions.specs.Alike.{same as same_text}
 use Rattle.dimensions.specs.Choosing.{when, ◌or_else◌}
 use Rattle.swarm_model.specs.declared.request.Request.TheVariants as ask
 use Rattle.pool_laws.proofs.EntryPreconditions.{or_right}
 use Rattle.pool_laws.proofs.Rows.{task_is}
 use Rattle.swarm_model.specs.declared.entry.EntryKind.TheVariants as kind
-use Rattle.swarm_model.specs.declared.reply.Reply.{Reply}
 use Rattle.swarm_model.specs.declared.reply.Reply.TheVariants as reply
 use Rattle.swarm_model.specs.declared.rule.Rule.TheVariants as rule
-use Rattle.swarm_model.specs.declared.answer.Answer.{Answer}
-use Rattle.swarm_model.specs.declared.answer.Decision.{Decision}
-use Rattle.swarm_model.specs.declared.task_row.TaskRow.{TaskRow}
-use Rattle.swarm_model.specs.declared.bot_row.BotRow.{BotRow}
-use Rattle.swarm_model.specs.declared.pool_state.PoolState.{PoolState}
 use Rattle.swarm_model.specs.Finding.{is_final, is_task, bot_named}
 use Rattle.swarm_model.specs.Answers.{answer, claimed, is_claim, is_claimed, as_claimed, lost_row, if_lost, if_named, has_try, try_of, entry_at, or_refuse, reply_with_entry, updates, refusal, file_missing, chunk_rule, store_full, unplaced_chunk, is_first_report, report, report_again, report_running, report_on, not_claimant, is_kept}
 use Rattle.swarm_model.specs.Blobs.{missing_file}

@@ -4,20 +4,10 @@ use Rattle.std.specs.Option.{option_map, option_and_then}
 use Rattle.std.proofs.lemmas.Bool.{cond_both}
 use Rattle.dimensions.specs.Rules.{is_empty}
 use Rattle.task_props.specs.Alike.{same_task}
-use Rattle.task_props.specs.declared.new_task.NewTask.{NewTask}
-use Rattle.dimensions.specs.declared.bot_dims.BotDims.{BotDims}
-use Rattle.swarm_model.specs.declared.attempt.Attempt.{Attempt}
-use Rattle.swarm_model.specs.declared.attempt.Chunk.{Chunk}
-use Rattle.swarm_model.specs.declared.attempt.Last.{Last}
+use Rattle.pool_laws.specs.Types.{NewTask, BotDims, Attempt, Chunk, Last, Request, Answer, Decision, TaskRow, BotRow, PoolState}
 use Rattle.swarm_model.specs.declared.entry.EntryKind.TheVariants as kind
-use Rattle.swarm_model.specs.declared.request.Request.{Request}
 use Rattle.swarm_model.specs.declared.request.Request.TheVariants as ask
 use Rattle.swarm_model.specs.declared.rule.Rule.TheVariants as rule
-use Rattle.swarm_model.specs.declared.answer.Answer.{Answer}
-use Rattle.swarm_model.specs.declared.answer.Decision.{Decision}
-use Rattle.swarm_model.specs.declared.task_row.TaskRow.{TaskRow}
-use Rattle.swarm_model.specs.declared.bot_row.BotRow.{BotRow}
-use Rattle.swarm_model.specs.declared.pool_state.PoolState.{PoolState}
 use Rattle.swarm_model.specs.Finding.{is_final, is_task, task_of, bot_named}
 use Rattle.swarm_model.specs.Answers.{answer, claimed, as_claimed, entry_at, or_refuse, updates, refusal, file_missing, chunk_rule, store_full, unplaced_chunk, is_first_report, report, report_again, report_running, report_on, not_claimant, is_kept, named_task}
 use Rattle.swarm_model.specs.Blobs.{missing_file}

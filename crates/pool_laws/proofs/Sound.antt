@@ -2,12 +2,7 @@
 use Rattle.std.proofs.Common.{◌≡◌, ◌≤◌, List, [], ◌∷◌, refl, ◌∙◌, lit≤, arith}
 use Rattle.std.specs.List.{All}
 use Rattle.std.proofs.lemmas.List.Elements.{All-nil}
-use Rattle.swarm_model.specs.declared.pool_settings.PoolSettings.{PoolSettings}
-use Rattle.swarm_model.specs.declared.task_row.TaskRow.{TaskRow}
-use Rattle.swarm_model.specs.declared.bot_row.BotRow.{BotRow}
-use Rattle.swarm_model.specs.declared.pool_state.PoolState.{PoolState}
-use Rattle.swarm_model.specs.declared.deadline.Deadline.{Deadline}
-use Rattle.swarm_model.specs.declared.entry.Entry.{Entry}
+use Rattle.pool_laws.specs.Types.{PoolSettings, TaskRow, BotRow, PoolState, Deadline, Entry}
 use Rattle.swarm_model.specs.Effects.{opening, after}
 use Rattle.swarm_model.specs.History.{replay, IsCaused, MayFollow}
 use Rattle.swarm_model.specs.Soundness.{IsSound, IsSoundTask, IsSoundBot, IsSoundBlob, Agree, AreClaimedApart, AreSentApart, AreNamedApart, StaysSound}

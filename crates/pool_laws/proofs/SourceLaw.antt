@@ -6,10 +6,7 @@ use Rattle.std.specs.Option.{option_map}
 use Rattle.std.proofs.lemmas.Option.{same_Some}
 use Rattle.std.proofs.lemmas.List.Elements.{All-nil, All-cons, All-contains_itself}
 use Rattle.dimensions.specs.Choosing.{◌or_else◌}
-use Rattle.task_props.specs.declared.slice.Slice.{Slice}
-use Rattle.swarm_model.specs.declared.task_row.TaskRow.{TaskRow}
-use Rattle.swarm_model.specs.declared.pool_state.PoolState.{PoolState}
-use Rattle.swarm_model.specs.declared.reuse.Reuse.{Reuse}
+use Rattle.pool_laws.specs.Types.{Slice, TaskRow, PoolState, Reuse}
 use Rattle.swarm_model.specs.Numbers.{AreNumbered}
 use Rattle.swarm_model.specs.Effects.{no_of_task}
 use Rattle.swarm_model.specs.Reuse.{newer, newest_source, is_source, source_for, at_slice, reuse_from, reuse}

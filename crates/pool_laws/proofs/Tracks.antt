@@ -1,9 +1,6 @@
 -- A task followed through a log.
 use Rattle.std.proofs.Common.{◌≡◌, ℕ, List, [], ◌∷◌, refl, sym, ◌∙◌, subst, true}
-use Rattle.swarm_model.specs.declared.task_row.TaskRow.{TaskRow}
-use Rattle.swarm_model.specs.declared.pool_state.PoolState.{PoolState}
-use Rattle.swarm_model.specs.declared.entry.Entry.{Entry}
-use Rattle.swarm_model.specs.declared.entry.EntryKind.{EntryKind}
+use Rattle.pool_laws.specs.Types.{TaskRow, PoolState, Entry, EntryKind}
 use Rattle.swarm_model.specs.Finding.{is_final}
 use Rattle.swarm_model.specs.Effects.{task_after, added_tasks, after}
 use Rattle.swarm_model.specs.History.{replay, IsCaused}

@@ -5,10 +5,7 @@ use Rattle.std.proofs.lemmas.Bool.{and_parts, and_from}
 use Rattle.std.proofs.lemmas.Option.{same_Some}
 use Rattle.dimensions.specs.Alike.{same}
 use Rattle.dimensions.specs.Rules.{is_empty}
-use Rattle.swarm_model.specs.declared.task_row.TaskRow.{TaskRow}
-use Rattle.swarm_model.specs.declared.pool_state.PoolState.{PoolState}
-use Rattle.swarm_model.specs.declared.entry.Entry.{Entry}
-use Rattle.swarm_model.specs.declared.entry.EntryKind.{EntryKind}
+use Rattle.pool_laws.specs.Types.{TaskRow, PoolState, Entry, EntryKind}
 use Rattle.swarm_model.specs.declared.entry.EntryKind.TheVariants as kind
 use Rattle.swarm_model.specs.Effects.{task_after, added_tasks, new_row, after}
 use Rattle.swarm_model.specs.History.{MayFollow}

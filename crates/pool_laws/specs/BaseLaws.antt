@@ -1,9 +1,7 @@
 -- What holds of rows from which a pool may open, and of their weight.
 use Rattle.std.specs.Prelude.{◌≡◌, ℕ, ◌+◌, ◌≤◌, ◌^◌, List, length}
 use Rattle.std.specs.List.{sum_by}
-use Rattle.swarm_model.specs.declared.pool_settings.PoolSettings.{PoolSettings}
-use Rattle.swarm_model.specs.declared.pool_state.PoolState.{PoolState}
-use Rattle.swarm_model.specs.declared.entry.Entry.{Entry}
+use Rattle.pool_laws.specs.Types.{PoolSettings, PoolState, Entry}
 use Rattle.swarm_model.specs.Entries.{weight}
 use Rattle.swarm_model.specs.Effects.{after, opening}
 use Rattle.swarm_model.specs.History.{replay, MayFollow, IsCaused}

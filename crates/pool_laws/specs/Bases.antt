@@ -1,9 +1,7 @@
 -- What holds of a log that begins from the rows of a base.
 use Rattle.std.specs.Prelude.{◌≡◌, ℕ, List, ◌++◌, Some}
 use Rattle.std.specs.List.{All, sum_by}
-use Rattle.swarm_model.specs.declared.task_row.TaskRow.{TaskRow}
-use Rattle.swarm_model.specs.declared.pool_state.PoolState.{PoolState}
-use Rattle.swarm_model.specs.declared.entry.Entry.{Entry}
+use Rattle.pool_laws.specs.Types.{TaskRow, PoolState, Entry}
 use Rattle.swarm_model.specs.declared.entry.EntryKind.TheVariants as kind
 use Rattle.swarm_model.specs.Finding.{task_of}
 use Rattle.swarm_model.specs.Claims.{IsRightClaim}

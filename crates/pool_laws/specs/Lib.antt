@@ -1,3 +1,4 @@
+pub mod Types
 pub mod NamedBlobs
 pub mod OutputLaw
 pub mod BaseLaws

@@ -1,10 +1,7 @@
 -- The blobs whose bytes a reply needs.
 use Rattle.std.specs.Prelude.{ℕ, ⊤, ◌≤◌, IsTrue, List}
 use Rattle.std.specs.List.{All}
-use Rattle.swarm_model.specs.declared.pool_state.PoolState.{PoolState}
-use Rattle.swarm_model.specs.declared.request.Request.{Request}
-use Rattle.swarm_model.specs.declared.reply.Part.{Part}
-use Rattle.swarm_model.specs.declared.reply.Reply.{Reply}
+use Rattle.pool_laws.specs.Types.{PoolState, Request, Part, Reply}
 use Rattle.swarm_model.specs.declared.reply.Reply.TheVariants as reply
 use Rattle.swarm_model.specs.Answers.{answer}
 use Rattle.swarm_model.specs.Finding.{has_blob}

@@ -1,13 +1,6 @@
 -- Rows to which a log leads, and from which a pool may open.
 use Rattle.std.specs.Prelude.{false, List, [], ◌∷◌, Some, None, codes}
-use Rattle.blob_rows.specs.declared.blob_row.BlobRow.{BlobRow}
-use Rattle.swarm_model.specs.declared.task_state.TaskState.TheVariants.{Pending, Running}
-use Rattle.swarm_model.specs.declared.attempt.Attempt.{Attempt}
-use Rattle.swarm_model.specs.declared.pool_settings.PoolSettings.{PoolSettings}
-use Rattle.swarm_model.specs.declared.task_row.TaskRow.{TaskRow}
-use Rattle.swarm_model.specs.declared.bot_row.BotRow.{BotRow}
-use Rattle.swarm_model.specs.declared.pool_state.PoolState.{PoolState}
-use Rattle.swarm_model.specs.declared.entry.Entry.{Entry}
+use Rattle.pool_laws.specs.Types.{BlobRow, Pending, Running, Attempt, PoolSettings, TaskRow, BotRow, PoolState, Entry}
 use Rattle.swarm_model.specs.declared.entry.EntryKind.TheVariants as kind
 use Rattle.swarm_model.specs.Answers.{entry_at}
 use Rattle.swarm_model.specs.Effects.{opening}

@@ -3,12 +3,9 @@ use Rattle.std.proofs.Common.{◌≡◌, ℕ, ◌+◌, ◌<◌, ◌≤◌, inl, 
 use Rattle.std.specs.Option.{option_map_or}
 use Rattle.std.proofs.lemmas.List.{drop_more, drop_all}
 use Rattle.std.proofs.lemmas.Option.{none-some, slice_get_cases, slice_get_within, get_or_from_slice_get}
-use Rattle.dimensions.specs.declared.text.Text.{Text}
+use Rattle.pool_loading.specs.Types.{Text, PoolSettings, PoolState, BaseRows}
 use Rattle.swarm_keeper.specs.Tables.{Tables}
-use Rattle.swarm_model.specs.declared.pool_settings.PoolSettings.{PoolSettings}
-use Rattle.swarm_model.specs.declared.pool_state.PoolState.{PoolState}
 use Rattle.swarm_model.specs.BaseRules.{IsBase}
-use Rattle.base_lines.specs.declared.base_rows.BaseRows.{BaseRows}
 use Rattle.base_lines.specs.Reading.{with_line, read_from, read_lines, lines_in, AreRead, base_of, rows_of, TellThePool}
 use Rattle.base_lines.proofs.Rising.{numbers_rise}
 use Rattle.pool_loading.specs.declared.store_part.StorePart.{StorePart}

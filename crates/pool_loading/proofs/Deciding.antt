@@ -1,8 +1,7 @@
 -- When an entry may follow.
 use Rattle.std.proofs.Common.{◌≡◌, ◌≤◌, ◌^◌, Bool, true, false, Option, Some, None, Decides, IfOk, IsSomeAnd, is_some, Result, Ok, Err, refl, sym, ap, ◌∙◌, subst, true≢false}
 use Rattle.std.specs.Bool.{MatchBool}
-use Rattle.swarm_model.specs.declared.entry.Entry.{Entry}
-use Rattle.swarm_model.specs.declared.pool_state.PoolState.{PoolState}
+use Rattle.pool_loading.specs.Types.{Entry, PoolState}
 use Rattle.swarm_model.specs.Answers.{answer}
 use Rattle.swarm_model.specs.Deadlines.{due_entry}
 use Rattle.swarm_model.specs.Entries.{Asked, asks, is_deadline}

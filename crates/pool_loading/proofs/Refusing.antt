@@ -4,8 +4,7 @@ use Rattle.std.proofs.lemmas.Bool.{and_from}
 use Rattle.std.proofs.lemmas.List.{length_push}
 use Rattle.std.proofs.lemmas.List.Sums.{sum_by_push}
 use Rattle.std.proofs.lemmas.Option.{same_Some}
-use Rattle.swarm_model.specs.declared.entry.Entry.{Entry}
-use Rattle.swarm_model.specs.declared.pool_state.PoolState.{PoolState}
+use Rattle.pool_loading.specs.Types.{Entry, PoolState}
 use Rattle.swarm_model.specs.Effects.{after}
 use Rattle.swarm_model.specs.Entries.{weight}
 use Rattle.swarm_model.specs.History.{replay, IsCaused, IsLegal, MayFollow, has_room}

@@ -3,8 +3,7 @@ use Rattle.std.proofs.Common.{◌≡◌, ℕ, inl, List, [], ◌∷◌, ◌++◌
 use Rattle.std.specs.Prelude.{slice_get}
 use Rattle.std.proofs.lemmas.Option.{none-some, same_Some}
 use Rattle.swarm_keeper.specs.Tables.{Tables}
-use Rattle.swarm_model.specs.declared.entry.Entry.{Entry}
-use Rattle.swarm_model.specs.declared.pool_settings.PoolSettings.{PoolSettings}
+use Rattle.pool_loading.specs.Types.{Entry, PoolSettings}
 use Rattle.swarm_model.specs.Bases.{Base}
 use Rattle.swarm_model.specs.MachineState.{MachineState}
 use Rattle.entry_lines.specs.Lines.{entry_of_line}

@@ -5,12 +5,8 @@ use Rattle.std.specs.List.{All}
 use Rattle.std.specs.Option.{option_map}
 use Rattle.std.proofs.lemmas.List.Sums.{sum_by-append}
 use Rattle.std.proofs.lemmas.Option.{none-some, same_Some, slice_get_within, get_or_from_slice_get}
-use Rattle.blob_rows.specs.declared.blob_row.BlobRow.{BlobRow}
-use Rattle.blob_rows.specs.declared.filled.Filled.TheVariants.{Done}
+use Rattle.pool_loading.specs.Types.{BlobRow, Done, PoolSettings, PoolState, Entry}
 use Rattle.swarm_keeper.specs.Tables.{Tables, bytes_of}
-use Rattle.swarm_model.specs.declared.pool_settings.PoolSettings.{PoolSettings}
-use Rattle.swarm_model.specs.declared.pool_state.PoolState.{PoolState}
-use Rattle.swarm_model.specs.declared.entry.Entry.{Entry}
 use Rattle.swarm_model.specs.BaseRules.{IsBase}
 use Rattle.swarm_model.specs.Bases.{Base}
 use Rattle.swarm_model.specs.Bytes.{filled}

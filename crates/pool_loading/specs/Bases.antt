@@ -1,8 +1,7 @@
 -- How the rows of a base are read from its lines, one after another.
 use Rattle.std.specs.Prelude.{◌≡◌, ℕ, ◌≤◌, List, length, drop, Option, IfSome, Ok, Err}
-use Rattle.dimensions.specs.declared.text.Text.{Text}
+use Rattle.pool_loading.specs.Types.{Text, BaseRows}
 use Rattle.swarm_keeper.specs.Tables.{Tables}
-use Rattle.base_lines.specs.declared.base_rows.BaseRows.{BaseRows}
 use Rattle.base_lines.specs.Reading.{read_from, read_lines, lines_in, AreRead}
 
 -- the rows are those of the first lines: what all lines tell is what the others tell behind them

@@ -1,9 +1,7 @@
 -- How the blobs of a machine get their bytes.
 use Rattle.std.specs.Prelude.{◌≡◌, ◌<◌, ℕ, List, Option, Some, IfSome, IsTrue, is_some, slice_get}
-use Rattle.blob_rows.specs.declared.blob_row.BlobRow.{BlobRow}
-use Rattle.blob_rows.specs.declared.filled.Filled.TheVariants.{Done}
+use Rattle.pool_loading.specs.Types.{BlobRow, Done, PoolState}
 use Rattle.swarm_keeper.specs.Tables.{Tables, bytes_of}
-use Rattle.swarm_model.specs.declared.pool_state.PoolState.{PoolState}
 use Rattle.swarm_model.specs.Bytes.{HeldBytes, filled, with_bytes}
 use Rattle.swarm_model.specs.MachineState.{MachineState}
 use Rattle.pool_loading.specs.Records.{HasBytes, IsFilled}

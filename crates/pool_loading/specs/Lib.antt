@@ -1,3 +1,4 @@
+pub mod Types
 pub mod Records
 pub mod Asking
 pub mod Bases

@@ -1,8 +1,7 @@
 -- How a log is taken up again from its lines.
 use Rattle.std.specs.Prelude.{◌≡◌, ℕ, List, [], ◌∷◌, ◌++◌, length, take, Option, Some, None, IfSome}
 use Rattle.swarm_keeper.specs.Tables.{Tables}
-use Rattle.swarm_model.specs.declared.pool_settings.PoolSettings.{PoolSettings}
-use Rattle.swarm_model.specs.declared.entry.Entry.{Entry}
+use Rattle.pool_loading.specs.Types.{PoolSettings, Entry}
 use Rattle.swarm_model.specs.Bases.{Base}
 use Rattle.swarm_model.specs.MachineState.{MachineState, IsHistory}
 use Rattle.entry_lines.specs.Lines.{entry_of_line}

@@ -1,20 +1,14 @@
 -- Kept records, and the machine that they are loaded into.
 use Rattle.std.specs.Prelude.{◌≡◌, ◌⊎◌, ℕ, List, [], ◌∷◌, ◌++◌, length, map, take, slice_get, Option, Some, None, option_map, IfSome, IsSomeAnd, IsTrue, is_some, Result, Ok, Err}
 use Rattle.std.specs.List.{All}
-use Rattle.dimensions.specs.declared.text.Text.{Text}
-use Rattle.blob_rows.specs.declared.filled.Filled.TheVariants.{Done}
-use Rattle.blob_rows.specs.declared.blob_row.BlobRow.{BlobRow}
+use Rattle.pool_loading.specs.Types.{Text, Done, BlobRow, PoolSettings, PoolState, Entry, BaseRows}
 use Rattle.swarm_keeper.specs.Tables.{Tables, bytes_of}
-use Rattle.swarm_model.specs.declared.pool_settings.PoolSettings.{PoolSettings}
-use Rattle.swarm_model.specs.declared.pool_state.PoolState.{PoolState}
-use Rattle.swarm_model.specs.declared.entry.Entry.{Entry}
 use Rattle.swarm_model.specs.BaseRules.{IsBase}
 use Rattle.swarm_model.specs.Bases.{Base}
 use Rattle.swarm_model.specs.Bytes.{filled}
 use Rattle.swarm_model.specs.History.{replay, IsLegal}
 use Rattle.swarm_model.specs.MachineState.{MachineState, IsHistory}
 use Rattle.entry_lines.specs.Lines.{entry_of_line}
-use Rattle.base_lines.specs.declared.base_rows.BaseRows.{BaseRows}
 use Rattle.base_lines.specs.Reading.{read_lines, base_of}
 use Rattle.pool_loading.specs.declared.store_part.StorePart.{StorePart}
 use Rattle.pool_loading.specs.declared.store_part.StorePart.TheVariants as part

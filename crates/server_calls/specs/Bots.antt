@@ -1,8 +1,7 @@
 -- What the replies of the calls on bots tell.
 use Rattle.std.specs.Prelude.{ℕ, Bool, List, [], ◌∷◌, Option, Result, Ok, codes}
 use Rattle.serde_json.specs.Data.{Data}
-use Rattle.task_props.specs.declared.prop_fault.PropFault.{PropFault}
-use Rattle.swarm_model.specs.declared.bot_view.BotView.{BotView}
+use Rattle.server_calls.specs.Types.{PropFault, BotView}
 use Rattle.swarm_model.specs.declared.reply.Reply.TheVariants as reply
 use Rattle.json_fields.specs.Readings.{◌>>=◌}
 use Rattle.json_fields.specs.Fields.{required_text_at, object_item, text_item, each_at}

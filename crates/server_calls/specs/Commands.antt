@@ -3,10 +3,7 @@ use Rattle.std.specs.Prelude.{ℕ, pos, true, List, [], ◌∷◌, Option, Some,
 use Rattle.serde_json.specs.Data.{Data}
 use Rattle.dimensions.specs.Alike.{same}
 use Rattle.task_props.specs.declared.properties.Properties.{Properties}
-use Rattle.task_props.specs.declared.prop_rule.PropRule.{PropRule}
-use Rattle.task_props.specs.declared.prop_rule.PropRule.TheVariants.{Grammar}
-use Rattle.task_props.specs.declared.prop_fault.PropFault.{PropFault}
-use Rattle.task_props.specs.declared.prop_fault.PropFault.TheVariants.{Broken}
+use Rattle.server_calls.specs.Types.{PropRule, Grammar, PropFault, Broken}
 use Rattle.task_checks.specs.declared.raw_task.RawTask.{RawTask}
 use Rattle.task_checks.specs.declared.raw_task.RawProperties.{RawProperties}
 use Rattle.task_checks.specs.Broken.{first_broken_task}

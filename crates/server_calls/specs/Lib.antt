@@ -1,3 +1,4 @@
+pub mod Types
 pub mod Members
 pub mod Places
 pub mod Refusals

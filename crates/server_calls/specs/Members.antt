@@ -2,11 +2,7 @@
 use Rattle.std.specs.Prelude.{ℕ, ℤ, Bool, List, [], Option, Some, None, Result, Ok, Err, codes}
 use Rattle.serde_json.specs.Data.{Data}
 use Rattle.task_props.specs.declared.file.File.{File}
-use Rattle.task_props.specs.declared.prop_rule.PropRule.{PropRule}
-use Rattle.task_props.specs.declared.prop_rule.PropRule.TheVariants.{Missing, Grammar}
-use Rattle.task_props.specs.declared.prop_fault.PropFault.{PropFault}
-use Rattle.task_props.specs.declared.prop_fault.PropFault.TheVariants.{Broken}
-use Rattle.swarm_model.specs.declared.task_state.TaskState.{TaskState}
+use Rattle.server_calls.specs.Types.{PropRule, Missing, Grammar, PropFault, Broken, TaskState}
 use Rattle.swarm_model.specs.States.{state_named}
 use Rattle.json_fields.specs.Readings.{at, ◌>>=◌}
 use Rattle.json_fields.specs.Fields.{some_of as field_some, present, or_absent, object_of, text_of, flag_of, required_text_at, optional_number_at, unknown_key, unless_unknown}

@@ -1,9 +1,7 @@
 -- What a page of tasks or of bots tells.
 use Rattle.std.specs.Prelude.{ℕ, List, [], ◌∷◌, Option, Some, Result, Ok, codes}
 use Rattle.serde_json.specs.Data.{Data}
-use Rattle.task_props.specs.declared.prop_fault.PropFault.{PropFault}
-use Rattle.swarm_model.specs.declared.task_view.TaskView.{TaskView}
-use Rattle.swarm_model.specs.declared.bot_view.BotView.{BotView}
+use Rattle.server_calls.specs.Types.{PropFault, TaskView, BotView}
 use Rattle.swarm_model.specs.declared.reply.Reply.TheVariants as reply
 use Rattle.json_fields.specs.Readings.{◌>>=◌}
 use Rattle.json_fields.specs.Fields.{object_item, each_at}

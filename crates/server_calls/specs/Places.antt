@@ -2,9 +2,7 @@
 use Rattle.std.specs.Prelude.{ℕ, ◌==◌, Bool, true, List, [], Option, Some, None, if◌then◌else◌, Result, Ok, Err, codes}
 use Rattle.std.specs.List.{list_all}
 use Rattle.serde_json.specs.Data.{Data}
-use Rattle.task_props.specs.declared.prop_rule.PropRule.TheVariants.{Grammar, Range}
-use Rattle.task_props.specs.declared.prop_fault.PropFault.{PropFault}
-use Rattle.task_props.specs.declared.prop_fault.PropFault.TheVariants.{Broken}
+use Rattle.server_calls.specs.Types.{Grammar, Range, PropFault, Broken}
 use Rattle.json_fields.specs.Readings.{at, ◌>>=◌}
 use Rattle.json_fields.specs.Fields.{required_text_at}
 use Rattle.json_fields.specs.Ids.{id_of, run_of, place_of_number, task_of_number, place_of_id, task_of_id, try_of_id}

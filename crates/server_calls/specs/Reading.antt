@@ -1,10 +1,7 @@
 -- What the bytes of a reply tell.
 use Rattle.std.specs.Prelude.{ℕ, ◌==◌, List, [], Option, Some, None, if◌then◌else◌, Result, Ok, Err}
 use Rattle.serde_json.specs.Data.{Data}
-use Rattle.task_props.specs.declared.prop_rule.PropRule.TheVariants.{WrongType}
-use Rattle.task_props.specs.declared.prop_fault.PropFault.{PropFault}
-use Rattle.task_props.specs.declared.prop_fault.PropFault.TheVariants.{Broken}
-use Rattle.routes.specs.declared.route.Route.{Route}
+use Rattle.server_calls.specs.Types.{WrongType, PropFault, Broken, Route}
 use Rattle.routes.specs.declared.route.Route.TheVariants as route
 use Rattle.json_fields.specs.Readings.{reading}
 use Rattle.server_calls.specs.declared.told.Told.{Told}

@@ -2,8 +2,7 @@
 use Rattle.std.specs.Prelude.{ℕ, List, Result, Ok, codes}
 use Rattle.serde_json.specs.Data.{Data}
 use Rattle.refusal_codes.specs.Codes.{code_named}
-use Rattle.task_props.specs.declared.prop_rule.PropRule.TheVariants.{Grammar}
-use Rattle.task_props.specs.declared.prop_fault.PropFault.{PropFault}
+use Rattle.server_calls.specs.Types.{Grammar, PropFault}
 use Rattle.json_fields.specs.Readings.{◌>>=◌}
 use Rattle.json_fields.specs.Fields.{required_text_at}
 use Rattle.server_calls.specs.declared.told.Told.{Told}

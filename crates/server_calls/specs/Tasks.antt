@@ -4,11 +4,7 @@ use Rattle.base64.specs.declared.decode.DecodeError.{DecodeError}
 use Rattle.base64.specs.Engines.{standard}
 use Rattle.base64.specs.GeneralPurpose.{decode_of}
 use Rattle.serde_json.specs.Data.{Data}
-use Rattle.task_props.specs.declared.prop_rule.PropRule.{PropRule}
-use Rattle.task_props.specs.declared.prop_rule.PropRule.TheVariants.{Grammar, Range}
-use Rattle.task_props.specs.declared.prop_fault.PropFault.{PropFault}
-use Rattle.swarm_model.specs.declared.task_state.TaskState.{TaskState}
-use Rattle.swarm_model.specs.declared.task_view.TaskView.{TaskView}
+use Rattle.server_calls.specs.Types.{PropRule, Grammar, Range, PropFault, TaskState, TaskView}
 use Rattle.swarm_model.specs.declared.reply.Reply.{Reply}
 use Rattle.swarm_model.specs.declared.reply.Reply.TheVariants as reply
 use Rattle.json_fields.specs.Readings.{at, ◌>>=◌}

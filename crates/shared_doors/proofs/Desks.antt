@@ -1,17 +1,13 @@
 -- A desk through whose turn its machine is read or written.
 use Rattle.std.proofs.Common.{◌≡◌, ℕ, ◌+◌, ◌<◌, ◌^◌, Bool, List, [], ◌∷◌, ◌++◌, length, Option, Result, IfOk, IsTrue, refl, sym, ap, subst, ◌∙◌}
 use Rattle.swarm_model.specs.declared.answer.Answer.{Answer}
-use Rattle.swarm_model.specs.declared.entry.Entry.{Entry}
-use Rattle.swarm_model.specs.declared.request.Request.{Request}
+use Rattle.shared_doors.specs.Types.{Entry, Request, Pass, Turn, Turnstile}
 use Rattle.swarm_model.specs.Answers.{answer}
 use Rattle.swarm_model.specs.Bases.{Base, empty_base}
 use Rattle.swarm_model.specs.Deadlines.{due_entry}
 use Rattle.swarm_model.specs.History.{IsLegal}
 use Rattle.swarm_model.specs.MachineState.{MachineState, IsHistory}
 use Rattle.swarm_history.specs.Settling.{Adds, IsUnchanged}
-use Rattle.turnstile.specs.declared.pass.Pass.{Pass}
-use Rattle.turnstile.specs.declared.turn.Turn.{Turn}
-use Rattle.turnstile.specs.declared.turnstile.Turnstile.{Turnstile}
 use Rattle.turnstile.specs.Lending.{turn_with}
 use Rattle.turnstile.specs.Passes.{HasNumbersOf, Holds, IsRaised, IsTurn, first_of, fixed_of, lock_of, made, number, numbers, of_value, pass_of, raised, seen, told, turns}
 use Rattle.turnstile.proofs.Lending.{Holds-one, Holds-turn_with, IsTurn-turn_with, turn_with-same}

@@ -1,8 +1,7 @@
 -- What a turnstile says of its passes, of what they know.
 use Rattle.std.proofs.Common.{◌≡◌, ◌⊎◌, ℕ, ◌+◌, ◌<◌, ◌==◌, min, max, if◌then◌else◌, List, [], ◌∷◌, ◌++◌, refl, sym, ◌∙◌}
 use mathlib.Core.List.{IsPrefix}
-use Rattle.swarm_model.specs.declared.entry.Entry.{Entry}
-use Rattle.turnstile.specs.declared.pass.Pass.{Pass}
+use Rattle.shared_doors.specs.Types.{Entry, Pass}
 use Rattle.turnstile.specs.Numbers.{times, own}
 use Rattle.turnstile.specs.Passes.{seen, number, numbers, made, told, turns}
 use Rattle.shared_doors.specs.declared.view.Lasting.{Lasting}

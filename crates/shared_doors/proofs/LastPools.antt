@@ -2,10 +2,8 @@
 use Rattle.std.proofs.Common.{◌≡◌, ℕ, ◌<◌, List, [], ◌∷◌, ◌++◌, map, length, get_or, reverse, refl, arith, ap, sym, subst, ◌∙◌, Option, Some, None}
 use Rattle.std.specs.List.{All}
 use Rattle.std.proofs.lemmas.List.{append_assoc, length_push, length-append, reverse-append}
-use Rattle.swarm_model.specs.declared.entry.Entry.{Entry}
+use Rattle.shared_doors.specs.Types.{Entry, Pass, Turnstile}
 use Rattle.swarm_model.specs.MachineState.{MachineState}
-use Rattle.turnstile.specs.declared.pass.Pass.{Pass}
-use Rattle.turnstile.specs.declared.turnstile.Turnstile.{Turnstile}
 use Rattle.turnstile.specs.Passes.{IsPassOf, fixed_of, opening}
 use Rattle.shared_doors.specs.declared.view.Lasting.{Lasting}
 use Rattle.shared_doors.specs.Joined.{AreClosed, IsAloneView, IsClosed}

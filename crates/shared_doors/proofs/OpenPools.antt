@@ -7,17 +7,13 @@ use Rattle.std.proofs.lemmas.List.Elements.{All-push}
 use Rattle.std.proofs.lemmas.List.Sums.{AllPass-from_list_all}
 use mathlib.Core.Logic.{dite}
 use native.Mathlib.Decide.{ℕ_discrete}
-use Rattle.swarm_model.specs.declared.entry.Entry.{Entry}
-use Rattle.swarm_model.specs.declared.pool_settings.PoolSettings.{PoolSettings}
-use Rattle.swarm_model.specs.declared.pool_settings.Settings.{Settings}
+use Rattle.shared_doors.specs.Types.{Entry, PoolSettings, Settings, Pass, Turnstile}
 use Rattle.swarm_model.specs.Bases.{empty_base}
 use Rattle.swarm_model.specs.Bytes.{nothing_held}
 use Rattle.swarm_model.specs.Effects.{opening as new_pool}
 use Rattle.swarm_model.specs.MachineState.{MachineState}
 use Rattle.swarm_model.specs.Settings.{are_settings, keeps_rules}
 use Rattle.swarm_model.specs.Words.{is_between}
-use Rattle.turnstile.specs.declared.pass.Pass.{Pass}
-use Rattle.turnstile.specs.declared.turnstile.Turnstile.{Turnstile}
 use Rattle.turnstile.specs.Passes.{IsPassOf, fixed_of, opening, seen, number, numbers, made, told, turns}
 use Rattle.shared_doors.specs.declared.view.Lasting.{Lasting}
 use Rattle.shared_doors.specs.Lasting.{first_lasting, lasting_of, IsStanding}

@@ -2,12 +2,8 @@
 use Rattle.std.proofs.Common.{◌≡◌, ℕ, ◌<◌, Bool, List, [], length, get_or, arith, ap, sym, subst, ◌∙◌, Option}
 use Rattle.std.specs.List.{All}
 use Rattle.std.proofs.lemmas.List.{get_or-map, get_or_default, length-map}
-use Rattle.swarm_model.specs.declared.entry.Entry.{Entry}
-use Rattle.swarm_model.specs.declared.pool_settings.PoolSettings.{PoolSettings}
-use Rattle.swarm_model.specs.declared.pool_settings.Settings.{Settings}
+use Rattle.shared_doors.specs.Types.{Entry, PoolSettings, Settings, Pass, Turnstile}
 use Rattle.swarm_model.specs.Bases.{Base, empty_base}
-use Rattle.turnstile.specs.declared.pass.Pass.{Pass}
-use Rattle.turnstile.specs.declared.turnstile.Turnstile.{Turnstile}
 use Rattle.turnstile.specs.Passes.{fixed_of, identity_of}
 use Rattle.turnstile.proofs.Identity.{IsPassOf-identity}
 use Rattle.shared_doors.specs.declared.view.Lasting.{Lasting}

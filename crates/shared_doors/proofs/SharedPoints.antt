@@ -4,15 +4,12 @@ use Rattle.std.specs.Bool.{MatchBool, OnTrue}
 use Rattle.std.specs.List.{AllByRecursion}
 use Rattle.std.proofs.lemmas.Bool.{false≢true}
 use Rattle.std.proofs.lemmas.List.{append_assoc}
-use Rattle.swarm_model.specs.declared.entry.Entry.{Entry}
-use Rattle.swarm_model.specs.declared.pool_state.PoolState.{PoolState}
+use Rattle.shared_doors.specs.Types.{Entry, PoolState, Answered, CallFault}
 use Rattle.swarm_model.specs.declared.reply.Reply.{Reply}
 use Rattle.swarm_model.specs.Bases.{Base, front}
 use Rattle.swarm_model.specs.History.{replay, moment_of}
 use Rattle.swarm_model.specs.MachineState.{MachineState}
 use Rattle.swarm_model.specs.Points.{Call, Growth, added, IsByOther, Grows, IsPoint, IsSettled, IsStopped, IsFrontAhead, IsServed, LacksRoom, is_ahead, next_entry, taken_by, Finds}
-use Rattle.pool_doors.specs.declared.door.Answered.{Answered}
-use Rattle.pool_doors.specs.declared.door.CallFault.{CallFault}
 use Rattle.pool_doors.specs.Doors.{is_log_full, IsAnsweredCall, IsPoolCall}
 use Rattle.swarm_history.specs.Settling.{IsPointAlone, IsOwnStop, HasFrontAndPieces}
 use Rattle.swarm_history.proofs.OwnPoints.{answered_call, told_front}

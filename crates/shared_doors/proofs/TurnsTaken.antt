@@ -1,16 +1,11 @@
 -- What a pass knows after a turn in which nothing was written.
 use Rattle.std.proofs.Common.{◌≡◌, ℕ, ◌+◌, ◌<◌, List, [], Option, Some, None, length, get_or, set, arith, ap, sym, subst, ◌∙◌}
 use Rattle.std.proofs.lemmas.List.{get_or_default, length-map}
-use Rattle.swarm_model.specs.declared.entry.Entry.{Entry}
-use Rattle.swarm_model.specs.declared.pool_settings.PoolSettings.{PoolSettings}
-use Rattle.swarm_model.specs.declared.pool_state.PoolState.{PoolState}
+use Rattle.shared_doors.specs.Types.{Entry, PoolSettings, PoolState, Pass, Turn, Turnstile}
 use Rattle.swarm_model.specs.Bases.{Base, empty_base}
 use Rattle.swarm_model.specs.Effects.{opening}
 use Rattle.swarm_model.specs.History.{IsLegal}
 use Rattle.swarm_history.specs.Machines.{no_pool}
-use Rattle.turnstile.specs.declared.pass.Pass.{Pass}
-use Rattle.turnstile.specs.declared.turn.Turn.{Turn}
-use Rattle.turnstile.specs.declared.turnstile.Turnstile.{Turnstile}
 use Rattle.turnstile.specs.Numbers.{times, own, Continues}
 use Rattle.turnstile.specs.Passes.{HasNumbersOf, lock_of, number, numbers, pass_of, raised, seen, told, turns}
 use Rattle.shared_doors.specs.declared.view.Lasting.{Lasting}

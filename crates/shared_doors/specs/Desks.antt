@@ -1,12 +1,11 @@
 -- A turn at the machine of a pool.
 use Rattle.std.specs.Prelude.{Bool, [], None, IsTrue}
-use Rattle.swarm_model.specs.declared.entry.Entry.{Entry}
+use Rattle.shared_doors.specs.Types.{Entry, Turn}
 use Rattle.swarm_model.specs.Bases.{empty_base}
 use Rattle.swarm_model.specs.Bytes.{nothing_held}
 use Rattle.swarm_model.specs.Effects.{opening}
 use Rattle.swarm_model.specs.MachineState.{MachineState}
 use Rattle.swarm_history.specs.Machines.{no_pool}
-use Rattle.turnstile.specs.declared.turn.Turn.{Turn}
 use Rattle.turnstile.specs.Passes.{IsTurn, IsRaised, fixed_of, lock_of}
 use Rattle.shared_doors.specs.declared.view.Lasting.{Lasting}
 use Rattle.shared_doors.specs.Lasting.{lasting_of, IsStanding}

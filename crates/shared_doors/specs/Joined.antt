@@ -1,10 +1,8 @@
 -- What splitting, joining and closing do to what passes know.
 use Rattle.std.specs.Prelude.{◌≡◌, ◌⊎◌, ℕ, ◌+◌, ◌<◌, ◌==◌, min, max, if◌then◌else◌, List, [], ◌∷◌, ◌++◌, length}
-use Rattle.swarm_model.specs.declared.entry.Entry.{Entry}
-use Rattle.swarm_model.specs.declared.pool_settings.PoolSettings.{PoolSettings}
+use Rattle.shared_doors.specs.Types.{Entry, PoolSettings, Turnstile}
 use Rattle.swarm_model.specs.Bases.{empty_base}
 use Rattle.swarm_model.specs.MachineState.{MachineState, IsHistory}
-use Rattle.turnstile.specs.declared.turnstile.Turnstile.{Turnstile}
 use Rattle.turnstile.specs.Numbers.{times, once_below, own, Adds}
 use Rattle.turnstile.specs.Passes.{fixed_of, opening}
 use Rattle.shared_doors.specs.declared.view.Lasting.{Lasting}

@@ -1,3 +1,4 @@
+pub mod Types
 pub mod Lasting
 pub mod Machines
 pub mod Views

@@ -1,9 +1,7 @@
 -- That passes are those of turnstiles has one proof.
 use Rattle.std.specs.Prelude.{List, Option}
 use Rattle.std.proofs.Props.{props}
-use Rattle.swarm_model.specs.declared.entry.Entry.{Entry}
-use Rattle.turnstile.specs.declared.pass.Pass.{Pass}
-use Rattle.turnstile.specs.declared.turnstile.Turnstile.{Turnstile}
+use Rattle.shared_doors.specs.Types.{Entry, Pass, Turnstile}
 use Rattle.shared_doors.specs.declared.view.Lasting.{Lasting}
 use Rattle.shared_doors.specs.Views.{AreOf}
 

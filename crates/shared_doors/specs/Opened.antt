@@ -1,10 +1,7 @@
 -- The pools of a server, as it is made.
 use Rattle.std.specs.Prelude.{◌≡◌, List, [], map, Option}
 use Rattle.std.specs.List.{All}
-use Rattle.swarm_model.specs.declared.entry.Entry.{Entry}
-use Rattle.swarm_model.specs.declared.pool_settings.PoolSettings.{PoolSettings}
-use Rattle.turnstile.specs.declared.pass.Pass.{Pass}
-use Rattle.turnstile.specs.declared.turnstile.Turnstile.{Turnstile}
+use Rattle.shared_doors.specs.Types.{Entry, PoolSettings, Pass, Turnstile}
 use Rattle.turnstile.specs.Passes.{fixed_of, opening}
 use Rattle.shared_doors.specs.declared.view.Lasting.{Lasting}
 use Rattle.shared_doors.specs.Lasting.{IsStanding}

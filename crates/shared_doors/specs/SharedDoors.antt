@@ -1,14 +1,10 @@
 -- A door to logs to which others write as well.
 use Rattle.std.specs.Prelude.{◌≤◌, ℕ, false, List, [], ◌∷◌, ◌++◌, length, map, max, slice_index_or, Option, None, Result}
-use Rattle.swarm_model.specs.declared.entry.Entry.{Entry}
-use Rattle.swarm_model.specs.declared.pool_settings.PoolSettings.{PoolSettings}
+use Rattle.shared_doors.specs.Types.{Entry, PoolSettings, Answered, CallFault, Turnstile}
 use Rattle.swarm_model.specs.Bases.{Base, empty_base}
 use Rattle.swarm_model.specs.Points.{Call, Growth}
-use Rattle.pool_doors.specs.declared.door.Answered.{Answered}
-use Rattle.pool_doors.specs.declared.door.CallFault.{CallFault}
 use Rattle.pool_doors.specs.Doors.{DoorState, IsPoolCall}
 use Rattle.swarm_history.specs.Machines.{no_pool}
-use Rattle.turnstile.specs.declared.turnstile.Turnstile.{Turnstile}
 use Rattle.turnstile.specs.Passes.{fixed_of, identity_of}
 use Rattle.shared_doors.specs.declared.view.Lasting.{Lasting}
 use Rattle.shared_doors.specs.declared.view.PoolView.{PoolView}

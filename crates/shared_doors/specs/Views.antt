@@ -1,9 +1,7 @@
 -- What is known of the passes of a server.
 use Rattle.std.specs.Prelude.{◌≡◌, ℕ, List, [], ◌∷◌, map, length, ◌<◌, ◌≤◌, ◌^◌, get_or, slice_index_or, Option, Some, None, IsTrue, is_some}
 use Rattle.std.specs.List.{All}
-use Rattle.swarm_model.specs.declared.entry.Entry.{Entry}
-use Rattle.turnstile.specs.declared.pass.Pass.{Pass}
-use Rattle.turnstile.specs.declared.turnstile.Turnstile.{Turnstile}
+use Rattle.shared_doors.specs.Types.{Entry, Pass, Turnstile}
 use Rattle.turnstile.specs.Passes.{IsPassOf, seen, number, numbers, made, told, turns}
 use Rattle.shared_doors.specs.declared.view.Lasting.{Lasting}
 use Rattle.shared_doors.specs.declared.view.PoolView.{PoolView}

@@ -8,10 +8,9 @@ use Rattle.std.proofs.lemmas.List.Folds.{list_all-append}
 use Rattle.std.proofs.lemmas.List.Sums.{sum_by-append}
 use Rattle.std.proofs.Math.Seq.{take-suc}
 use Rattle.sw_base.specs.Faults.{Rose}
-use Rattle.sw_base.specs.declared.start_fault.StartFault.{StartFault}
+use Rattle.swarm_cli.specs.Types.{StartFault, PoolSettings}
 use Rattle.swarm_keeper.specs.Tables.{Tables, nothing}
 use Rattle.swarm_keeper.specs.Stores.{StoreState, HasPlace, PlacesStay, IsAttached, Detaches, with_tables}
-use Rattle.swarm_model.specs.declared.pool_settings.PoolSettings.{PoolSettings}
 use Rattle.swarm_policy.specs.Pools.{have_own_names}
 use Rattle.swarm_cli.specs.Attaching.{Kept, told_of, told_records, is_one_of, KeepsOthers, AttachesOne, AttachesAll, AttachesNone, DetachesAll}
 use Rattle.swarm_cli.proofs.Names.{own_place}

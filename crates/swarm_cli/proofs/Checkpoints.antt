@@ -5,19 +5,15 @@ use Rattle.std.specs.List.{list_all}
 use Rattle.std.proofs.lemmas.Option.{same_Some}
 use Rattle.sw_base.specs.Faults.{Rose}
 use Rattle.sw_base.specs.Link.{LinkState, IsClean, NoFault}
-use Rattle.sw_base.specs.declared.start_fault.StartFault.{StartFault}
+use Rattle.swarm_cli.specs.Types.{StartFault, Settings, PoolSettings, CheckpointFault, CheckpointWhy}
 use Rattle.sw_base.specs.declared.start_fault.StartFault.TheVariants as start
 use Rattle.link_writer.specs.Printing.{Prints}
 use Rattle.swarm_keeper.specs.Tables.{Tables}
 use Rattle.swarm_keeper.specs.Stores.{StoreState}
-use Rattle.swarm_model.specs.declared.pool_settings.Settings.{Settings}
-use Rattle.swarm_model.specs.declared.pool_settings.PoolSettings.{PoolSettings}
 use Rattle.swarm_model.specs.Bases.{Base, front}
 use Rattle.pool_doors.specs.Doors.{DoorState, Logs, IsFreshDoor}
 use Rattle.swarm_history.specs.Records.{AreBasesOf, AreKept, TellsStart}
 use Rattle.swarm_history.specs.Checkpoints.{BeginsAnew, IsCheckpointed, IsCountFull, LeavesRestorable, anew, told_at}
-use Rattle.swarm_history.specs.declared.checkpoint_fault.CheckpointFault.{CheckpointFault}
-use Rattle.swarm_history.specs.declared.checkpoint_fault.CheckpointWhy.{CheckpointWhy}
 use Rattle.swarm_history.specs.declared.checkpoint_fault.CheckpointWhy.TheVariants as why
 use Rattle.pool_loading.specs.Records.{AreLinesOf}
 use Rattle.pool_summaries.specs.Summaries.{fronts_of}

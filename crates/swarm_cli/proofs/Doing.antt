@@ -3,12 +3,10 @@ use Rattle.std.proofs.Common.{◌≡◌, ℕ, ◌+◌, ◌<◌, ◌≤◌, List,
 use mathlib.Core.Path.{fun_ext}
 use Rattle.sw_base.specs.Link.{LinkState}
 use Rattle.sw_base.specs.Told.{Adds, IsOut}
-use Rattle.swarm_model.specs.declared.pool_settings.Settings.{Settings}
-use Rattle.swarm_model.specs.declared.pool_settings.PoolSettings.{PoolSettings}
+use Rattle.swarm_cli.specs.Types.{Settings, PoolSettings, LoadFault}
 use Rattle.swarm_model.specs.Bases.{Base}
 use Rattle.pool_doors.specs.Doors.{Logs, DoorState, Writer}
 use Rattle.swarm_http.specs.Answered.{KeepsDoor}
-use Rattle.swarm_history.specs.declared.load_fault.LoadFault.{LoadFault}
 use Rattle.swarm_history.specs.declared.load_fault.LoadFault.TheVariants as load
 use Rattle.pool_summaries.specs.Summaries.{summary_of}
 use Rattle.swarm_cli.specs.declared.door_command.DoorCommand.{DoorCommand}

@@ -4,8 +4,7 @@ use Rattle.std.specs.List.{count_by}
 use Rattle.drill_requests.specs.Texts.{drill_bytes}
 use Rattle.sw_base.specs.Clock.{steps_from}
 use Rattle.sw_base.specs.Link.{LinkState, opened}
-use Rattle.swarm_model.specs.declared.pool_settings.Settings.{Settings}
-use Rattle.swarm_model.specs.declared.pool_settings.PoolSettings.{PoolSettings}
+use Rattle.swarm_cli.specs.Types.{Settings, PoolSettings}
 use Rattle.swarm_model.specs.MachineState.{MachineState}
 use Rattle.pool_doors.specs.Doors.{DoorState, IsFreshDoor}
 use Rattle.swarm_http.specs.declared.connection_counts.ConnectionCounts.{ConnectionCounts}

@@ -6,12 +6,10 @@ use Rattle.std.proofs.lemmas.Bool.{and_from, and_parts}
 use Rattle.std.proofs.lemmas.List.{length-map}
 use Rattle.sw_base.specs.Faults.{Rose}
 use Rattle.sw_base.specs.Link.{LinkState}
-use Rattle.sw_base.specs.declared.start_fault.StartFault.{StartFault}
+use Rattle.swarm_cli.specs.Types.{StartFault, Settings, PoolSettings, LoadFault}
 use Rattle.sw_base.specs.declared.start_fault.StartFault.TheVariants as start
 use Rattle.swarm_keeper.specs.Tables.{Tables}
 use Rattle.swarm_keeper.specs.Stores.{StoreState}
-use Rattle.swarm_model.specs.declared.pool_settings.Settings.{Settings}
-use Rattle.swarm_model.specs.declared.pool_settings.PoolSettings.{PoolSettings}
 use Rattle.swarm_model.specs.MachineState.{MachineState}
 use Rattle.pool_doors.specs.Doors.{DoorState, Writer, IsFreshDoor, HasNoOthersAt, AddsNoOthers}
 use Rattle.swarm_http.specs.Answered.{KeepsDoor}
@@ -23,7 +21,6 @@ use Rattle.swarm_cli.specs.declared.serving.DoorResult.{DoorResult}
 use Rattle.swarm_cli.specs.Handling.{work_of, IsUsed, IsFinished}
 use Rattle.swarm_cli.specs.SettingsFile.{RunsNew, done}
 use Rattle.swarm_cli.proofs.Sessions.{fresh_of_nothing}
-use Rattle.swarm_history.specs.declared.load_fault.LoadFault.{LoadFault}
 use Rattle.swarm_history.specs.declared.load_fault.LoadFault.TheVariants as load
 use Rattle.remote_commands.specs.Streams.{Streams}
 use Rattle.swarm_cli.specs.ServerWork.{ServerWork, BeginNew, start_status}

@@ -4,12 +4,10 @@ use Rattle.std.specs.Prelude.{slice_get, IfSome, IsSomeAnd}
 use Rattle.std.proofs.lemmas.Option.{none-some, same_Some}
 use Rattle.swarm_keeper.specs.Tables.{Tables}
 use Rattle.swarm_keeper.specs.Stores.{StoreState}
-use Rattle.swarm_model.specs.declared.pool_settings.Settings.{Settings}
-use Rattle.swarm_model.specs.declared.pool_settings.PoolSettings.{PoolSettings}
+use Rattle.swarm_cli.specs.Types.{Settings, PoolSettings, StorePart}
 use Rattle.swarm_model.specs.declared.pool_state.PoolState.{PoolState}
 use Rattle.swarm_model.specs.Bases.{Base}
 use Rattle.pool_doors.specs.Doors.{Logs, DoorState}
-use Rattle.pool_loading.specs.declared.store_part.StorePart.{StorePart}
 use Rattle.pool_loading.specs.Records.{AreRefusedAt, Restores}
 use Rattle.pool_loading.proofs.Restoring.{one_log}
 use Rattle.swarm_history.specs.Records.{AreBasesOf, AreKept, AreRestorable, TellsStart, IsBadStore}

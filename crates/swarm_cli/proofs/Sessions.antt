@@ -2,10 +2,8 @@
 use Rattle.std.proofs.Common.{◌≡◌, ◌++◌, ℕ, List, [], ap, ◌∙◌}
 use Rattle.std.specs.Prelude.{IsTrue}
 use Rattle.std.specs.List.{flat_map}
-use Rattle.swarm_model.specs.declared.pool_settings.Settings.{Settings}
-use Rattle.swarm_model.specs.declared.entry.Entry.{Entry}
+use Rattle.swarm_cli.specs.Types.{Settings, Entry, Ended}
 use Rattle.pool_doors.specs.Doors.{DoorState, IsFreshDoor}
-use Rattle.swarm_http.specs.declared.ended.Ended.{Ended}
 use Rattle.swarm_http.specs.Exchange.{entries_of}
 use Rattle.swarm_http.specs.Answered.{ConnectionState, IsAnswered}
 

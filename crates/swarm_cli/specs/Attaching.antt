@@ -2,11 +2,10 @@
 use Rattle.std.specs.Prelude.{◌≡◌, ◌==◌, ◌+◌, ℕ, Bool, false, List, [], ◌∷◌, ◌++◌, map, Option, None, option_map, is_some, IsSome, IfSome, IsSomeAnd, IsTrue, MatchBool}
 use Rattle.std.specs.List.{list_any, list_all, AllByRecursion}
 use Rattle.sw_base.specs.Faults.{Rose}
-use Rattle.sw_base.specs.declared.start_fault.StartFault.{StartFault}
+use Rattle.swarm_cli.specs.Types.{StartFault, PoolSettings}
 use Rattle.sw_base.specs.declared.start_fault.StartFault.TheVariants as start
 use Rattle.swarm_keeper.specs.Tables.{Tables}
 use Rattle.swarm_keeper.specs.Stores.{StoreState, HasPlace, IsAttached, is_at}
-use Rattle.swarm_model.specs.declared.pool_settings.PoolSettings.{PoolSettings}
 
 -- what is kept of each folder and pool
 abbrev pub Kept : Type 0

@@ -5,19 +5,14 @@ use Rattle.sw_base.specs.Link.{LinkState}
 use Rattle.link_writer.specs.Printing.{Prints}
 use Rattle.swarm_keeper.specs.Tables.{Tables}
 use Rattle.swarm_keeper.specs.Stores.{StoreState}
-use Rattle.swarm_model.specs.declared.entry.Entry.{Entry}
-use Rattle.swarm_model.specs.declared.pool_settings.Settings.{Settings}
-use Rattle.swarm_model.specs.declared.pool_settings.PoolSettings.{PoolSettings}
+use Rattle.swarm_cli.specs.Types.{Entry, Settings, PoolSettings, LoadFault, CheckpointFault, CheckpointWhy}
 use Rattle.swarm_model.specs.Bases.{Base, front}
 use Rattle.pool_doors.specs.Doors.{DoorState, IsFreshDoor}
 use Rattle.pool_loading.specs.Records.{AreLinesOf}
 use Rattle.pool_summaries.specs.Summaries.{fronts_of}
 use Rattle.swarm_history.specs.Records.{AreKept, AreBasesOf, TellsStart, IsFirstBadRecord}
 use Rattle.swarm_history.specs.Checkpoints.{IsCheckpointed, LeavesRestorable, anew}
-use Rattle.swarm_history.specs.declared.load_fault.LoadFault.{LoadFault}
 use Rattle.swarm_history.specs.declared.load_fault.LoadFault.TheVariants as load
-use Rattle.swarm_history.specs.declared.checkpoint_fault.CheckpointFault.{CheckpointFault}
-use Rattle.swarm_history.specs.declared.checkpoint_fault.CheckpointWhy.{CheckpointWhy}
 use Rattle.swarm_history.specs.declared.checkpoint_fault.CheckpointWhy.TheVariants as why
 use Rattle.remote_commands.specs.Streams.{Streams, SameButConsole}
 use Rattle.swarm_cli.specs.declared.checkpoint.CheckpointEnd.{CheckpointEnd}

@@ -4,11 +4,9 @@ use Rattle.std.specs.List.{count_by}
 use Rattle.drill_requests.specs.Texts.{drill_bytes}
 use Rattle.sw_base.specs.Clock.{steps_from}
 use Rattle.sw_base.specs.Link.{LinkState, opened}
-use Rattle.swarm_model.specs.declared.pool_settings.Settings.{Settings}
+use Rattle.swarm_cli.specs.Types.{Settings, Ended, Closed, LastAsked, CutShort, BadHead, Retired, ReadFault, WriteFault, Memory}
 use Rattle.swarm_policy.specs.Open.{open_pool, open_settings}
 use Rattle.pool_doors.specs.Doors.{DoorState, IsFreshDoor}
-use Rattle.swarm_http.specs.declared.ended.Ended.{Ended}
-use Rattle.swarm_http.specs.declared.ended.Ended.TheVariants.{Closed, LastAsked, CutShort, BadHead, Retired, ReadFault, WriteFault, Memory}
 use Rattle.swarm_http.specs.Exchange.{is_accepted}
 use Rattle.swarm_http.specs.Answered.{IsAnswered}
 use Rattle.pool_summaries.specs.Summaries.{summary_of}

@@ -5,12 +5,10 @@ use Rattle.sw_base.specs.Link.{LinkState}
 use Rattle.link_writer.specs.Printing.{Prints}
 use Rattle.swarm_keeper.specs.Tables.{Tables}
 use Rattle.swarm_keeper.specs.Stores.{StoreState}
-use Rattle.swarm_model.specs.declared.pool_settings.Settings.{Settings}
+use Rattle.swarm_cli.specs.Types.{Settings, StorePart, LoadFault}
 use Rattle.pool_doors.specs.Doors.{DoorState, IsFreshDoor, HasNoOthersAt}
-use Rattle.pool_loading.specs.declared.store_part.StorePart.{StorePart}
 use Rattle.pool_loading.specs.declared.store_part.StorePart.TheVariants as part
 use Rattle.swarm_history.specs.Records.{AreKept, AreBasesOf, AreRestorable, IsBadStore}
-use Rattle.swarm_history.specs.declared.load_fault.LoadFault.{LoadFault}
 use Rattle.swarm_history.specs.declared.load_fault.LoadFault.TheVariants as load
 use Rattle.remote_commands.specs.Streams.{Streams, SameButConsole}
 use Rattle.swarm_cli.specs.ServerWork.{ServerWork, CarriesOutWork}

@@ -3,8 +3,7 @@ use Rattle.std.specs.Prelude.{◌≡◌, ℕ, List, slice_get, Option, Some, IsS
 use Rattle.std.specs.List.{All}
 use Rattle.sw_base.specs.Faults.{Rose}
 use Rattle.swarm_keeper.specs.Stores.{StoreState}
-use Rattle.swarm_model.specs.declared.pool_settings.Settings.{Settings}
-use Rattle.swarm_model.specs.declared.pool_settings.PoolSettings.{PoolSettings}
+use Rattle.swarm_cli.specs.Types.{Settings, PoolSettings}
 use Rattle.swarm_model.specs.Bases.{Base}
 use Rattle.swarm_model.specs.History.{replay}
 use Rattle.pool_doors.specs.Doors.{Logs, DoorState}

@@ -3,19 +3,15 @@ use Rattle.std.specs.Prelude.{◌≡◌, ◌==◌, if◌then◌else◌, ℕ, Lis
 use Rattle.std.specs.List.{flat_map}
 use Rattle.sw_base.specs.Acceptors.{AcceptorState}
 use Rattle.sw_base.specs.Listeners.{ListenerState, Gives, FailsToListen, Shuts}
-use Rattle.sw_base.specs.declared.start_fault.StartFault.{StartFault}
+use Rattle.swarm_cli.specs.Types.{StartFault, PoolSettings, Ended, Closed, LastAsked, CutShort, BadHead, Retired, ReadFault, WriteFault, Memory, WorkStop}
 use Rattle.sw_base.specs.declared.start_fault.StartFault.TheVariants as start
-use Rattle.swarm_model.specs.declared.pool_settings.PoolSettings.{PoolSettings}
 use Rattle.swarm_model.specs.Bases.{Base, empty_base}
 use Rattle.pool_doors.specs.Doors.{DoorState}
 use Rattle.command_words.specs.Commands.{BoardsValue}
-use Rattle.swarm_http.specs.declared.ended.Ended.{Ended}
-use Rattle.swarm_http.specs.declared.ended.Ended.TheVariants.{Closed, LastAsked, CutShort, BadHead, Retired, ReadFault, WriteFault, Memory}
 use Rattle.swarm_http.specs.Exchange.{entries_of}
 use Rattle.swarm_http.specs.Answered.{IsAnswered}
 use Rattle.pool_summaries.specs.Summaries.{summary_of}
 use Rattle.swarm_workers.specs.declared.worked.Worked.{Worked}
-use Rattle.swarm_workers.specs.declared.worked.WorkStop.{WorkStop}
 use Rattle.swarm_workers.specs.declared.worked.WorkStop.TheVariants as stop
 use Rattle.remote_commands.specs.Streams.{Streams, PrintsMade}
 use Rattle.swarm_workers.specs.Works.{IsWorked}

@@ -5,8 +5,7 @@ use Rattle.sw_base.specs.Files.{FilesState, Loads}
 use Rattle.sw_base.specs.declared.file_fault.FileFault.{FileFault}
 use Rattle.sw_base.specs.declared.file_fault.FileFault.TheVariants as file_fault
 use Rattle.swarm_keeper.specs.Stores.{StoreState}
-use Rattle.swarm_model.specs.declared.pool_settings.Settings.{Settings}
-use Rattle.swarm_policy.specs.declared.settings_fault.SettingsFault.{SettingsFault}
+use Rattle.swarm_cli.specs.Types.{Settings, SettingsFault}
 use Rattle.swarm_policy.specs.declared.settings_fault.SettingsFault.TheVariants as fault
 use Rattle.swarm_policy.specs.Rules.{rule_name}
 use Rattle.swarm_policy.specs.Documents.{settings_of}

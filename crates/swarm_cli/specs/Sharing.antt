@@ -1,12 +1,10 @@
 -- What several workers do.
 use Rattle.std.specs.Prelude.{◌≡◌, ℕ, List}
 use Rattle.sw_base.specs.Listeners.{FailsToListen}
-use Rattle.sw_base.specs.declared.start_fault.StartFault.{StartFault}
-use Rattle.swarm_model.specs.declared.pool_settings.Settings.{Settings}
+use Rattle.swarm_cli.specs.Types.{StartFault, Settings, WorkStop}
 use Rattle.swarm_model.specs.Bases.{Base}
 use Rattle.pool_doors.specs.Doors.{Logs}
 use Rattle.pool_summaries.specs.Summaries.{summary_of}
-use Rattle.swarm_workers.specs.declared.worked.WorkStop.{WorkStop}
 use Rattle.swarm_workers.specs.Shared.{ServesShared}
 use Rattle.remote_commands.specs.Streams.{Streams, PrintsMade}
 use Rattle.swarm_cli.specs.ServerWork.{start_status, work_status, BeginNew}

@@ -3,8 +3,7 @@ use Rattle.std.proofs.Common.{◌≡◌, ◌++◌, ◌-◌, ◌<◌, ◌≤◌, 
 use Rattle.std.specs.List.{AllByRecursion}
 use Rattle.std.proofs.lemmas.List.{append_assoc, length_push}
 use Rattle.swarm_keeper.specs.Tables.{Tables}
-use Rattle.swarm_model.specs.declared.entry.Entry.{Entry}
-use Rattle.swarm_model.specs.declared.pool_settings.PoolSettings.{PoolSettings}
+use Rattle.swarm_history.specs.Types.{Entry, PoolSettings}
 use Rattle.sha2.specs.Sha256.{sha256}
 use Rattle.swarm_model.specs.Bytes.{HeldBytes, brings, new_digest}
 use Rattle.swarm_model.specs.Effects.{after}

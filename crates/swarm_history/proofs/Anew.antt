@@ -3,12 +3,8 @@ use Rattle.std.proofs.Common.{◌≡◌, ℕ, zero, suc, ◌≤◌, Bool, true, 
 use Rattle.std.proofs.lemmas.Bool.{ltb-true, ltb-false}
 use Rattle.std.specs.Prelude.{IsSomeAnd, nat_lt, if◌then◌else◌, slice_get, option_map}
 use Rattle.std.specs.List.{All}
-use Rattle.blob_rows.specs.declared.blob_row.BlobRow.{BlobRow}
-use Rattle.blob_rows.specs.declared.filled.Filled.TheVariants.{Done}
+use Rattle.swarm_history.specs.Types.{BlobRow, Done, Entry, PoolSettings, PoolState}
 use Rattle.swarm_keeper.specs.Tables.{Tables, bytes_of}
-use Rattle.swarm_model.specs.declared.entry.Entry.{Entry}
-use Rattle.swarm_model.specs.declared.pool_settings.PoolSettings.{PoolSettings}
-use Rattle.swarm_model.specs.declared.pool_state.PoolState.{PoolState}
 use Rattle.swarm_model.specs.BaseRules.{IsBase}
 use Rattle.swarm_model.specs.Bases.{Base, front}
 use Rattle.swarm_model.specs.Bytes.{filled}

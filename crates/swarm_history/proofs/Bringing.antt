@@ -4,10 +4,7 @@ use Rattle.std.specs.Option.{option_map}
 use Rattle.std.proofs.lemmas.Bool.{false≢true}
 use Rattle.std.proofs.lemmas.Option.{same_Some}
 use Rattle.sha2.specs.Sha256.{sha256}
-use Rattle.swarm_model.specs.declared.pool_state.PoolState.{PoolState}
-use Rattle.swarm_model.specs.declared.entry.Entry.{Entry}
-use Rattle.swarm_model.specs.declared.entry.EntryKind.{EntryKind}
-use Rattle.swarm_model.specs.declared.request.Request.{Request}
+use Rattle.swarm_history.specs.Types.{PoolState, Entry, EntryKind, Request}
 use Rattle.swarm_model.specs.Answers.{answer, decide, entry_at}
 use Rattle.swarm_model.specs.Bytes.{Carries, brings, new_digest}
 use Rattle.pool_laws.proofs.Carrying.{brings_carried}

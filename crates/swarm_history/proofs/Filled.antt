@@ -9,15 +9,10 @@ use Rattle.std.proofs.lemmas.List.Elements.{All-map, All-filter, All-push, All-w
 use Rattle.sha2.specs.Sha256.{sha256}
 use Rattle.dimensions.specs.Alike.{same}
 use Rattle.dimensions.specs.Choosing.{when}
-use Rattle.blob_rows.specs.declared.blob_row.BlobRow.{BlobRow}
+use Rattle.swarm_history.specs.Types.{BlobRow, Done, Differs, Unknown, Chunk, PoolState, Entry, EntryKind}
 use Rattle.blob_rows.specs.declared.filled.Filled.{Filled}
-use Rattle.blob_rows.specs.declared.filled.Filled.TheVariants.{Done, Differs, Unknown}
 use Rattle.blob_rows.specs.BlobRows.{has_digest, is_blob, is_other, renewed, renewed_until, longer_kept, new_blob, place_for}
 use Rattle.swarm_model.specs.declared.attempt.Attempt.{Attempt}
-use Rattle.swarm_model.specs.declared.attempt.Chunk.{Chunk}
-use Rattle.swarm_model.specs.declared.pool_state.PoolState.{PoolState}
-use Rattle.swarm_model.specs.declared.entry.Entry.{Entry}
-use Rattle.swarm_model.specs.declared.entry.EntryKind.{EntryKind}
 use Rattle.swarm_model.specs.declared.entry.EntryKind.TheVariants as kind
 use Rattle.swarm_model.specs.Bytes.{HeldBytes, brings, filled, new_digest, with_bytes, without_bytes, with_new, without_removed, held_after}
 use Rattle.swarm_model.specs.Effects.{life, blobs_in, put, put_chunk, with_blobs, fresh_chunk, attempt_of, after}

@@ -5,10 +5,8 @@ use Rattle.std.specs.Option.{option_map_or}
 use Rattle.std.proofs.lemmas.Bool.{eq-eqb, eqb-true, false≢true}
 use Rattle.std.proofs.lemmas.List.{take_more}
 use Rattle.sha2.specs.Sha256.{sha256}
-use Rattle.blob_rows.specs.declared.blob_row.BlobRow.{BlobRow}
+use Rattle.swarm_history.specs.Types.{BlobRow, PoolState, Part}
 use Rattle.blob_rows.specs.BlobRows.{has_digest}
-use Rattle.swarm_model.specs.declared.pool_state.PoolState.{PoolState}
-use Rattle.swarm_model.specs.declared.reply.Part.{Part}
 use Rattle.swarm_model.specs.Finding.{blob_of, has_blob}
 use Rattle.swarm_model.specs.MachineState.{MachineState, AreHeld}
 use Rattle.pool_laws.proofs.Alike.{same_is}

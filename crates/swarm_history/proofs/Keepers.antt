@@ -6,11 +6,9 @@ use Rattle.std.proofs.lemmas.List.{map-set, get_or-map, length-map}
 use Rattle.std.proofs.lemmas.List.Sums.{sum_by-cons, sum_by-set}
 use Rattle.sw_base.specs.Faults.{Rose}
 use Rattle.swarm_keeper.specs.Tables.{Tables}
-use Rattle.swarm_model.specs.declared.pool_settings.PoolSettings.{PoolSettings}
+use Rattle.swarm_history.specs.Types.{PoolSettings, Answered, CallFault}
 use Rattle.swarm_model.specs.MachineState.{MachineState}
 use Rattle.pool_loading.specs.Records.{AreLinesOf, AreRecords}
-use Rattle.pool_doors.specs.declared.door.Answered.{Answered}
-use Rattle.pool_doors.specs.declared.door.CallFault.{CallFault}
 use Rattle.pool_doors.specs.declared.door.CallFault.TheVariants as fault
 use Rattle.pool_doors.specs.Doors.{CountsKeeper}
 use Rattle.swarm_history.specs.Machines.{logs_of, pools_of, start_at, starts_of}

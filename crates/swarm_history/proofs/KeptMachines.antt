@@ -10,8 +10,7 @@ use Rattle.pool_loading.specs.Records.{base_in, AreLinesOf, AreRecords}
 use Rattle.swarm_keeper.specs.Tables.{Tables, is_other, bytes_of, without, with_blob, appended}
 use Rattle.pool_laws.proofs.Alike.{same_is, is_same, same_self}
 use Rattle.pool_laws.proofs.Bots.{settings_same}
-use Rattle.swarm_model.specs.declared.entry.Entry.{Entry}
-use Rattle.swarm_model.specs.declared.pool_settings.PoolSettings.{PoolSettings}
+use Rattle.swarm_history.specs.Types.{Entry, PoolSettings}
 use Rattle.swarm_model.specs.Bytes.{HeldBytes, new_digest, removed_digest, with_bytes, without_bytes, with_new, without_removed}
 use Rattle.swarm_model.specs.MachineState.{MachineState}
 use Rattle.swarm_history.specs.Records.{AreMachineRecords, KeepsEntry}

@@ -7,15 +7,12 @@ use Rattle.std.proofs.lemmas.List.{map-append, length-map}
 use Rattle.std.proofs.lemmas.List.Elements.{All-push}
 use borrow.Author.Tests.{leb-true}
 use Rattle.swarm_keeper.specs.Tables.{Tables}
-use Rattle.swarm_model.specs.declared.pool_settings.Settings.{Settings}
-use Rattle.swarm_model.specs.declared.pool_settings.PoolSettings.{PoolSettings}
+use Rattle.swarm_history.specs.Types.{Settings, PoolSettings, StorePart, LoadStop}
 use Rattle.swarm_model.specs.BaseRules.{IsBase}
 use Rattle.swarm_model.specs.Bases.{empty_base}
 use Rattle.swarm_model.specs.MachineState.{MachineState}
 use Rattle.swarm_model.specs.Settings.{are_settings}
 use Rattle.swarm_model.specs.Words.{is_between}
-use Rattle.pool_loading.specs.declared.store_part.StorePart.{StorePart}
-use Rattle.pool_loading.specs.declared.loading.LoadStop.{LoadStop}
 use Rattle.pool_loading.specs.declared.loading.LoadStop.TheVariants as stop
 use Rattle.pool_loading.specs.Records.{IsLoaded, AreFilled, AreRefusedAt}
 use Rattle.pool_doors.specs.Doors.{IsFreshDoor}

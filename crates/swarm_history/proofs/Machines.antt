@@ -5,14 +5,10 @@ use Rattle.std.specs.List.{All}
 use Rattle.std.proofs.lemmas.List.Elements.{All-set}
 use Rattle.std.proofs.lemmas.List.{map-set, get_or-map, get_or-set_other, length-map}
 use Rattle.swarm_keeper.specs.Tables.{Tables}
-use Rattle.swarm_model.specs.declared.pool_settings.Settings.{Settings}
-use Rattle.swarm_model.specs.declared.pool_settings.PoolSettings.{PoolSettings}
-use Rattle.swarm_model.specs.declared.entry.Entry.{Entry}
+use Rattle.swarm_history.specs.Types.{Settings, PoolSettings, Entry, Answered, CallFault}
 use Rattle.swarm_model.specs.Bases.{Base}
 use Rattle.swarm_model.specs.MachineState.{MachineState}
 use Rattle.swarm_model.specs.Points.{Call, Growth}
-use Rattle.pool_doors.specs.declared.door.Answered.{Answered}
-use Rattle.pool_doors.specs.declared.door.CallFault.{CallFault}
 use Rattle.pool_doors.specs.Doors.{base_told, IsPoolCall, IsCall, CountsKeeper, Elsewhere, HasNoOthersAt}
 use Rattle.pool_loading.specs.Records.{AreFilled}
 use Rattle.swarm_history.specs.Machines.{pools_of, logs_of, start_at, starts_of, own_writer, own_door}

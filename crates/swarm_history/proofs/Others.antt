@@ -7,7 +7,7 @@ use Rattle.std.proofs.lemmas.List.Sums.{fold-append}
 use Rattle.std.proofs.lemmas.List.Elements.{All-push, All-filter, All-weaker}
 use Rattle.dimensions.specs.Alike.{same}
 use Rattle.dimensions.specs.Choosing.{when}
-use Rattle.blob_rows.specs.declared.blob_row.BlobRow.{BlobRow}
+use Rattle.swarm_history.specs.Types.{BlobRow, Chunk, Entry, EntryKind, PoolState}
 use Rattle.blob_rows.specs.BlobRows.{has_digest, is_blob, is_other as is_other_row, renewed, new_blob, place_for}
 use Rattle.swarm_keeper.specs.Tables.{Tables, is_other, without, with_blob, appended}
 use Rattle.pool_laws.proofs.Alike.{same_is, is_same, same_self}
@@ -15,11 +15,7 @@ use Rattle.pool_laws.proofs.BlobChanges.{after_place, after_put, has_place, upda
 use Rattle.pool_laws.proofs.EntryPreconditions.{finds}
 use Rattle.pool_laws.proofs.Lists.{Among, here, Found, each, all, among_left, among_right, among_map, find_is, find_none, filter_is, filter_has, found_once}
 use Rattle.pool_laws.proofs.Preconditions.{Finds}
-use Rattle.swarm_model.specs.declared.attempt.Chunk.{Chunk}
-use Rattle.swarm_model.specs.declared.entry.Entry.{Entry}
-use Rattle.swarm_model.specs.declared.entry.EntryKind.{EntryKind}
 use Rattle.swarm_model.specs.declared.entry.EntryKind.TheVariants as kind
-use Rattle.swarm_model.specs.declared.pool_state.PoolState.{PoolState}
 use Rattle.swarm_model.specs.Bytes.{new_digest, removed_digest}
 use Rattle.swarm_model.specs.Effects.{life, blobs_in, put, put_chunk, with_blobs, fresh_chunk, attempt_of, after}
 use Rattle.swarm_model.specs.Finding.{blob_of, blob_numbered}

@@ -6,10 +6,7 @@ use Rattle.std.specs.Option.{option_or, option_to_list}
 use Rattle.std.proofs.lemmas.List.{append_assoc}
 use Rattle.std.proofs.lemmas.List.Sums.{fold-append}
 use Rattle.sw_base.specs.Faults.{Rose}
-use Rattle.swarm_model.specs.declared.pool_settings.PoolSettings.{PoolSettings}
-use Rattle.swarm_model.specs.declared.pool_state.PoolState.{PoolState}
-use Rattle.swarm_model.specs.declared.entry.Entry.{Entry}
-use Rattle.swarm_model.specs.declared.reply.Reply.{Reply}
+use Rattle.swarm_history.specs.Types.{PoolSettings, PoolState, Entry, Reply, Answered, CallFault}
 use Rattle.swarm_model.specs.declared.reply.Reply.TheVariants as reply
 use Rattle.swarm_model.specs.declared.rule.Rule.TheVariants as rule
 use Rattle.swarm_model.specs.Deadlines.{due_entry}
@@ -18,8 +15,6 @@ use Rattle.swarm_model.specs.Effects.{after}
 use Rattle.swarm_model.specs.History.{replay, IsLegal, moment_of}
 use Rattle.swarm_model.specs.Points.{is_ahead, Call, Growth, answer_to, LacksRoom, next_entry}
 use Rattle.swarm_model.specs.MachineState.{MachineState, IsHistory}
-use Rattle.pool_doors.specs.declared.door.Answered.{Answered}
-use Rattle.pool_doors.specs.declared.door.CallFault.{CallFault}
 use Rattle.pool_doors.specs.declared.door.CallFault.TheVariants as fault
 use Rattle.pool_doors.specs.Doors.{ArePieces, CountsKeeper, is_log_full, IsPoolCall}
 use Rattle.swarm_history.proofs.Refusals.{refused_adds_nothing}

@@ -2,8 +2,7 @@
 use Rattle.std.specs.Bool.{MatchBool}
 use Rattle.std.specs.Option.{option_map}
 use Rattle.std.proofs.Common.{◌≡◌, ◌++◌, Bool, true, false, List, None, ap, sym, ◌∙◌}
-use Rattle.swarm_model.specs.declared.reply.Reply.{Reply}
-use Rattle.swarm_model.specs.declared.entry.Entry.{Entry}
+use Rattle.swarm_history.specs.Types.{Reply, Entry}
 use Rattle.swarm_model.specs.Answers.{entry_at}
 use Rattle.swarm_model.specs.Bases.{Base, front}
 use Rattle.swarm_model.specs.Points.{is_ahead, Call, Growth, IsPoint}

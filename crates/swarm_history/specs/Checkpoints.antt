@@ -2,8 +2,7 @@
 use Rattle.std.specs.Prelude.{◌≡◌, ◌≢◌, ℕ, ◌<◌, ◌≤◌, ◌^◌, nat_lt, if◌then◌else◌, List, [], ◌++◌, length, slice_get, slice_index_or, Option, Some, None, IfSome}
 use Rattle.std.specs.Option.{option_map}
 use Rattle.swarm_keeper.specs.Tables.{Tables, replaced}
-use Rattle.swarm_model.specs.declared.pool_settings.PoolSettings.{PoolSettings}
-use Rattle.swarm_model.specs.declared.entry.Entry.{Entry}
+use Rattle.swarm_history.specs.Types.{PoolSettings, Entry}
 use Rattle.swarm_model.specs.Bases.{Base, front}
 use Rattle.swarm_model.specs.Before.{verdict_since}
 use Rattle.swarm_model.specs.History.{replay, IsCaused, IsLegal}

@@ -1,17 +1,13 @@
 -- The kept records of a server's pools, by the place of the pool.
 use Rattle.std.specs.Prelude.{◌≡◌, ℕ, ⊤, ◌<◌, List, [], ◌∷◌, Option, Some, None, slice_get, IfSome, IsSomeAnd}
 use Rattle.swarm_keeper.specs.Tables.{Tables, appended}
-use Rattle.swarm_model.specs.declared.entry.Entry.{Entry}
-use Rattle.swarm_model.specs.declared.pool_settings.Settings.{Settings}
-use Rattle.swarm_model.specs.declared.pool_settings.PoolSettings.{PoolSettings}
+use Rattle.swarm_history.specs.Types.{Entry, Settings, PoolSettings, StorePart, LoadStop}
 use Rattle.swarm_model.specs.Bases.{Base, empty_base}
 use Rattle.swarm_model.specs.Bytes.{new_digest, removed_digest}
 use Rattle.swarm_model.specs.MachineState.{MachineState}
 use Rattle.pool_doors.specs.Doors.{Logs, HasLinesAt, HasNoOthers}
 use Rattle.entry_lines.specs.Lines.{entry_of_line}
 use Rattle.pool_loading.specs.Records.{base_in, AreRecords, IsLoaded, AreRefusedAt, Restores}
-use Rattle.pool_loading.specs.declared.store_part.StorePart.{StorePart}
-use Rattle.pool_loading.specs.declared.loading.LoadStop.{LoadStop}
 use Rattle.pool_loading.specs.declared.loading.LoadStop.TheVariants as stop
 use Rattle.swarm_history.specs.declared.load_fault.LoadFault.{LoadFault}
 use Rattle.swarm_history.specs.declared.load_fault.LoadFault.TheVariants as load

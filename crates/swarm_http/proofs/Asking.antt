@@ -2,18 +2,11 @@
 use Rattle.std.proofs.Common.{◌≡◌, ℕ, List, arith, refl, ap, ◌∙◌, Option, Some, None, Result, Ok, Err, subst}
 use Rattle.httparse.specs.Grammar.{RequestHead}
 use Rattle.request_head.specs.HeadFields.{method_of, caller_of, after_of}
-use Rattle.swarm_model.specs.declared.pool_settings.Settings.{Settings}
-use Rattle.swarm_model.specs.declared.rule.Rule.{Rule}
+use Rattle.swarm_http.specs.Types.{Settings, Rule, Route, Asked, Parts, Answered, CallFault, After}
 use Rattle.swarm_model.specs.declared.rule.Rule.TheVariants as rule
-use Rattle.routes.specs.declared.route.Route.{Route}
 use Rattle.routes.specs.Routes.{resource_of}
-use Rattle.swarm_wire.specs.declared.asked.Asked.{Asked}
-use Rattle.swarm_wire.specs.declared.parts.Parts.{Parts}
 use Rattle.swarm_wire.specs.Asking.{asked_of}
-use Rattle.pool_doors.specs.declared.door.Answered.{Answered}
-use Rattle.pool_doors.specs.declared.door.CallFault.{CallFault}
 use Rattle.pool_doors.specs.Doors.{Logs, DoorState, Elsewhere, IsPoolCall, Writer}
-use Rattle.request_head.specs.declared.after.After.{After}
 use Rattle.std.specs.Prelude.{IsSomeAnd, slice_get}
 use Rattle.swarm_http.specs.declared.reply.ReplyBytes.{ReplyBytes}
 use Rattle.swarm_http.specs.declared.served_calls.ServedCalls.{ServedCalls}

@@ -12,21 +12,10 @@ use Rattle.task_bodies.specs.Counts.{count_in}
 use Rattle.bot_bodies.specs.declared.pool_request.PoolRequest.{PoolRequest}
 use Rattle.bot_bodies.specs.Names.{name_at, optional_name_at}
 use Rattle.bot_bodies.specs.BotCalls.{get_bot_in, list_bots_in}
-use Rattle.request_head.specs.declared.method.Method.{Method}
-use Rattle.request_head.specs.declared.method.Method.TheVariants.{Get, Head, Post, Put, Other}
-use Rattle.request_head.specs.declared.after.After.{After}
-use Rattle.request_head.specs.declared.after.After.TheVariants.{Absent, Front, Broken}
-use Rattle.swarm_model.specs.declared.pool_settings.PoolSettings.{PoolSettings}
-use Rattle.swarm_model.specs.declared.pool_settings.Settings.{Settings}
+use Rattle.swarm_http.specs.Types.{Method, Get, Head, Post, Put, Other, After, Absent, Front, Broken, PoolSettings, Settings, Resource, Call, Blob, Route, Asked, WireFault, Parts}
 use Rattle.pool_views.specs.Views.{reads_rows}
-use Rattle.routes.specs.declared.resource.Resource.{Resource}
-use Rattle.routes.specs.declared.resource.Resource.TheVariants.{Call, Blob}
-use Rattle.routes.specs.declared.route.Route.{Route}
 use Rattle.routes.specs.declared.route.Route.TheVariants as route
-use Rattle.swarm_wire.specs.declared.asked.Asked.{Asked}
-use Rattle.swarm_wire.specs.declared.asked.WireFault.{WireFault}
 use Rattle.swarm_wire.specs.declared.asked.WireFault.TheVariants as fault
-use Rattle.swarm_wire.specs.declared.parts.Parts.{Parts}
 use Rattle.swarm_wire.specs.Asking.{or_bad_field, pool_named, pool_at, below_of, object_in, result_of, count_of, list_of, named_of, asked_in, asked_of}
 use Rattle.swarm_http.specs.declared.served_calls.ServedCalls.TheVariants.{Boards}
 use Rattle.swarm_http.specs.Requests.{among, is_board_call, routed, with_front}

@@ -8,17 +8,12 @@ use Rattle.std.proofs.lemmas.Bool.{eq-eqb, ne_eqb}
 use Rattle.std.proofs.lemmas.Bool.Decides.{eqb_tells}
 use Rattle.std.proofs.lemmas.List.Elements.{filter-append}
 use Rattle.httparse.specs.Grammar.{RequestHead}
-use Rattle.swarm_model.specs.declared.pool_settings.Settings.{Settings}
-use Rattle.swarm_model.specs.declared.pool_settings.PoolSettings.{PoolSettings}
-use Rattle.swarm_model.specs.declared.entry.Entry.{Entry}
+use Rattle.swarm_http.specs.Types.{Settings, PoolSettings, Entry, Reply, Answered, CallFault}
 use Rattle.swarm_model.specs.declared.entry.EntryKind.{EntryKind}
-use Rattle.swarm_model.specs.declared.reply.Reply.{Reply}
 use Rattle.swarm_model.specs.Answers.{decide, entry_at}
 use Rattle.swarm_model.specs.Bases.{Base, front}
 use Rattle.swarm_model.specs.History.{replay, moment_of}
 use Rattle.swarm_model.specs.Points.{is_ahead, IsByOther, IsSettled, Call, Growth, added, Grows, IsPoint, IsStopped}
-use Rattle.pool_doors.specs.declared.door.Answered.{Answered}
-use Rattle.pool_doors.specs.declared.door.CallFault.{CallFault}
 use Rattle.pool_doors.specs.Doors.{Logs, Writer, IsPoolCall}
 use Rattle.swarm_http.specs.Outcomes.{DoorCall, called_place, call_of, entries_at, Outcome, rejected, answered, aborted, no_body_memory, no_reply_memory, calls, IsCalled, Acts}
 use Rattle.swarm_http.specs.Exchange.{Exchange, Chain, has_pass, GainsOnce, AreOnce}

@@ -3,14 +3,11 @@ use Rattle.std.proofs.Common.{◌≡◌, ℕ, ◌<◌, ◌≤◌, false, List, l
 use Rattle.std.specs.Prelude.{IsTrue, IsSomeAnd, nat_le, slice_get}
 use Rattle.std.proofs.lemmas.Bool.{and_parts}
 use Rattle.std.proofs.lemmas.Option.{slice_get_within}
-use Rattle.swarm_model.specs.declared.permission.Permission.{Permission}
-use Rattle.swarm_model.specs.declared.pool_settings.PoolSettings.{PoolSettings}
-use Rattle.swarm_model.specs.declared.pool_settings.Settings.{Settings}
+use Rattle.swarm_http.specs.Types.{Permission, PoolSettings, Settings, Asked}
 use Rattle.swarm_model.specs.declared.rule.Rule.TheVariants as rule
 use Rattle.swarm_model.specs.Fits.{fits}
 use Rattle.swarm_model.specs.Words.{is_between}
 use Rattle.swarm_model.specs.Settings.{are_settings, permits}
-use Rattle.swarm_wire.specs.declared.asked.Asked.{Asked}
 use Rattle.swarm_http.specs.Permissions.{permission_of, permitted}
 
 -- settings that keep their rules have few pools

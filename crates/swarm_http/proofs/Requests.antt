@@ -13,9 +13,7 @@ use Rattle.link_reader.specs.Bodies.{IsWhole, IsCut}
 use Rattle.request_head.specs.Heads.{IsHead, IsNoHead}
 use Rattle.head_fields.specs.Fields.{lacks}
 use Rattle.head_fields.specs.Numbers.{is_broken, value_or_zero}
-use Rattle.request_head.specs.declared.method.Method.{Method}
-use Rattle.request_head.specs.declared.head_refusal.HeadRefusal.{HeadRefusal}
-use Rattle.request_head.specs.declared.head_refusal.HeadRefusal.TheVariants.{Bad, LengthRequired, TooLarge}
+use Rattle.swarm_http.specs.Types.{Method, HeadRefusal, Bad, LengthRequired, TooLarge}
 use Rattle.request_head.specs.HeadFields.{head_refusal, size_of, limit_at, fields_of, length_told, wants_length, method_named}
 use Rattle.request_head.specs.HeadChecks.{IsCheckedHead}
 use Rattle.request_head.specs.declared.head_check.HeadCheck.TheVariants as head_check

@@ -2,12 +2,10 @@
 use Rattle.std.proofs.Common.{◌≡◌, ℕ, List, [], ◌++◌, length, Bool, true, false, Option, Some, None, get_or, refl, sym, ap, ◌∙◌, append_assoc}
 use Rattle.std.specs.Prelude.{◌==◌, ◌↔◌, if◌then◌else◌, IsTrue, codes, decimal}
 use Rattle.std.specs.Fmt.{digits}
-use Rattle.swarm_model.specs.declared.reply.Reply.{Reply}
+use Rattle.swarm_http.specs.Types.{Reply, Rule, Method}
 use Rattle.swarm_model.specs.declared.reply.Reply.TheVariants as reply
-use Rattle.swarm_model.specs.declared.rule.Rule.{Rule}
 use Rattle.swarm_model.specs.declared.rule.Rule.TheVariants as rule
 use Rattle.reply_bodies.specs.Bodies.{body_of, content_type_of, status_of}
-use Rattle.request_head.specs.declared.method.Method.{Method}
 use Rattle.request_head.specs.HeadFields.{method_of}
 use Rattle.swarm_http.specs.Replies.{phrase_of, front_line, head_with, Shown, reply_with, shown, refusal, takes_body, sent_to}
 use Rattle.swarm_http.specs.Outcomes.{Outcome, rejected, answered, aborted, no_body_memory, no_reply_memory, stop_rule, answer_of, shown_of, called_place}

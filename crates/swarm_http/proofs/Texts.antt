@@ -1,10 +1,9 @@
 -- The replies of refusals.
 use Rattle.std.proofs.Common.{Bool, false, ◌≡◌, ℕ, List, [], ◌++◌, refl, Option, None, Some, append_assoc}
 use Rattle.std.specs.Prelude.{◌==◌, if◌then◌else◌, codes, decimal}
-use Rattle.request_head.specs.declared.method.Method.{Method}
+use Rattle.swarm_http.specs.Types.{Method, Rule}
 use Rattle.std.specs.Fmt.{digits}
 use Rattle.json.specs.Print.{escape_byte}
-use Rattle.swarm_model.specs.declared.rule.Rule.{Rule}
 use Rattle.swarm_model.specs.declared.rule.Rule.TheVariants as rule
 use Rattle.reply_bodies.specs.Bodies.{body_of, status_of}
 use Rattle.swarm_model.specs.declared.reply.Reply.TheVariants as reply

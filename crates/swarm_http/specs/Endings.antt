@@ -7,11 +7,8 @@ use Rattle.sw_base.specs.Faults.{Rose}
 use Rattle.sw_base.specs.Link.{LinkState, IsClean, Moves}
 use Rattle.link_reader.specs.Heads.{IsHeadEnd, IsOpen, IsTooLong}
 use Rattle.request_head.specs.Heads.{IsHead, IsNoHead}
-use Rattle.request_head.specs.declared.method.Method.{Method}
-use Rattle.request_head.specs.declared.head_refusal.HeadRefusal.{HeadRefusal}
-use Rattle.request_head.specs.declared.head_refusal.HeadRefusal.TheVariants.{Bad, LengthRequired, TooLarge}
+use Rattle.swarm_http.specs.Types.{Method, HeadRefusal, Bad, LengthRequired, TooLarge, Rule}
 use Rattle.request_head.specs.HeadFields.{head_refusal, method_of, size_of}
-use Rattle.swarm_model.specs.declared.rule.Rule.{Rule}
 use Rattle.swarm_model.specs.declared.rule.Rule.TheVariants as rule
 use Rattle.swarm_http.specs.declared.ended.Ended.{Ended}
 use Rattle.swarm_http.specs.declared.ended.Ended.TheVariants.{Closed, LastAsked, CutShort, BadHead, Retired, ReadFault, WriteFault, Memory}

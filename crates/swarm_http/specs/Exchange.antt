@@ -2,8 +2,7 @@
 use Rattle.std.specs.Prelude.{◌≡◌, ◌==◌, ℕ, Bool, List, [], ◌∷◌, ◌++◌, map, filter, IsTrue}
 use Rattle.std.specs.List.{flat_map}
 use Rattle.httparse.specs.Grammar.{RequestHead}
-use Rattle.swarm_model.specs.declared.pool_settings.Settings.{Settings}
-use Rattle.swarm_model.specs.declared.entry.Entry.{Entry}
+use Rattle.swarm_http.specs.Types.{Settings, Entry}
 use Rattle.reply_bodies.specs.Bodies.{status_of}
 use Rattle.pool_doors.specs.Doors.{Logs, Writer}
 use Rattle.swarm_http.specs.Outcomes.{Outcome, Acts, answer_of, shown_of, calls, moments_used, entries_at, is_keeper_stop}

@@ -1,3 +1,4 @@
+pub mod Types
 pub mod Replies
 pub mod Permissions
 pub mod Requests

@@ -4,15 +4,10 @@ use Rattle.std.specs.Bool.{MatchBool}
 use Rattle.httparse.specs.Grammar.{RequestHead}
 use Rattle.request_head.specs.HeadFields.{after_of}
 use Rattle.sw_base.specs.Faults.{Rose}
-use Rattle.swarm_model.specs.declared.pool_settings.Settings.{Settings}
-use Rattle.swarm_model.specs.declared.entry.Entry.{Entry}
-use Rattle.swarm_model.specs.declared.reply.Reply.{Reply}
+use Rattle.swarm_http.specs.Types.{Settings, Entry, Reply, Rule, Answered, CallFault}
 use Rattle.swarm_model.specs.declared.reply.Reply.TheVariants as reply
-use Rattle.swarm_model.specs.declared.rule.Rule.{Rule}
 use Rattle.swarm_model.specs.declared.rule.Rule.TheVariants as rule
 use Rattle.swarm_model.specs.Points.{Call, Growth, added}
-use Rattle.pool_doors.specs.declared.door.Answered.{Answered}
-use Rattle.pool_doors.specs.declared.door.CallFault.{CallFault}
 use Rattle.pool_doors.specs.declared.door.CallFault.TheVariants as stop
 use Rattle.pool_doors.specs.Doors.{Logs, Elsewhere, IsPoolCall, Writer}
 use Rattle.swarm_http.specs.Requests.{CallerRequest, request_of, front_of}

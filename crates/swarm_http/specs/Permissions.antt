@@ -1,15 +1,11 @@
 -- The permission without which no pool is asked.
 use Rattle.std.specs.Prelude.{List, ℕ, Option, Some, None, Result, Ok, Err, slice_get, if◌then◌else◌}
-use Rattle.swarm_model.specs.declared.permission.Permission.{Permission}
+use Rattle.swarm_http.specs.Types.{Permission, PoolSettings, Settings, Rule, Asked}
 use Rattle.swarm_model.specs.declared.permission.Permission.TheVariants as permission
-use Rattle.swarm_model.specs.declared.pool_settings.PoolSettings.{PoolSettings}
-use Rattle.swarm_model.specs.declared.pool_settings.Settings.{Settings}
 use Rattle.swarm_model.specs.declared.request.Request.{Request}
 use Rattle.swarm_model.specs.declared.request.Request.TheVariants as ask
-use Rattle.swarm_model.specs.declared.rule.Rule.{Rule}
 use Rattle.swarm_model.specs.declared.rule.Rule.TheVariants as rule
 use Rattle.swarm_model.specs.Settings.{permits}
-use Rattle.swarm_wire.specs.declared.asked.Asked.{Asked}
 
 -- the permission that a request needs before its pool is asked; whether a task may be canceled, or its result or output seen, the pool decides
 abbrev pub permission_of : Request → Option Permission

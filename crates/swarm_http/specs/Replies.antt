@@ -1,11 +1,8 @@
 -- A reply, and its bytes.
 use Rattle.std.specs.Prelude.{ℕ, Bool, true, false, if◌then◌else◌, List, [], ◌++◌, length, codes, decimal, Option, Some, None, unwrap_or}
 use Rattle.http.specs.StatusCode.{reason_phrase}
-use Rattle.request_head.specs.declared.method.Method.{Method}
-use Rattle.request_head.specs.declared.method.Method.TheVariants.{Head}
-use Rattle.swarm_model.specs.declared.reply.Reply.{Reply}
+use Rattle.swarm_http.specs.Types.{Method, Head, Reply, Rule}
 use Rattle.swarm_model.specs.declared.reply.Reply.TheVariants as reply
-use Rattle.swarm_model.specs.declared.rule.Rule.{Rule}
 use Rattle.reply_bodies.specs.Bodies.{body_of, content_type_of, status_of}
 
 -- the phrase that stands beside a status

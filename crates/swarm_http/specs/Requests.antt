@@ -1,23 +1,12 @@
 -- What a request asks, or why it is refused before any pool is asked.
 use Rattle.std.specs.Prelude.{ℕ, Bool, true, false, if◌then◌else◌, List, Option, Some, None, Result, Ok, Err, codes}
 use Rattle.httparse.specs.Grammar.{RequestHead}
-use Rattle.request_head.specs.declared.method.Method.{Method}
-use Rattle.request_head.specs.declared.method.Method.TheVariants.{Get, Head, Post, Put, Other}
-use Rattle.request_head.specs.declared.after.After.{After}
-use Rattle.request_head.specs.declared.after.After.TheVariants.{Absent, Front, Broken}
+use Rattle.swarm_http.specs.Types.{Method, Get, Head, Post, Put, Other, After, Absent, Front, Broken, Settings, Rule, Resource, Call, Blob, Route, Asked, Parts, WireFault}
 use Rattle.request_head.specs.HeadFields.{method_of, caller_of, after_of}
 use Rattle.task_props.specs.declared.prop_rule.PropRule.TheVariants.{Grammar}
-use Rattle.swarm_model.specs.declared.pool_settings.Settings.{Settings}
-use Rattle.swarm_model.specs.declared.rule.Rule.{Rule}
 use Rattle.swarm_model.specs.declared.rule.Rule.TheVariants as rule
-use Rattle.routes.specs.declared.resource.Resource.{Resource}
-use Rattle.routes.specs.declared.resource.Resource.TheVariants.{Call, Blob}
-use Rattle.routes.specs.declared.route.Route.{Route}
 use Rattle.routes.specs.declared.route.Route.TheVariants as route
 use Rattle.routes.specs.Routes.{resource_of, pool_part, digest_part}
-use Rattle.swarm_wire.specs.declared.asked.Asked.{Asked}
-use Rattle.swarm_wire.specs.declared.parts.Parts.{Parts}
-use Rattle.swarm_wire.specs.declared.asked.WireFault.{WireFault}
 use Rattle.swarm_wire.specs.declared.asked.WireFault.TheVariants as fault
 use Rattle.swarm_wire.specs.Asking.{asked_of}
 use Rattle.swarm_http.specs.declared.served_calls.ServedCalls.{ServedCalls}

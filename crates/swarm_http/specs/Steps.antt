@@ -4,9 +4,8 @@ use Rattle.std.specs.List.{count_by}
 use Rattle.httparse.specs.Grammar.{RequestHead}
 use Rattle.sw_base.specs.Clock.{HandsIn}
 use Rattle.sw_base.specs.Link.{LinkState, IsClean, NoFault}
-use Rattle.swarm_model.specs.declared.pool_settings.Settings.{Settings}
+use Rattle.swarm_http.specs.Types.{Settings, Rule}
 use Rattle.swarm_model.specs.declared.reply.Reply.TheVariants as reply
-use Rattle.swarm_model.specs.declared.rule.Rule.{Rule}
 use Rattle.swarm_model.specs.declared.rule.Rule.TheVariants as rule
 use Rattle.reply_bodies.specs.Bodies.{status_of}
 use Rattle.pool_doors.specs.Doors.{DoorState}

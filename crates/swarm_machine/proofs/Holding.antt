@@ -4,8 +4,7 @@ use Rattle.std.specs.List.{list_all}
 use Rattle.std.proofs.lemmas.Bool.{and_parts}
 use borrow.Author.Tests.{leb-true}
 use Rattle.swarm_model.specs.declared.pool_settings.PoolSettings.{PoolSettings}
-use Rattle.swarm_model.specs.declared.pool_state.PoolState.{PoolState}
-use Rattle.swarm_model.specs.declared.entry.Entry.{Entry}
+use Rattle.swarm_machine.specs.Types.{PoolState, Entry}
 use Rattle.swarm_model.specs.Settings.{is_pool_name, is_grant, keeps_rules}
 use Rattle.swarm_model.specs.Words.{is_between}
 use Rattle.swarm_model.specs.Soundness.{IsSound}

@@ -6,14 +6,7 @@ use Rattle.std.specs.Prelude.{OnOk}
 use Rattle.std.proofs.lemmas.List.{length-take-le}
 use Rattle.std.proofs.lemmas.List.Elements.{All-take}
 use Rattle.std.proofs.lemmas.List.Sums.{sum_by_more_le}
-use Rattle.blob_rows.specs.declared.blob_row.BlobRow.{BlobRow}
-use Rattle.task_props.specs.declared.slice.Slice.{Slice}
-use Rattle.swarm_model.specs.declared.task_state.TaskState.{TaskState}
-use Rattle.swarm_model.specs.declared.task_state.TaskState.TheVariants.{Pending}
-use Rattle.swarm_model.specs.declared.task_row.TaskRow.{TaskRow}
-use Rattle.swarm_model.specs.declared.bot_row.BotRow.{BotRow}
-use Rattle.swarm_model.specs.declared.deadline.Deadline.{Deadline}
-use Rattle.swarm_model.specs.declared.pool_state.PoolState.{PoolState}
+use Rattle.swarm_machine.specs.Types.{BlobRow, Slice, TaskState, Pending, TaskRow, BotRow, Deadline, PoolState, ClaimLink, UseLink, UuidLink}
 use Rattle.swarm_model.specs.BaseRules.{IsBase}
 use Rattle.swarm_model.specs.Deadlines.{bot_end, blob_end}
 use Rattle.swarm_model.specs.Effects.{no_of_task, no_of_bot}
@@ -26,9 +19,6 @@ use Rattle.pool_laws.proofs.Lists.{Among, each}
 use Rattle.row_changes.specs.Rows.{IsEarly, IsHeard}
 use Rattle.dim_queue.specs.Plain.{QueueState, SameWaits, Enters, IsAbsent}
 use Rattle.dim_queue.specs.Taking.{set_with}
-use Rattle.pool_index.specs.declared.claim_link.ClaimLink.{ClaimLink}
-use Rattle.pool_index.specs.declared.use_link.UseLink.{UseLink}
-use Rattle.pool_index.specs.declared.uuid_link.UuidLink.{UuidLink}
 use Rattle.pool_index.specs.Links.{links_with}
 use Rattle.pool_index.specs.QueuedDeadlines.{DeadlineQueueState, Adds}
 use Rattle.pool_index.specs.Sources.{AreWith}

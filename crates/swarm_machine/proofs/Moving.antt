@@ -1,8 +1,7 @@
 -- A deadline that is taken out, and one that is put in.
 use Rattle.std.proofs.Common.{List, [], inl, inr, sym, ap, Option, Some, None}
 use Rattle.std.proofs.lemmas.Option.{same_Some}
-use Rattle.swarm_model.specs.declared.deadline.Deadline.{Deadline}
-use Rattle.swarm_model.specs.declared.pool_state.PoolState.{PoolState}
+use Rattle.swarm_machine.specs.Types.{Deadline, PoolState}
 use Rattle.pool_index.specs.QueuedDeadlines.{Adds, Removes}
 use Rattle.index_laws.specs.BlobDeadlines.{AreBlobDeadlines, AreMoved}
 use Rattle.swarm_machine.specs.Loading.{with_bots}

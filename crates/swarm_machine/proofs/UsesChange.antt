@@ -7,11 +7,8 @@ use Rattle.std.proofs.lemmas.List.{get_or_default}
 use Rattle.std.proofs.lemmas.List.Elements.{All-get_or, All-more, All-weaker}
 use Rattle.std.proofs.lemmas.List.Sums.{sum_by_more, sum_by_more_le}
 use Rattle.dimensions.specs.Alike.{same}
-use Rattle.pool_index.specs.declared.use_link.UseLink.{UseLink}
-use Rattle.task_props.specs.declared.file.File.{File}
-use Rattle.task_props.specs.declared.slice.Slice.{Slice}
+use Rattle.swarm_machine.specs.Types.{UseLink, File, Slice, Chunk}
 use Rattle.pool_index.specs.Uses.{uses_of, IsListed, StaysListed, HasUses}
-use Rattle.swarm_model.specs.declared.attempt.Chunk.{Chunk}
 use Rattle.swarm_machine.specs.Uses.{AreInputsListed, AddsUses, RemovesUses, HasRoomFor, HasUsesFor}
 
 -- one, where the digests are the same

@@ -1,7 +1,6 @@
 -- What the rows stand for, and what lies ready for an entry.
 use Rattle.std.specs.Prelude.{◌≡◌, ℕ, List, Option, Some}
-use Rattle.swarm_model.specs.declared.pool_state.PoolState.{PoolState}
-use Rattle.swarm_model.specs.declared.entry.EntryKind.{EntryKind}
+use Rattle.swarm_machine.specs.Types.{PoolState, EntryKind}
 use Rattle.swarm_model.specs.Answers.{entry_at}
 use Rattle.swarm_model.specs.Bytes.{held_after}
 use Rattle.swarm_model.specs.Effects.{after}

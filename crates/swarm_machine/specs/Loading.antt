@@ -1,13 +1,8 @@
 -- Rows that are loaded one after another: first the bots, then the tasks, then the blobs.
 use Rattle.std.specs.Prelude.{◌≡◌, ℕ, ◌<◌, ◌^◌, List, [], length, Option, slice_set, MatchOption}
-use Rattle.blob_rows.specs.declared.blob_row.BlobRow.{BlobRow}
+use Rattle.swarm_machine.specs.Types.{BlobRow, Waiting, TaskRow, BotRow, Deadline, PoolState}
 use Rattle.dim_queue.specs.declared.queue_set.QueueSet.{QueueSet}
-use Rattle.dim_queue.specs.declared.waiting.Waiting.{Waiting}
 use Rattle.dim_queue.specs.Plain.{QueueState, SameWaits, Enters}
-use Rattle.swarm_model.specs.declared.task_row.TaskRow.{TaskRow}
-use Rattle.swarm_model.specs.declared.bot_row.BotRow.{BotRow}
-use Rattle.swarm_model.specs.declared.deadline.Deadline.{Deadline}
-use Rattle.swarm_model.specs.declared.pool_state.PoolState.{PoolState}
 use Rattle.swarm_model.specs.Soundness.{IsSound}
 use Rattle.pool_index.specs.Deadlines.{SameDeadlines}
 use Rattle.index_laws.specs.TaskUses.{uses_in}

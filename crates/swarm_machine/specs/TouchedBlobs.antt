@@ -1,11 +1,8 @@
 -- The blob that an entry may change.
 use Rattle.std.specs.Prelude.{List, Option, None}
 use Rattle.std.specs.Option.{option_map, option_and_then}
-use Rattle.blob_rows.specs.declared.blob_row.BlobRow.{BlobRow}
+use Rattle.swarm_machine.specs.Types.{BlobRow, Chunk, Deadline, EntryKind}
 use Rattle.blob_rows.specs.BlobRows.{blob_of, blob_numbered}
-use Rattle.swarm_model.specs.declared.attempt.Chunk.{Chunk}
-use Rattle.swarm_model.specs.declared.deadline.Deadline.{Deadline}
-use Rattle.swarm_model.specs.declared.entry.EntryKind.{EntryKind}
 use Rattle.swarm_model.specs.declared.entry.EntryKind.TheVariants as kind
 use Rattle.swarm_model.specs.Deadlines.{blob_end}
 use Rattle.index_laws.specs.BlobDeadlines.{blob_of_chunk}

@@ -2,11 +2,8 @@
 use Rattle.std.specs.Prelude.{◌≡◌, ℕ, ◌+◌, ◌≤◌, ◌<◌, ◌^◌, ⊤, List, Option, Some, IfSome}
 use Rattle.std.specs.List.{All}
 use Rattle.std.specs.Option.{option_map_or}
-use Rattle.task_props.specs.declared.slice.Slice.{Slice}
-use Rattle.swarm_model.specs.declared.attempt.Chunk.{Chunk}
-use Rattle.swarm_model.specs.declared.entry.EntryKind.{EntryKind}
+use Rattle.swarm_machine.specs.Types.{Slice, Chunk, EntryKind, UseLink}
 use Rattle.swarm_model.specs.declared.entry.EntryKind.TheVariants as kind
-use Rattle.pool_index.specs.declared.use_link.UseLink.{UseLink}
 use Rattle.pool_index.specs.Uses.{uses_of, IsListed}
 use Rattle.index_laws.specs.TaskUses.{uses_of_slices, chunk_use}
 

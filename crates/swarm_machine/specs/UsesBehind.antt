@@ -1,12 +1,10 @@
 -- The uses of digests in a pool, and what they need to follow an entry.
 use Rattle.std.specs.Prelude.{◌≡◌, ℕ, ◌+◌, ◌<◌, ◌^◌, List}
-use Rattle.swarm_model.specs.declared.pool_state.PoolState.{PoolState}
-use Rattle.swarm_model.specs.declared.entry.Entry.{Entry}
+use Rattle.swarm_machine.specs.Types.{PoolState, Entry, UseLink}
 use Rattle.swarm_model.specs.Effects.{after}
 use Rattle.swarm_model.specs.History.{MayFollow}
 use Rattle.swarm_model.specs.Soundness.{IsSound}
 use Rattle.pool_changes.specs.Blobs.{fresh_in}
-use Rattle.pool_index.specs.declared.use_link.UseLink.{UseLink}
 use Rattle.pool_index.specs.Uses.{uses_of}
 use Rattle.index_laws.specs.TaskUses.{uses_in, uses_to_come}
 use Rattle.index_laws.specs.Touched.{touched_task}

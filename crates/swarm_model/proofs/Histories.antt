@@ -1,7 +1,6 @@
 -- A log that nothing led to.
 use Rattle.std.proofs.Common.{◌≡◌, List, length, ap, arith}
-use Rattle.swarm_model.specs.declared.entry.Entry.{Entry}
-use Rattle.swarm_model.specs.declared.pool_settings.PoolSettings.{PoolSettings}
+use Rattle.swarm_model.specs.Types.{Entry, PoolSettings}
 use Rattle.swarm_model.specs.Bases.{Base, empty_base, front}
 
 -- it has the length of its entries

@@ -5,8 +5,7 @@ use Rattle.std.specs.Ordering.{int_eq}
 use Rattle.std.specs.Cmp.Lexicographic.{pointwise}
 use Rattle.dimensions.specs.Alike.{same}
 use Rattle.task_props.specs.Alike.{same_file, ◌also◌}
-use Rattle.swarm_model.specs.declared.attempt.Chunk.{Chunk}
-use Rattle.swarm_model.specs.declared.attempt.Last.{Last}
+use Rattle.swarm_model.specs.Types.{Chunk, Last}
 
 abbrev pub same_chunk : Chunk → Chunk → Bool
 same_chunk a b = a.start == b.start also a.size == b.size also same a.digest b.digest

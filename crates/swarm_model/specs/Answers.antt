@@ -2,40 +2,18 @@
 use Rattle.std.specs.Prelude.{ℕ, Bool, true, false, [], unwrap_or, ◌+◌, ◌-◌, ◌^◌, ◌==◌, ◌&&◌, ◌||◌, not, min, List, length, map, take, Option, Some, None, is_some, is_none, nat_le, nat_lt, if◌then◌else◌}
 use Rattle.std.specs.List.{count_by, filter, find, list_any}
 use Rattle.std.specs.Option.{option_map, option_map_or, option_and_then, option_eq}
-use Rattle.dimensions.specs.declared.text.Text.{Text}
-use Rattle.dimensions.specs.declared.bot_dims.BotDims.{BotDims}
+use Rattle.swarm_model.specs.Types.{Text, BotDims, BlobRow, File, Slice, NewTask, TaskState, Pending, Running, BotDied, Completed, NoResource, Attempt, Chunk, Last, Retried, Permission, TaskRow, BotRow, PoolState, Entry, EntryKind, EventKind, Request, Rule, Reply, Answer, Reuse}
 use Rattle.dimensions.specs.Alike.{same, same_dims}
 use Rattle.dimensions.specs.Choosing.{when, ◌or_else◌}
 use Rattle.dimensions.specs.Rules.{is_empty}
-use Rattle.blob_rows.specs.declared.blob_row.BlobRow.{BlobRow}
-use Rattle.task_props.specs.declared.file.File.{File}
-use Rattle.task_props.specs.declared.slice.Slice.{Slice}
-use Rattle.task_props.specs.declared.new_task.NewTask.{NewTask}
 use Rattle.task_props.specs.Alike.{same_task}
-use Rattle.swarm_model.specs.declared.task_state.TaskState.{TaskState}
-use Rattle.swarm_model.specs.declared.task_state.TaskState.TheVariants.{Pending, Running, BotDied, Completed, NoResource}
-use Rattle.swarm_model.specs.declared.attempt.Attempt.{Attempt}
-use Rattle.swarm_model.specs.declared.attempt.Chunk.{Chunk}
-use Rattle.swarm_model.specs.declared.attempt.Last.{Last}
-use Rattle.swarm_model.specs.declared.retried.Retried.{Retried}
-use Rattle.swarm_model.specs.declared.permission.Permission.{Permission}
 use Rattle.swarm_model.specs.declared.permission.Permission.TheVariants as permission
-use Rattle.swarm_model.specs.declared.task_row.TaskRow.{TaskRow}
-use Rattle.swarm_model.specs.declared.bot_row.BotRow.{BotRow}
-use Rattle.swarm_model.specs.declared.pool_state.PoolState.{PoolState}
-use Rattle.swarm_model.specs.declared.entry.Entry.{Entry}
-use Rattle.swarm_model.specs.declared.entry.EntryKind.{EntryKind}
 use Rattle.swarm_model.specs.declared.entry.EntryKind.TheVariants as kind
-use Rattle.swarm_model.specs.declared.entry.EventKind.{EventKind}
-use Rattle.swarm_model.specs.declared.request.Request.{Request}
 use Rattle.swarm_model.specs.declared.request.Request.TheVariants as ask
 use Rattle.swarm_model.specs.declared.rule.Unfit.{Unfit}
 use Rattle.swarm_model.specs.declared.rule.Unfit.TheVariants as unfit
-use Rattle.swarm_model.specs.declared.rule.Rule.{Rule}
 use Rattle.swarm_model.specs.declared.rule.Rule.TheVariants as rule
-use Rattle.swarm_model.specs.declared.reply.Reply.{Reply}
 use Rattle.swarm_model.specs.declared.reply.Reply.TheVariants as reply
-use Rattle.swarm_model.specs.declared.answer.Answer.{Answer}
 use Rattle.swarm_model.specs.declared.answer.Decision.{Decision}
 use Rattle.swarm_model.specs.Alike.{same_chunk, same_last}
 use Rattle.swarm_model.specs.Settings.{permits}
@@ -43,7 +21,6 @@ use Rattle.swarm_model.specs.Blobs.{lacks_chunk, missing_file, inputs_of, can_ta
 use Rattle.swarm_model.specs.Effects.{fresh_chunk, next_try}
 use Rattle.swarm_model.specs.Finding.{has_state, task_of, bot_named, blob_of, has_blob, is_final, is_wanted}
 use Rattle.swarm_model.specs.Output.{chunks_within, parts_within}
-use Rattle.swarm_model.specs.declared.reuse.Reuse.{Reuse}
 use Rattle.swarm_model.specs.Reuse.{sent, reuse}
 use Rattle.swarm_model.specs.Slices.{admit, current_slice, first}
 use Rattle.swarm_model.specs.Views.{attempt_shown, bot_name_of, files_of, view_of, bot_view_of}

@@ -2,11 +2,7 @@
 use Rattle.std.specs.Prelude.{◌≡◌, ℕ, ◌≤◌, ◌<◌, ◌^◌, false, IsTrue, List, length, None, IfSome, is_some}
 use Rattle.std.specs.List.{All, AllPairs}
 use Rattle.std.specs.Option.{option_map_or}
-use Rattle.swarm_model.specs.declared.task_state.TaskState.TheVariants.{Completed}
-use Rattle.swarm_model.specs.declared.attempt.Attempt.{Attempt}
-use Rattle.swarm_model.specs.declared.pool_settings.PoolSettings.{PoolSettings}
-use Rattle.swarm_model.specs.declared.task_row.TaskRow.{TaskRow}
-use Rattle.swarm_model.specs.declared.pool_state.PoolState.{PoolState}
+use Rattle.swarm_model.specs.Types.{Completed, Attempt, PoolSettings, TaskRow, PoolState}
 use Rattle.swarm_model.specs.declared.request.Request.TheVariants as ask
 use Rattle.swarm_model.specs.Finding.{task_of, blob_of}
 use Rattle.swarm_model.specs.Fits.{fits, fits_chunk, fits_last, is_name}

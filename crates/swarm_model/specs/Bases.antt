@@ -1,8 +1,6 @@
 -- Where a log begins.
 use Rattle.std.specs.Prelude.{ℕ, ◌+◌, ◌-◌, nat_le, if◌then◌else◌, List, length, slice_get, Option, None}
-use Rattle.swarm_model.specs.declared.pool_settings.PoolSettings.{PoolSettings}
-use Rattle.swarm_model.specs.declared.pool_state.PoolState.{PoolState}
-use Rattle.swarm_model.specs.declared.entry.Entry.{Entry}
+use Rattle.swarm_model.specs.Types.{PoolSettings, PoolState, Entry}
 use Rattle.swarm_model.specs.Effects.{opening}
 
 -- the rows from which a log begins, and how many entries led to them

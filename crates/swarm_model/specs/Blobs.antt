@@ -4,10 +4,7 @@ use Rattle.std.specs.List.{find}
 use Rattle.blob_rows.specs.declared.held.Held.{Held}
 use Rattle.blob_rows.specs.declared.held.Held.TheVariants as held
 use Rattle.blob_rows.specs.BlobRows.{put_result}
-use Rattle.task_props.specs.declared.file.File.{File}
-use Rattle.task_props.specs.declared.slice.Slice.{Slice}
-use Rattle.swarm_model.specs.declared.attempt.Chunk.{Chunk}
-use Rattle.swarm_model.specs.declared.pool_state.PoolState.{PoolState}
+use Rattle.swarm_model.specs.Types.{File, Slice, Chunk, PoolState}
 use Rattle.swarm_model.specs.Finding.{has_blob}
 use Rattle.swarm_model.specs.Effects.{blobs_in}
 

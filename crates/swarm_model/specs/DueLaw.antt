@@ -1,8 +1,7 @@
 -- Which deadline is due.
 use Rattle.std.specs.Prelude.{ℕ, ◌<◌, ◌≤◌, IsFalse, MatchOption}
 use Rattle.std.specs.List.{All, Contains}
-use Rattle.swarm_model.specs.declared.pool_state.PoolState.{PoolState}
-use Rattle.swarm_model.specs.declared.deadline.Deadline.{Deadline}
+use Rattle.swarm_model.specs.Types.{PoolState, Deadline}
 use Rattle.swarm_model.specs.Deadlines.{deadlines, is_earlier, due}
 
 -- a deadline of the pool that has come by the moment, before which no other goes

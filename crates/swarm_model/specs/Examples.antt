@@ -1,10 +1,7 @@
 -- Small values for worked examples and logs.
 use Rattle.std.specs.Prelude.{ℕ, ℤ, true, false, [], ◌∷◌, codes}
-use Rattle.task_props.specs.declared.properties.Properties.{Properties}
-use Rattle.task_props.specs.declared.new_task.NewTask.{NewTask}
+use Rattle.swarm_model.specs.Types.{Properties, NewTask, PoolSettings, Last}
 use Rattle.task_props.specs.Examples.{small}
-use Rattle.swarm_model.specs.declared.pool_settings.PoolSettings.{PoolSettings}
-use Rattle.swarm_model.specs.declared.attempt.Last.{Last}
 
 abbrev pub settings : PoolSettings
 settings =

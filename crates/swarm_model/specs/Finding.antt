@@ -3,13 +3,8 @@ use Rattle.std.specs.Prelude.{ℕ, Bool, true, false, not, ◌&&◌, ◌==◌, O
 use Rattle.std.specs.List.{find}
 use Rattle.std.specs.Option.{option_map_or}
 use Rattle.dimensions.specs.Alike.{same}
-use Rattle.blob_rows.specs.declared.blob_row.BlobRow.{BlobRow}
+use Rattle.swarm_model.specs.Types.{BlobRow, TaskState, Pending, Running, Expired, TimedOut, BotDied, Canceled, Completed, Killed, NoResource, TaskRow, BotRow, PoolState}
 use Rattle.blob_rows.specs.BlobRows as rows
-use Rattle.swarm_model.specs.declared.task_state.TaskState.{TaskState}
-use Rattle.swarm_model.specs.declared.task_state.TaskState.TheVariants.{Pending, Running, Expired, TimedOut, BotDied, Canceled, Completed, Killed, NoResource}
-use Rattle.swarm_model.specs.declared.task_row.TaskRow.{TaskRow}
-use Rattle.swarm_model.specs.declared.bot_row.BotRow.{BotRow}
-use Rattle.swarm_model.specs.declared.pool_state.PoolState.{PoolState}
 
 -- the place of a state in the order in which tallies show them
 abbrev pub state_place : TaskState → ℕ

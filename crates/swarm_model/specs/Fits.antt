@@ -2,18 +2,13 @@
 use Rattle.std.specs.Prelude.{Bool, true, ◌+◌, ◌&&◌, ◌||◌, ◌^◌, nat_le, List, ℕ, length}
 use Rattle.std.specs.List.{list_all}
 use Rattle.std.specs.Option.{option_map_or}
-use Rattle.dimensions.specs.declared.bot_dims.BotDims.{BotDims}
+use Rattle.swarm_model.specs.Types.{BotDims, Chunk, Last, EventKind, PoolSettings, Request}
 use Rattle.dimensions.specs.Alike.{same}
 use Rattle.dimensions.specs.Rules.{has_length_to, is_key_byte, is_empty}
 use Rattle.dimensions.specs.BotRules.{are_bot_checked, pool_of_bot}
 use Rattle.task_props.specs.Checked.{is_checked, pool_of_task}
 use Rattle.task_props.specs.Sorted.{is_file}
-use Rattle.swarm_model.specs.declared.attempt.Chunk.{Chunk}
-use Rattle.swarm_model.specs.declared.attempt.Last.{Last}
-use Rattle.swarm_model.specs.declared.entry.EventKind.{EventKind}
 use Rattle.swarm_model.specs.declared.entry.EventKind.TheVariants as event
-use Rattle.swarm_model.specs.declared.pool_settings.PoolSettings.{PoolSettings}
-use Rattle.swarm_model.specs.declared.request.Request.{Request}
 use Rattle.swarm_model.specs.declared.request.Request.TheVariants as ask
 use Rattle.swarm_model.specs.Words.{is_between}
 

@@ -1,3 +1,4 @@
+pub mod Types
 pub mod Words
 pub mod Permissions
 pub mod Settings

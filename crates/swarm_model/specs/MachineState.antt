@@ -1,18 +1,9 @@
 -- What a machine keeps.
 use Rattle.std.specs.Prelude.{◌≡◌, ◌⊎◌, ◌++◌, ℕ, zero, ⊤, IsTrue, List, Option, Some, None, IfSome, is_some}
 use Rattle.std.specs.List.{All}
-use Rattle.blob_rows.specs.declared.filled.Filled.{Filled}
-use Rattle.swarm_model.specs.declared.pool_state.PoolState.{PoolState}
-use Rattle.swarm_model.specs.declared.entry.Entry.{Entry}
+use Rattle.swarm_model.specs.Types.{Filled, PoolState, Entry, NewTask, Request, TaskState, TaskRow, BotRow, TaskView, Reply}
 use Rattle.swarm_model.specs.declared.entry.EntryKind.TheVariants as kind
-use Rattle.task_props.specs.declared.new_task.NewTask.{NewTask}
-use Rattle.swarm_model.specs.declared.request.Request.{Request}
 use Rattle.swarm_model.specs.declared.request.Request.TheVariants as ask
-use Rattle.swarm_model.specs.declared.task_state.TaskState.{TaskState}
-use Rattle.swarm_model.specs.declared.task_row.TaskRow.{TaskRow}
-use Rattle.swarm_model.specs.declared.bot_row.BotRow.{BotRow}
-use Rattle.swarm_model.specs.declared.task_view.TaskView.{TaskView}
-use Rattle.swarm_model.specs.declared.reply.Reply.{Reply}
 use Rattle.swarm_model.specs.declared.reply.Reply.TheVariants as reply
 use Rattle.swarm_model.specs.Finding.{is_final, task_of, bot_named}
 use Rattle.swarm_model.specs.Answers.{named_task, chunks_shown}

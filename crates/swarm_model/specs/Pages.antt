@@ -3,10 +3,7 @@ use Rattle.std.specs.Prelude.{ℕ, Bool, true, ◌-◌, ◌&&◌, nat_lt, List, 
 use Rattle.std.specs.List.{filter}
 use Rattle.std.specs.Option.{option_map}
 use Rattle.dimensions.specs.Order.{is_text_below, sorted_by}
-use Rattle.swarm_model.specs.declared.task_state.TaskState.{TaskState}
-use Rattle.swarm_model.specs.declared.task_row.TaskRow.{TaskRow}
-use Rattle.swarm_model.specs.declared.bot_row.BotRow.{BotRow}
-use Rattle.swarm_model.specs.declared.pool_state.PoolState.{PoolState}
+use Rattle.swarm_model.specs.Types.{TaskState, TaskRow, BotRow, PoolState}
 use Rattle.swarm_model.specs.Finding.{is_wanted}
 
 -- a task before the one of this number, where one is given

@@ -1,8 +1,6 @@
 -- What a refusal adds.
 use Rattle.std.specs.Prelude.{◌≡◌, ℕ, List, None}
-use Rattle.swarm_model.specs.declared.pool_state.PoolState.{PoolState}
-use Rattle.swarm_model.specs.declared.request.Request.{Request}
-use Rattle.swarm_model.specs.declared.rule.Rule.{Rule}
+use Rattle.swarm_model.specs.Types.{PoolState, Request, Rule}
 use Rattle.swarm_model.specs.declared.reply.Reply.TheVariants as reply
 use Rattle.swarm_model.specs.Answers.{answer}
 

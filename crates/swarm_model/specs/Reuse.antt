@@ -7,11 +7,7 @@ use Rattle.dimensions.specs.Alike.{same}
 use Rattle.dimensions.specs.Choosing.{◌or_else◌}
 use Rattle.dimensions.specs.Rules.{is_empty}
 use Rattle.task_props.specs.Canonical.{hash}
-use Rattle.task_props.specs.declared.slice.Slice.{Slice}
-use Rattle.swarm_model.specs.declared.task_state.TaskState.TheVariants.{Completed}
-use Rattle.swarm_model.specs.declared.task_row.TaskRow.{TaskRow}
-use Rattle.swarm_model.specs.declared.pool_state.PoolState.{PoolState}
-use Rattle.swarm_model.specs.declared.reuse.Reuse.{Reuse}
+use Rattle.swarm_model.specs.Types.{Slice, Completed, TaskRow, PoolState, Reuse}
 use Rattle.swarm_model.specs.Finding.{has_state}
 use Rattle.swarm_model.specs.Slices.{current_slice}
 use Rattle.swarm_model.specs.Views.{last_of}

@@ -2,13 +2,7 @@
 use Rattle.std.specs.Prelude.{◌≡◌, ℕ, ◌<◌, ◌≤◌, IsTrue, IsFalse, List, take, Some, None, MatchOption, slice_get}
 use Rattle.std.specs.List.{All, Contains}
 use Rattle.task_props.specs.Canonical.{hash}
-use Rattle.task_props.specs.declared.slice.Slice.{Slice}
-use Rattle.swarm_model.specs.declared.task_state.TaskState.TheVariants.{Completed}
-use Rattle.swarm_model.specs.declared.pool_settings.PoolSettings.{PoolSettings}
-use Rattle.swarm_model.specs.declared.task_row.TaskRow.{TaskRow}
-use Rattle.swarm_model.specs.declared.pool_state.PoolState.{PoolState}
-use Rattle.swarm_model.specs.declared.reuse.Reuse.{Reuse}
-use Rattle.swarm_model.specs.declared.entry.Entry.{Entry}
+use Rattle.swarm_model.specs.Types.{Slice, Completed, PoolSettings, TaskRow, PoolState, Reuse, Entry}
 use Rattle.swarm_model.specs.Finding.{task_of}
 use Rattle.swarm_model.specs.Numbers.{AreNumbered}
 use Rattle.swarm_model.specs.Slices.{current_slice}

@@ -3,9 +3,8 @@ use Rattle.std.specs.Prelude.{ℕ, Bool, true, ◌+◌, ◌==◌, ◌&&◌, ◌|
 use Rattle.std.specs.List.{list_all, list_any}
 use Rattle.dimensions.specs.Alike.{same}
 use Rattle.dimensions.specs.Rules.{has_length_to, is_key_byte}
-use Rattle.swarm_model.specs.declared.permission.Permission.{Permission}
+use Rattle.swarm_model.specs.Types.{Permission, PoolSettings}
 use Rattle.swarm_model.specs.declared.pool_settings.Grant.{Grant}
-use Rattle.swarm_model.specs.declared.pool_settings.PoolSettings.{PoolSettings}
 use Rattle.swarm_model.specs.declared.pool_settings.Settings.{Settings}
 use Rattle.swarm_model.specs.Permissions.{is_permission}
 use Rattle.swarm_model.specs.Words.{is_between}

@@ -3,14 +3,9 @@ use Rattle.std.specs.Prelude.{ℕ, Bool, false, ◌==◌, ◌&&◌, ◌||◌, no
 use Rattle.std.specs.List.{list_any, filter, fold, position_from}
 use Rattle.std.specs.Option.{option_map, option_map_or}
 use Rattle.dimensions.specs.declared.dim_set.DimSet.{DimSet}
-use Rattle.dimensions.specs.declared.bot_dims.BotDims.{BotDims}
+use Rattle.swarm_model.specs.Types.{BotDims, Slice, Pending, TaskRow, BotRow, PoolState}
 use Rattle.dimensions.specs.Rules.{is_empty}
 use Rattle.dimensions.specs.Matching.{matches}
-use Rattle.task_props.specs.declared.slice.Slice.{Slice}
-use Rattle.swarm_model.specs.declared.task_state.TaskState.TheVariants.{Pending}
-use Rattle.swarm_model.specs.declared.task_row.TaskRow.{TaskRow}
-use Rattle.swarm_model.specs.declared.bot_row.BotRow.{BotRow}
-use Rattle.swarm_model.specs.declared.pool_state.PoolState.{PoolState}
 use Rattle.swarm_model.specs.Finding.{has_state}
 
 -- a bot that may take work, now or once it is done with what it runs

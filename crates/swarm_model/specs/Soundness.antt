@@ -4,18 +4,9 @@ use Rattle.std.specs.List.{All, count_by}
 use Rattle.std.specs.Option.{option_map, option_and_then}
 use Rattle.blob_rows.specs.Extents.{AreApart}
 use Rattle.blob_rows.specs.BlobRows.{units_of, has_digest, is_blob, extent_of_row}
-use Rattle.blob_rows.specs.declared.blob_row.BlobRow.{BlobRow}
+use Rattle.swarm_model.specs.Types.{BlobRow, Slice, PoolSettings, Pending, Running, Attempt, Retried, TaskRow, BotRow, PoolState, Entry}
 use Rattle.dimensions.specs.Rules.{is_empty}
 use Rattle.task_props.specs.Checked.{is_checked}
-use Rattle.task_props.specs.declared.slice.Slice.{Slice}
-use Rattle.swarm_model.specs.declared.pool_settings.PoolSettings.{PoolSettings}
-use Rattle.swarm_model.specs.declared.task_state.TaskState.TheVariants.{Pending, Running}
-use Rattle.swarm_model.specs.declared.attempt.Attempt.{Attempt}
-use Rattle.swarm_model.specs.declared.retried.Retried.{Retried}
-use Rattle.swarm_model.specs.declared.task_row.TaskRow.{TaskRow}
-use Rattle.swarm_model.specs.declared.bot_row.BotRow.{BotRow}
-use Rattle.swarm_model.specs.declared.pool_state.PoolState.{PoolState}
-use Rattle.swarm_model.specs.declared.entry.Entry.{Entry}
 use Rattle.swarm_model.specs.declared.request.Request.TheVariants as ask
 use Rattle.swarm_model.specs.Numbers.{AreNumbered}
 use Rattle.swarm_model.specs.Fits.{fits}

@@ -3,12 +3,7 @@ use Rattle.std.specs.Prelude.{ℕ, Bool, false, ◌&&◌, ◌||◌, not, List}
 use Rattle.std.specs.List.{list_any}
 use Rattle.std.specs.Option.{option_map_or}
 use Rattle.dimensions.specs.Alike.{same}
-use Rattle.task_props.specs.declared.file.File.{File}
-use Rattle.task_props.specs.declared.slice.Slice.{Slice}
-use Rattle.swarm_model.specs.declared.attempt.Attempt.{Attempt}
-use Rattle.swarm_model.specs.declared.attempt.Chunk.{Chunk}
-use Rattle.swarm_model.specs.declared.task_row.TaskRow.{TaskRow}
-use Rattle.swarm_model.specs.declared.pool_state.PoolState.{PoolState}
+use Rattle.swarm_model.specs.Types.{File, Slice, Attempt, Chunk, TaskRow, PoolState}
 use Rattle.swarm_model.specs.Finding.{is_final}
 
 abbrev pub is_file_of : List ℕ → File → Bool

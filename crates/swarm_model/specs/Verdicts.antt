@@ -3,13 +3,7 @@ use Rattle.std.specs.Prelude.{◌≡◌, ℕ, zero, suc, Bool, true, false, not,
 use Rattle.std.specs.List.{list_any, count_by, sum_by}
 use Rattle.std.specs.Option.{option_map, option_map_or, option_or, option_and_then}
 use Rattle.dimensions.specs.Choosing.{when}
-use Rattle.task_props.specs.declared.slice.Slice.{Slice}
-use Rattle.swarm_model.specs.declared.task_state.TaskState.{TaskState}
-use Rattle.swarm_model.specs.declared.task_state.TaskState.TheVariants.{Pending, Running, BotDied, Canceled, Killed}
-use Rattle.swarm_model.specs.declared.task_row.TaskRow.{TaskRow}
-use Rattle.swarm_model.specs.declared.pool_settings.PoolSettings.{PoolSettings}
-use Rattle.swarm_model.specs.declared.entry.Entry.{Entry}
-use Rattle.swarm_model.specs.declared.entry.EntryKind.{EntryKind}
+use Rattle.swarm_model.specs.Types.{Slice, TaskState, Pending, Running, BotDied, Canceled, Killed, TaskRow, PoolSettings, Entry, EntryKind}
 use Rattle.swarm_model.specs.declared.entry.EntryKind.TheVariants as kind
 use Rattle.swarm_model.specs.declared.entry.Outcome.TheVariants as outcome
 use Rattle.swarm_model.specs.Words.{◌otherwise◌}

@@ -1,14 +1,7 @@
 -- What a reader is shown of the rows.
 use Rattle.std.specs.Prelude.{ℕ, ℤ, pos, List, [], Option, Some, None}
 use Rattle.std.specs.Option.{option_map, option_map_or, option_and_then}
-use Rattle.dimensions.specs.declared.text.Text.{Text}
-use Rattle.task_props.specs.declared.file.File.{File}
-use Rattle.swarm_model.specs.declared.attempt.Attempt.{Attempt}
-use Rattle.swarm_model.specs.declared.attempt.Last.{Last}
-use Rattle.swarm_model.specs.declared.task_row.TaskRow.{TaskRow}
-use Rattle.swarm_model.specs.declared.pool_state.PoolState.{PoolState}
-use Rattle.swarm_model.specs.declared.bot_row.BotRow.{BotRow}
-use Rattle.swarm_model.specs.declared.task_view.TaskView.{TaskView}
+use Rattle.swarm_model.specs.Types.{Text, File, Attempt, Last, TaskRow, PoolState, BotRow, TaskView}
 use Rattle.swarm_model.specs.declared.bot_view.BotView.{BotView}
 use Rattle.swarm_model.specs.Finding.{task_of, bot_of}
 

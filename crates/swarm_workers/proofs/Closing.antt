@@ -3,21 +3,17 @@ use Rattle.std.proofs.Common.{◌≡◌, ℕ, zero, suc, ◌<◌, ◌≤◌, Lis
 use Rattle.std.specs.List.{All, AllByRecursion, slice_get}
 use Rattle.std.proofs.lemmas.List.Elements.{All-head, All-tail}
 use Rattle.std.proofs.lemmas.Option.{same_Some}
-use Rattle.swarm_model.specs.declared.entry.Entry.{Entry}
-use Rattle.swarm_model.specs.declared.pool_settings.PoolSettings.{PoolSettings}
+use Rattle.swarm_workers.specs.Types.{Entry, PoolSettings, Turnstile, Lasting, PoolView}
 use Rattle.swarm_model.specs.MachineState.{MachineState}
 use Rattle.swarm_model.specs.Bases.{Base, empty_base}
 use Rattle.swarm_model.specs.Effects.{opening}
 use Rattle.swarm_model.specs.History.{IsLegal}
 use Rattle.swarm_history.specs.Machines.{logs_of, start_at, starts_of, pools_of as machine_pools}
-use Rattle.turnstile.specs.declared.turnstile.Turnstile.{Turnstile}
 use Rattle.turnstile.specs.Numbers.{times}
 use Rattle.turnstile.specs.Passes.{fixed_of, opening as begun_with}
 use Rattle.shared_doors.specs.Joined.{AreClosed, IsClosed}
 use Rattle.shared_doors.specs.SharedDoors.{pools_of}
 use Rattle.shared_doors.specs.Views.{view_at}
-use Rattle.shared_doors.specs.declared.view.Lasting.{Lasting}
-use Rattle.shared_doors.specs.declared.view.PoolView.{PoolView}
 
 -- A pool's log in the end, which was empty at first: it is legal, it is all that the joined pass had seen, and its entries bear the
 -- numbers of that pass.

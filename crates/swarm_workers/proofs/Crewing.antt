@@ -7,11 +7,9 @@ use Rattle.std.proofs.lemmas.List.Elements.{All-nil, All-cons, All-head, All-tai
 use Rattle.sw_base.specs.Acceptors.{AcceptorState}
 use Rattle.sw_base.specs.Listeners.{ListenerState, Gives}
 use Rattle.sw_base.specs.Told.{Adds}
-use Rattle.swarm_model.specs.declared.pool_settings.PoolSettings.{PoolSettings}
-use Rattle.swarm_model.specs.declared.pool_settings.Settings.{Settings}
+use Rattle.swarm_workers.specs.Types.{PoolSettings, Settings, PoolView}
 use Rattle.pool_doors.specs.Doors.{DoorState, Logs}
 use Rattle.shared_doors.specs.Joined.{IsAloneView}
-use Rattle.shared_doors.specs.declared.view.PoolView.{PoolView}
 use Rattle.swarm_workers.specs.declared.worked.WorkStop.{WorkStop}
 use Rattle.swarm_workers.specs.Crews.{WorkerState, HasWorked, IsDoorTo, AreNewDoors, KnowsMade, IsJoined, IsFirst, ShutsAll, stop_of}
 use Rattle.swarm_workers.specs.Shared.{ServesShared}

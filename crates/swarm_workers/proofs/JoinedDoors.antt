@@ -6,11 +6,9 @@ use Rattle.std.proofs.lemmas.List.Elements.{All-push}
 use Rattle.sw_base.specs.Acceptors.{AcceptorState}
 use Rattle.sw_base.specs.Listeners.{ListenerState, Shuts}
 use Rattle.sw_base.specs.Told.{Adds, IsOut}
-use Rattle.swarm_model.specs.declared.entry.Entry.{Entry}
-use Rattle.swarm_model.specs.declared.pool_settings.PoolSettings.{PoolSettings}
+use Rattle.swarm_workers.specs.Types.{Entry, PoolSettings, PoolView}
 use Rattle.pool_doors.specs.Doors.{DoorState}
 use Rattle.turnstile.specs.Numbers.{times, own}
-use Rattle.shared_doors.specs.declared.view.PoolView.{PoolView}
 use Rattle.shared_doors.specs.Joined.{by, Joins}
 use Rattle.shared_doors.specs.SharedDoors.{shared_door}
 use Rattle.shared_doors.specs.Views.{nothing, view_at}

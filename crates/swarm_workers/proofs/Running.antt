@@ -2,13 +2,11 @@
 use Rattle.std.proofs.Common.{◌≡◌, ℕ, suc, ◌+◌, ◌<◌, List, [], ◌∷◌, ◌++◌, length, map, filter, Option, refl, sym, ap, ◌∙◌, arith, subst}
 use Rattle.std.specs.List.{All, AllZip, AllByRecursion, flat_map}
 use Rattle.std.proofs.lemmas.List.Elements.{All-head, All-tail}
-use Rattle.swarm_model.specs.declared.entry.Entry.{Entry}
-use Rattle.swarm_model.specs.declared.pool_settings.Settings.{Settings}
+use Rattle.swarm_workers.specs.Types.{Entry, Settings, PoolView}
 use Rattle.pool_doors.specs.Doors.{DoorState, Writer, Logs}
 use Rattle.swarm_http.specs.Exchange.{entries_of, has_pass}
 use Rattle.turnstile.specs.Numbers.{times, own}
 use Rattle.shared_doors.specs.Joined.{by, IsAloneView}
-use Rattle.shared_doors.specs.declared.view.PoolView.{PoolView}
 use Rattle.swarm_workers.specs.Crews.{WorkerState, HasWorked, IsNewDoor, IsDoorTo, AreNewDoors, KnowsMade, IsJoined, IsFirst}
 use Rattle.swarm_workers.specs.Shared.{IsRun, AreRuns, exchanges}
 use Rattle.swarm_workers.proofs.Gaining.{sessions_once, gained_all}

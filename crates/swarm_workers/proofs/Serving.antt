@@ -6,12 +6,9 @@ use Rattle.std.proofs.lemmas.Bool.{cases_lt}
 use Rattle.std.proofs.lemmas.List.Elements.{All-nil, All-same, All-map, All-weaker, All-from_recursion}
 use Rattle.sw_base.specs.Acceptors.{AcceptorState}
 use Rattle.sw_base.specs.Listeners.{ListenerState, Gives, IsGiven, IsShare}
-use Rattle.swarm_model.specs.declared.entry.Entry.{Entry}
-use Rattle.swarm_model.specs.declared.pool_settings.PoolSettings.{PoolSettings}
-use Rattle.swarm_model.specs.declared.pool_settings.Settings.{Settings}
+use Rattle.swarm_workers.specs.Types.{Entry, PoolSettings, Settings, PoolView}
 use Rattle.pool_doors.specs.Doors.{Logs}
 use Rattle.turnstile.specs.Numbers.{times}
-use Rattle.shared_doors.specs.declared.view.PoolView.{PoolView}
 use Rattle.swarm_workers.specs.declared.worked.WorkStop.{WorkStop}
 use Rattle.swarm_workers.specs.Crews.{WorkerState, HasWorked, AreNewDoors, IsJoined, ShutsAll, stop_of}
 use Rattle.swarm_workers.specs.Shared.{ServesShared}

@@ -5,9 +5,8 @@ use Rattle.std.proofs.lemmas.List.{length-map, map-append}
 use Rattle.sw_base.specs.Link.{LinkState}
 use Rattle.sw_base.specs.Told.{Loses, Gains}
 use Rattle.sw_base.specs.Acceptors.{AcceptorState}
-use Rattle.swarm_model.specs.declared.pool_settings.Settings.{Settings}
+use Rattle.swarm_workers.specs.Types.{Settings, Ended}
 use Rattle.pool_doors.specs.Doors.{DoorState}
-use Rattle.swarm_http.specs.declared.ended.Ended.{Ended}
 use Rattle.swarm_http.specs.declared.ended.Ended.TheVariants as ended
 use Rattle.swarm_http.specs.Answered.{ConnectionState, IsAnswered, KeepsDoor}
 use Rattle.swarm_workers.specs.declared.worked.Worked.{Worked}

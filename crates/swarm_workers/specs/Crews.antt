@@ -3,14 +3,12 @@ use Rattle.std.specs.Prelude.{◌≡◌, ℕ, ◌+◌, ◌*◌, ◌<◌, false, 
 use Rattle.std.specs.List.{All, flat_map}
 use Rattle.sw_base.specs.Acceptors.{AcceptorState}
 use Rattle.sw_base.specs.Listeners.{ListenerState, Shuts}
-use Rattle.swarm_model.specs.declared.entry.Entry.{Entry}
-use Rattle.swarm_model.specs.declared.pool_settings.Settings.{Settings}
+use Rattle.swarm_workers.specs.Types.{Entry, Settings, PoolView}
 use Rattle.swarm_model.specs.Bases.{empty_base}
 use Rattle.pool_doors.specs.Doors.{DoorState}
 use Rattle.swarm_http.specs.Answered.{KeepsDoor}
 use Rattle.turnstile.specs.Numbers.{times, own}
 use Rattle.shared_doors.specs.Joined.{by}
-use Rattle.shared_doors.specs.declared.view.PoolView.{PoolView}
 use Rattle.swarm_workers.specs.declared.worked.Worked.{Worked}
 use Rattle.swarm_workers.specs.declared.worked.WorkStop.{WorkStop}
 use Rattle.swarm_workers.specs.declared.worked.WorkStop.TheVariants as stop

@@ -1,3 +1,4 @@
+pub mod Types
 pub mod Visits
 pub mod Works
 pub mod Splits

@@ -3,9 +3,7 @@ use Rattle.std.specs.Prelude.{◌≡◌, ◌<◌, ℕ, ◌+◌, List, [], ◌∷
 use Rattle.std.specs.List.{All, flat_map}
 use Rattle.sw_base.specs.Acceptors.{AcceptorState}
 use Rattle.sw_base.specs.Listeners.{ListenerState, Gives}
-use Rattle.swarm_model.specs.declared.entry.Entry.{Entry}
-use Rattle.swarm_model.specs.declared.pool_settings.PoolSettings.{PoolSettings}
-use Rattle.swarm_model.specs.declared.pool_settings.Settings.{Settings}
+use Rattle.swarm_workers.specs.Types.{Entry, PoolSettings, Settings}
 use Rattle.swarm_model.specs.Effects.{opening}
 use Rattle.swarm_model.specs.History.{IsLegal}
 use Rattle.pool_doors.specs.Doors.{DoorState, Logs}

@@ -1,10 +1,6 @@
 -- Passes for workers, as they are split.
 use Rattle.std.specs.Prelude.{◌≡◌, ◌<◌, ℕ, ◌+◌, List, [], ◌∷◌, length, Option, ⊤}
-use Rattle.swarm_model.specs.declared.entry.Entry.{Entry}
-use Rattle.turnstile.specs.declared.pass.Pass.{Pass}
-use Rattle.turnstile.specs.declared.turnstile.Turnstile.{Turnstile}
-use Rattle.shared_doors.specs.declared.view.Lasting.{Lasting}
-use Rattle.shared_doors.specs.declared.view.PoolView.{PoolView}
+use Rattle.swarm_workers.specs.Types.{Entry, Pass, Turnstile, Lasting, PoolView}
 use Rattle.shared_doors.specs.Views.{AreOf, view_at, views}
 
 -- a pass of this number alone, which has seen nothing and took no turn

@@ -5,9 +5,8 @@ use Rattle.sw_base.specs.Faults.{Rose}
 use Rattle.sw_base.specs.Link.{LinkState}
 use Rattle.sw_base.specs.Told.{Loses, Gains, IsNoMore}
 use Rattle.sw_base.specs.Acceptors.{AcceptorState, IsFresh}
-use Rattle.swarm_model.specs.declared.pool_settings.Settings.{Settings}
+use Rattle.swarm_workers.specs.Types.{Settings, Ended}
 use Rattle.pool_doors.specs.Doors.{DoorState}
-use Rattle.swarm_http.specs.declared.ended.Ended.{Ended}
 use Rattle.swarm_http.specs.declared.ended.Ended.TheVariants as ended
 use Rattle.swarm_http.specs.Answered.{IsAnswered, KeepsDoor}
 use Rattle.swarm_workers.specs.declared.worked.Worked.{Worked}

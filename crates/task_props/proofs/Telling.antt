@@ -11,9 +11,7 @@ use Rattle.hex.specs.Hex.{IsBytes, decode_of, encode_lower}
 use Rattle.hex.proofs.HexLemmas.{decode_of-encode_lower}
 use Rattle.serde_json.specs.Data.{string}
 use Rattle.serde_json.specs.Written.{outline}
-use Rattle.task_props.specs.declared.cache.Cache.{Cache}
-use Rattle.task_props.specs.declared.file.File.{File}
-use Rattle.task_props.specs.declared.properties.Properties.{Properties}
+use Rattle.task_props.specs.Types.{Cache, File, Properties}
 use Rattle.task_props.specs.Canonical.{pair_data, cache_data, input_data, canonical_data, canonical, HasByteDigests, HasWords, CanonicalTells}
 use Rattle.task_props.specs.Shown.{later_members, properties_with}
 use Rattle.task_props.proofs.Outlines.{text_tells, list_tells, list_has_numbers, list_depth}

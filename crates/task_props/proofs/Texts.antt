@@ -6,8 +6,7 @@ use Rattle.std.proofs.lemmas.Bool.{and_parts, ltb-true}
 use Rattle.std.proofs.lemmas.List.Elements.{All-weaker}
 use Rattle.std.proofs.lemmas.List.Sums.{AllPass-from_list_all}
 use Rattle.dimensions.specs.Choosing.{when}
-use Rattle.task_props.specs.declared.file.File.{File}
-use Rattle.task_props.specs.declared.properties.Properties.{Properties}
+use Rattle.task_props.specs.Types.{File, Properties}
 use Rattle.task_props.specs.Canonical.{canonical, HasByteDigests, HasWords}
 use Rattle.task_props.proofs.Telling.{canonical_tells}
 use Rattle.task_props.specs.declared.prop_rule.PropRule.TheVariants as prop_rule

@@ -3,11 +3,7 @@ use Rattle.std.specs.Prelude.{Bool, ◌&&◌, ◌==◌}
 use Rattle.std.specs.Bool.{beq}
 use Rattle.std.specs.Cmp.Lexicographic.{pointwise}
 use Rattle.dimensions.specs.Alike.{same, same_pair}
-use Rattle.task_props.specs.declared.cache.Cache.{Cache}
-use Rattle.task_props.specs.declared.file.File.{File}
-use Rattle.task_props.specs.declared.properties.Properties.{Properties}
-use Rattle.task_props.specs.declared.new_task.NewTask.{NewTask}
-use Rattle.task_props.specs.declared.slice.Slice.{Slice}
+use Rattle.task_props.specs.Types.{Cache, File, Properties, NewTask, Slice}
 
 infixr 3 ◌also◌
 -- both, in a row of many

@@ -7,9 +7,7 @@ use Rattle.serde_json.specs.View.{items_of}
 use Rattle.serde_json.specs.Written.{compact_text}
 use Rattle.json_values.specs.Values.{whole, list_data}
 use Rattle.sha2.specs.Sha256.{sha256}
-use Rattle.task_props.specs.declared.cache.Cache.{Cache}
-use Rattle.task_props.specs.declared.file.File.{File}
-use Rattle.task_props.specs.declared.properties.Properties.{Properties}
+use Rattle.task_props.specs.Types.{Cache, File, Properties}
 use Rattle.task_props.specs.Shown.{properties_with, HasWordTimes}
 
 -- [key, value]

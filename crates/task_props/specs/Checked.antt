@@ -1,14 +1,9 @@
 -- Which tasks have been checked.
 use Rattle.std.specs.Prelude.{pos, Bool, not, ◌&&◌, nat_le, List, length, is_none}
 use Rattle.std.specs.List.{list_all}
-use Rattle.dimensions.specs.declared.text.Text.{Text}
+use Rattle.task_props.specs.Types.{Text, Cache, File, Properties, Slice, NewTask}
 use Rattle.dimensions.specs.Order.{is_rising_by, is_text_below}
 use Rattle.dimensions.specs.Rules.{are_checked}
-use Rattle.task_props.specs.declared.cache.Cache.{Cache}
-use Rattle.task_props.specs.declared.file.File.{File}
-use Rattle.task_props.specs.declared.properties.Properties.{Properties}
-use Rattle.task_props.specs.declared.slice.Slice.{Slice}
-use Rattle.task_props.specs.declared.new_task.NewTask.{NewTask}
 use Rattle.task_props.specs.FieldRules.{name_rule, priority_rule, tolerance_rule, uuid_rule, expiration_rule, timeout_rule, grace_rule, count_rule, broken_command}
 use Rattle.task_props.specs.Sorted.{is_pair, is_key_below, is_cache, is_name_below, is_file, is_path_below, is_path, has_path_twice}
 use Rattle.task_props.specs.Slices.{pool_of_slices, slices_rule}

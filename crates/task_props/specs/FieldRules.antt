@@ -4,14 +4,12 @@ use Rattle.std.specs.Ordering.{int_eq}
 use Rattle.std.specs.List.{list_any, list_all}
 use Rattle.std.specs.Option.{option_map}
 use Rattle.std.specs.Char.{is_ascii_control, is_ascii_alphanumeric}
-use Rattle.dimensions.specs.declared.text.Text.{Text}
+use Rattle.task_props.specs.Types.{Text, PropRule, SliceField}
 use Rattle.dimensions.specs.declared.dim_fault.DimRule.{DimRule}
 use Rattle.dimensions.specs.declared.dim_fault.DimRule.TheVariants as dim_rule
 use Rattle.dimensions.specs.Choosing.{when, ◌or_else◌}
 use Rattle.dimensions.specs.Rules.{first_broken}
-use Rattle.task_props.specs.declared.prop_rule.PropRule.{PropRule}
 use Rattle.task_props.specs.declared.prop_rule.PropRule.TheVariants as prop_rule
-use Rattle.task_props.specs.declared.task_field.SliceField.{SliceField}
 use Rattle.task_props.specs.declared.task_field.SliceField.TheVariants as slice_field
 use Rattle.task_props.specs.Digests.{digest_in}
 

@@ -3,14 +3,11 @@ use Rattle.std.specs.Prelude.{ℕ, Bool, not, ◌||◌, ◌==◌, nat_lt, List, 
 use Rattle.std.specs.List.{list_any, list_all}
 use Rattle.std.specs.Option.{option_map}
 use Rattle.std.specs.Char.{is_ascii_alphanumeric, is_ascii_lowercase, is_ascii_digit}
-use Rattle.dimensions.specs.declared.text.Text.{Text}
+use Rattle.task_props.specs.Types.{Text, Cache, PropRule, SliceField}
 use Rattle.dimensions.specs.Alike.{same}
 use Rattle.dimensions.specs.Choosing.{when, ◌or_else◌}
 use Rattle.dimensions.specs.Rules.{has_length_to, begins_with_digit}
-use Rattle.task_props.specs.declared.cache.Cache.{Cache}
-use Rattle.task_props.specs.declared.prop_rule.PropRule.{PropRule}
 use Rattle.task_props.specs.declared.prop_rule.PropRule.TheVariants as prop_rule
-use Rattle.task_props.specs.declared.task_field.SliceField.{SliceField}
 use Rattle.task_props.specs.declared.task_field.SliceField.TheVariants as slice_field
 use Rattle.task_props.specs.FieldRules.{is_nul, broken_at}
 use Rattle.task_props.specs.Paths.{path_rule}

@@ -1,3 +1,4 @@
+pub mod Types
 pub mod Alike
 pub mod Canonical
 pub mod Checked

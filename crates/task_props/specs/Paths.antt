@@ -2,12 +2,10 @@
 use Rattle.std.specs.Prelude.{ℕ, Bool, not, ◌||◌, ◌==◌, List, Option, codes}
 use Rattle.std.specs.List.{list_any, slice_split}
 use Rattle.std.specs.Char.{is_ascii_control}
-use Rattle.dimensions.specs.declared.text.Text.{Text}
+use Rattle.task_props.specs.Types.{Text, PropRule, Count, Grammar}
 use Rattle.dimensions.specs.Alike.{same}
 use Rattle.dimensions.specs.Choosing.{when, ◌or_else◌}
 use Rattle.dimensions.specs.Rules.{has_length_to}
-use Rattle.task_props.specs.declared.prop_rule.PropRule.{PropRule}
-use Rattle.task_props.specs.declared.prop_rule.PropRule.TheVariants.{Count, Grammar}
 
 abbrev pub is_slash : ℕ → Bool
 is_slash byte = byte == 47

@@ -1,7 +1,6 @@
 -- The names of the rules, as answers show them.
 use Rattle.std.specs.Prelude.{ℕ, List, codes}
-use Rattle.task_props.specs.declared.prop_rule.PropRule.{PropRule}
-use Rattle.task_props.specs.declared.prop_rule.PropRule.TheVariants.{Missing, WrongType, Unknown, Count, Grammar, Range, Repeated, Alternative, Pool, Id}
+use Rattle.task_props.specs.Types.{PropRule, Missing, WrongType, Unknown, Count, Grammar, Range, Repeated, Alternative, Pool, Id}
 
 abbrev pub rule_name : PropRule → List ℕ
 rule_name Missing = codes "missing"

@@ -4,10 +4,8 @@ use Rattle.std.specs.List.{list_any}
 use Rattle.std.specs.Cmp.Lexicographic.{slice_cmp}
 use Rattle.std.specs.Ordering.{nat_cmp, ordering_then, is_lt}
 use Rattle.std.specs.declared.cmp.Ordering.{Ordering}
-use Rattle.dimensions.specs.declared.text.Text.{Text}
+use Rattle.task_props.specs.Types.{Text, Cache, File}
 use Rattle.dimensions.specs.Order.{text_cmp, is_text_below}
-use Rattle.task_props.specs.declared.cache.Cache.{Cache}
-use Rattle.task_props.specs.declared.file.File.{File}
 use Rattle.task_props.specs.Digests.{is_digest}
 use Rattle.task_props.specs.ItemRules.{env_key_rule, env_value_rule, cache_name_rule, has_path}
 use Rattle.task_props.specs.Paths.{path_rule}

@@ -6,8 +6,7 @@ use Rattle.std.specs.Str.{IsUtf8}
 use Rattle.std.proofs.lemmas.Bool.{and_from, eq-eqb}
 use Rattle.serde_json.specs.Data.{Data, string, object}
 use Rattle.json_values.specs.Values.{or_null, list_data}
-use Rattle.swarm_model.specs.declared.task_view.TaskView.{TaskView}
-use Rattle.swarm_model.specs.declared.bot_view.BotView.{BotView}
+use Rattle.wire_laws.specs.Types.{TaskView, BotView}
 use Rattle.swarm_model.specs.declared.reply.Reply.TheVariants as reply
 use Rattle.routes.specs.declared.route.Route.TheVariants as route
 use Rattle.json_fields.specs.Fields.{present, optional_number_in, list_in, unknown_key, object_item}

@@ -7,10 +7,9 @@ use Rattle.serde_json.specs.Data.{Data, object, Members, no_members, member, put
 use Rattle.serde_json.specs.Find.{get_member}
 use Rattle.refusal_codes.specs.declared.refusal_code.RefusalCode.TheVariants as code
 use Rattle.refusal_codes.proofs.CodeLemmas.{name_is_read}
-use Rattle.swarm_model.specs.declared.rule.Rule.{Rule}
+use Rattle.wire_laws.specs.Types.{Rule, Route}
 use Rattle.swarm_model.specs.declared.rule.Rule.TheVariants as rule
 use Rattle.swarm_model.specs.declared.reply.Reply.TheVariants as reply
-use Rattle.routes.specs.declared.route.Route.{Route}
 use Rattle.json_fields.specs.Fields.{present, required_text_in}
 use Rattle.reply_bodies.specs.Refusals.{code_of, told_members, refusal_members}
 use Rattle.reply_bodies.specs.Bodies.{body_of}

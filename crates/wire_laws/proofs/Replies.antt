@@ -1,8 +1,7 @@
 -- Each reply to a call is told.
 use Rattle.std.proofs.Common.{◌≡◌, ℕ, List, sym, subst}
-use Rattle.swarm_model.specs.declared.reply.Reply.{Reply}
+use Rattle.wire_laws.specs.Types.{Reply, Route}
 use Rattle.swarm_model.specs.declared.reply.Reply.TheVariants as reply
-use Rattle.routes.specs.declared.route.Route.{Route}
 use Rattle.routes.specs.declared.route.Route.TheVariants as route
 use Rattle.wire_laws.specs.Told.{IsTold, RepliesAreTold}
 use Rattle.wire_laws.proofs.SimpleReplies.{canceled_is_told, updated_is_told, put_is_told, noted_is_told, terminating_is_told, shaken_is_told, count_is_told, sleep_is_told, claim_hint_is_told, terminate_is_told, skip_is_told}

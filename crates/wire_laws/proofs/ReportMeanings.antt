@@ -5,10 +5,8 @@ use Rattle.std.specs.Str.{IsUtf8}
 use Rattle.base64.specs.Engines.{standard}
 use Rattle.base64.specs.GeneralPurpose.{encode_of}
 use Rattle.json_values.specs.Values.{signed}
-use Rattle.task_props.specs.declared.file.File.{File}
-use Rattle.task_props.specs.declared.prop_rule.PropRule.{PropRule}
+use Rattle.wire_laws.specs.Types.{File, PropRule, Last, End, Hands}
 use Rattle.task_props.specs.Paths.{path_rule}
-use Rattle.swarm_model.specs.declared.attempt.Last.{Last}
 use Rattle.swarm_model.specs.declared.pool_settings.PoolSettings.{PoolSettings}
 use Rattle.swarm_model.specs.declared.request.Request.TheVariants as ask
 use Rattle.swarm_model.specs.Fits.{is_name}
@@ -17,8 +15,6 @@ use Rattle.json_fields.specs.Fields.{present, some_number_of, text_in, required_
 use Rattle.json_fields.specs.Checks.{checked_item, checked_items}
 use Rattle.json_fields.specs.Ids.{shown_number, run_id}
 use Rattle.line_parts.specs.Finding.{IsInt}
-use Rattle.bot_core.specs.declared.action.End.{End}
-use Rattle.bot_requests.specs.declared.hands.Hands.{Hands}
 use Rattle.bot_requests.specs.Bodies.{file_data, output_members, report_data, last_report_data, update_data}
 use Rattle.bot_bodies.specs.declared.outputs.Output.{Output}
 use Rattle.bot_bodies.specs.declared.reports.Report.{Report}

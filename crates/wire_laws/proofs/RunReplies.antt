@@ -5,9 +5,7 @@ use Rattle.std.specs.Str.{IsUtf8}
 use Rattle.std.proofs.lemmas.Bool.{and_from}
 use Rattle.json.proofs.Printed.Utf8.{IsUtf8-are_ascii}
 use Rattle.serde_json.specs.Data.{Data, string, object}
-use Rattle.task_props.specs.declared.cache.Cache.{Cache}
-use Rattle.task_props.specs.declared.file.File.{File}
-use Rattle.task_props.specs.declared.properties.Properties.{Properties}
+use Rattle.wire_laws.specs.Types.{Cache, File, Properties}
 use Rattle.task_props.specs.Shown.{properties_with, later_members}
 use Rattle.task_bodies.specs.SliceProperties.{pair_in, cache_in, input_in, lists_in, grace_at, times_in, properties_in as raw_properties_in, properties_at}
 use Rattle.swarm_model.specs.declared.reply.Reply.TheVariants as reply

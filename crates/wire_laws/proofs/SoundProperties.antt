@@ -20,18 +20,14 @@ use Rattle.dimensions.proofs.Choosing.{none-when, none-both}
 use Rattle.dimensions.proofs.Counting.{count-cons, count-none, any-before, count-map}
 use Rattle.dimensions.proofs.Sorting.{sorted_by-rising}
 use Rattle.dimensions.proofs.Tests.{and-first, and-other, and-both, or-first, or-other, or-both, not-true}
-use Rattle.task_props.specs.declared.cache.Cache.{Cache}
-use Rattle.task_props.specs.declared.file.File.{File}
-use Rattle.task_props.specs.declared.prop_rule.PropRule.{PropRule}
+use Rattle.wire_laws.specs.Types.{Cache, File, PropRule, Properties, RawFile}
 use Rattle.task_props.specs.declared.prop_rule.PropRule.TheVariants as prop_rule
-use Rattle.task_props.specs.declared.properties.Properties.{Properties}
 use Rattle.task_props.specs.declared.task_field.SliceField.{SliceField}
 use Rattle.task_props.specs.Checked.{is_env, are_caches, are_outputs, are_inputs, has_lists, has_times, are_sound}
 use Rattle.task_props.specs.Digests.{is_byte, is_digest, digest_in}
 use Rattle.task_props.specs.FieldRules.{broken_command, timeout_rule, grace_rule, digest_rule, size_rule}
 use Rattle.task_props.specs.ItemRules.{most_rule, first_broken_item, env_key_rule, broken_pair, broken_env, cache_name_rule, has_path, broken_cache, broken_caches, broken_output, broken_outputs}
 use Rattle.task_props.specs.Sorted.{is_pair, is_key_below, is_path, is_cache, has_path_twice, is_name_below, is_cache_below, is_file, is_path_below, is_file_below}
-use Rattle.task_checks.specs.declared.raw_task.RawFile.{RawFile}
 use Rattle.task_checks.specs.Broken.{broken_slice, broken_slices, first_broken_task}
 use Rattle.task_checks.specs.Inputs.{broken_input, broken_inputs}
 use Rattle.task_checks.specs.Reading.{file_of, properties_of}

@@ -5,9 +5,7 @@ use Rattle.std.specs.Str.{IsUtf8}
 use Rattle.std.proofs.lemmas.Bool.{and_from}
 use Rattle.serde_json.specs.Data.{Data, string, object}
 use Rattle.json_values.specs.Values.{whole, signed, or_null}
-use Rattle.task_props.specs.declared.file.File.{File}
-use Rattle.swarm_model.specs.declared.task_state.TaskState.{TaskState}
-use Rattle.swarm_model.specs.declared.task_view.TaskView.{TaskView}
+use Rattle.wire_laws.specs.Types.{File, TaskState, TaskView}
 use Rattle.swarm_model.specs.declared.reply.Reply.TheVariants as reply
 use Rattle.routes.specs.declared.route.Route.TheVariants as route
 use Rattle.json_fields.specs.Fields.{present, required_text_in, optional_number_in, list_in, unknown_key, object_item}

@@ -5,7 +5,7 @@ use Rattle.json.proofs.Printed.Utf8.{are_ascii, IsUtf8-are_ascii}
 use Rattle.refusal_codes.specs.declared.refusal_code.RefusalCode.{RefusalCode}
 use Rattle.refusal_codes.specs.declared.refusal_code.RefusalCode.TheVariants as code
 use Rattle.refusal_codes.specs.Codes.{code_name, code_status}
-use Rattle.task_props.specs.declared.prop_rule.PropRule.{PropRule}
+use Rattle.wire_laws.specs.Types.{PropRule, TaskState}
 use Rattle.task_props.specs.declared.prop_rule.PropRule.TheVariants as prop_rule
 use Rattle.task_props.specs.RuleNames.{rule_name}
 use Rattle.swarm_model.specs.declared.rule.Unfit.{Unfit}
@@ -13,7 +13,6 @@ use Rattle.swarm_model.specs.declared.rule.Unfit.TheVariants as unfit
 use Rattle.swarm_model.specs.declared.permission.Permission.{Permission}
 use Rattle.swarm_model.specs.declared.permission.Permission.TheVariants as permission
 use Rattle.swarm_model.specs.Permissions.{permission_name}
-use Rattle.swarm_model.specs.declared.task_state.TaskState.{TaskState}
 use Rattle.swarm_model.specs.declared.task_state.TaskState.TheVariants as state
 use Rattle.swarm_model.specs.States.{state_name}
 use Rattle.reply_bodies.specs.Refusals.{unfit_name}

@@ -4,18 +4,11 @@ use Rattle.std.specs.List.{All}
 use Rattle.std.specs.Str.{IsUtf8}
 use Rattle.base64.specs.GeneralPurpose.{IsBytes}
 use Rattle.hex.specs.Hex.{encode_lower}
-use Rattle.task_props.specs.declared.cache.Cache.{Cache}
-use Rattle.task_props.specs.declared.file.File.{File}
-use Rattle.task_props.specs.declared.properties.Properties.{Properties}
+use Rattle.wire_laws.specs.Types.{Cache, File, Properties, RawFile, Rule, TaskView, BotView, Reply}
 use Rattle.task_props.specs.Checked.{are_sound}
 use Rattle.task_props.specs.Shown.{HasWordTimes}
-use Rattle.task_checks.specs.declared.raw_task.RawFile.{RawFile}
 use Rattle.task_checks.specs.declared.raw_task.RawProperties.{RawProperties}
-use Rattle.swarm_model.specs.declared.rule.Rule.{Rule}
 use Rattle.swarm_model.specs.declared.rule.Rule.TheVariants as rule
-use Rattle.swarm_model.specs.declared.task_view.TaskView.{TaskView}
-use Rattle.swarm_model.specs.declared.bot_view.BotView.{BotView}
-use Rattle.swarm_model.specs.declared.reply.Reply.{Reply}
 use Rattle.swarm_model.specs.declared.reply.Reply.TheVariants as reply
 use Rattle.line_parts.specs.Finding.{IsInt, IsDigest}
 use Rattle.line_parts.specs.Parts.{IsWord}

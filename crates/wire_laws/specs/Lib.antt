@@ -1,3 +1,4 @@
+pub mod Types
 pub mod Fitting
 pub mod Told
 pub mod Meant

@@ -10,26 +10,20 @@ use Rattle.serde_json.specs.Written.{compact_text}
 use Rattle.dimensions.specs.BotRules.{first_bot_broken, pool_of_bot}
 use Rattle.dimensions.specs.Matching.{is_of_key}
 use Rattle.dimensions.specs.Order.{sorted_bot}
-use Rattle.task_props.specs.declared.file.File.{File}
+use Rattle.wire_laws.specs.Types.{File, Last, Route, Call, Blob, End, BotState, Hands}
 use Rattle.task_props.specs.Sorted.{is_path}
-use Rattle.swarm_model.specs.declared.attempt.Last.{Last}
 use Rattle.swarm_model.specs.declared.pool_settings.Settings.{Settings}
 use Rattle.swarm_model.specs.declared.request.Request.{Request}
 use Rattle.swarm_model.specs.declared.request.Request.TheVariants as ask
 use Rattle.swarm_model.specs.Fits.{is_name}
-use Rattle.routes.specs.declared.route.Route.{Route}
 use Rattle.routes.specs.declared.route.Route.TheVariants as route
-use Rattle.routes.specs.declared.resource.Resource.TheVariants.{Call, Blob}
 use Rattle.routes.specs.Routes.{is_part, is_question_mark, pool_part, digest_part, resource_of}
 use Rattle.json_fields.specs.Ids.{run_id}
 use Rattle.bot_core.specs.declared.action.Action.{Action}
 use Rattle.bot_core.specs.declared.action.Action.TheVariants as action
-use Rattle.bot_core.specs.declared.action.End.{End}
-use Rattle.bot_core.specs.declared.bot_state.BotState.{BotState}
 use Rattle.bot_core.specs.Bounds.{Bounds}
 use Rattle.bot_core.specs.Table.{action_of}
 use Rattle.bot_dimensions.specs.Groups.{groups_of, groups_with_bot}
-use Rattle.bot_requests.specs.declared.hands.Hands.{Hands}
 use Rattle.bot_requests.specs.Dimensions.{caches_group}
 use Rattle.bot_requests.specs.Requests.{blob_path}
 use Rattle.bot_requests.specs.Bodies.{session_name, claim_name, handshake_data, poll_data, claim_data, update_data}

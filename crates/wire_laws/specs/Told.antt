@@ -2,10 +2,8 @@
 use Rattle.std.specs.Prelude.{◌≡◌, ℕ, ◌||◌, ⊤, Bool, true, false, List, [], ◌∷◌, length, Some, is_some, if◌then◌else◌}
 use Rattle.std.specs.List.{list_any}
 use Rattle.sha2.specs.Sha256.{sha256}
-use Rattle.swarm_model.specs.declared.bot_view.BotView.{BotView}
-use Rattle.swarm_model.specs.declared.reply.Reply.{Reply}
+use Rattle.wire_laws.specs.Types.{BotView, Reply, Route}
 use Rattle.swarm_model.specs.declared.reply.Reply.TheVariants as reply
-use Rattle.routes.specs.declared.route.Route.{Route}
 use Rattle.routes.specs.declared.route.Route.TheVariants as route
 use Rattle.reply_bodies.specs.Refusals.{code_of}
 use Rattle.reply_bodies.specs.Bodies.{status_of, body_of, joined, first_piece}

@@ -1,9 +1,7 @@
 -- The last pools are closed.
 use Rattle.std.proofs.Common.{◌≡◌, ◌≤◌, ◌+◌, ◌++◌, List, Option, length, map, reverse, vec_len, vec_capacity, IsTrue, is_some}
 use Rattle.std.specs.List.{All}
-use Rattle.swarm_model.specs.declared.entry.Entry.{Entry}
-use Rattle.turnstile.specs.declared.pass.Pass.{Pass}
-use Rattle.turnstile.specs.declared.turnstile.Turnstile.{Turnstile}
+use Rattle.shared_doors.specs.Types.{Entry, Pass, Turnstile}
 use Rattle.shared_doors.specs.declared.kept.Kept.{Kept}
 use Rattle.shared_doors.specs.declared.view.Lasting.{Lasting}
 use Rattle.shared_doors.specs.Joined.{AreClosed}

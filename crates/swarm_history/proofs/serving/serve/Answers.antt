@@ -1,7 +1,7 @@
 -- The call's point, or what stopped it.
 use Rattle.std.proofs.Common.{◌≡◌, ◌^◌, ℕ, Bool, true, false, min, max, arith, refl, sym, ap, ◌∙◌, subst, Option, None, Result, Ok, Err, IfOk, OnErr, IfErr}
 use Rattle.std.proofs.lemmas.Result.{IfOk-weaker, err_from_is_err_and}
-use Rattle.swarm_model.specs.declared.pool_state.PoolState.{PoolState}
+use Rattle.swarm_history.specs.Types.{PoolState, Answered}
 use Rattle.swarm_model.specs.declared.reply.Reply.TheVariants as reply
 use Rattle.swarm_model.specs.declared.rule.Rule.TheVariants as rule
 use Rattle.std.specs.Bool.{OnTrue}
@@ -10,7 +10,6 @@ use Rattle.swarm_model.specs.Bases.{front}
 use Rattle.swarm_model.specs.Deadlines.{due_entry}
 use Rattle.swarm_model.specs.History.{moment_of}
 use Rattle.swarm_model.specs.Points.{is_ahead, LacksRoom}
-use Rattle.pool_doors.specs.declared.door.Answered.{Answered}
 use Rattle.swarm_history.specs.Calls.{call_of}
 use Rattle.swarm_history.specs.Settling.{IsPointAlone, Responds, Settles}
 use Rattle.pool_doors.specs.Doors.{is_log_full}

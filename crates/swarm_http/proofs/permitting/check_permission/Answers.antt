@@ -1,8 +1,7 @@
 use Rattle.std.proofs.Common.{◌≡◌, Some, length, refl, sym, ◌∙◌, subst, Result}
 use Rattle.std.specs.Prelude.{slice_get}
 use Rattle.std.proofs.lemmas.Option.{slice_get_read}
-use Rattle.swarm_model.specs.declared.rule.Rule.{Rule}
-use Rattle.swarm_wire.specs.declared.asked.Asked.{Asked}
+use Rattle.swarm_http.specs.Types.{Rule, Asked}
 use Rattle.swarm_http.specs.Steps.{IsRejection}
 use Rattle.swarm_http.proofs.Pools.{is_denied}
 use Rattle.swarm_http.proofs.permitting.check_permission.Goals as goal

@@ -1,9 +1,6 @@
 -- The uses are those of the rows after the entry.
 use Rattle.std.proofs.Common.{◌≡◌, ℕ, Option, Some, None, sym, ap, ◌∙◌, subst}
-use Rattle.swarm_model.specs.declared.attempt.Chunk.{Chunk}
-use Rattle.swarm_model.specs.declared.entry.Entry.{Entry}
-use Rattle.swarm_model.specs.declared.pool_state.PoolState.{PoolState}
-use Rattle.swarm_model.specs.declared.task_row.TaskRow.{TaskRow}
+use Rattle.swarm_machine.specs.Types.{Chunk, Entry, PoolState, TaskRow}
 use Rattle.swarm_model.specs.Effects.{after}
 use Rattle.pool_index.specs.Uses.{uses_of}
 use Rattle.index_laws.specs.StateCounts.{touched_row}

@@ -1,7 +1,6 @@
 use Rattle.std.proofs.Common.{List, ◌≤◌, length, subst, take_all, arith}
 use Rattle.std.specs.List.{All}
-use Rattle.task_props.specs.declared.file.File.{File}
-use Rattle.task_props.specs.declared.slice.Slice.{Slice}
+use Rattle.swarm_machine.specs.Types.{File, Slice}
 use Rattle.pool_index.specs.Uses.{IsListed}
 use Rattle.pool_index.proofs.UseKeys.{same_then, kept_then}
 use Rattle.swarm_machine.specs.Uses.{AreInputsListed}

@@ -1,8 +1,7 @@
 -- The task that stands under the hash is the newest source, where it is young enough.
 use Rattle.std.proofs.Common.{ℕ, Option, sym, ap, ◌∙◌, subst}
 use Rattle.std.specs.Option.{option_and_then}
-use Rattle.swarm_model.specs.declared.task_row.TaskRow.{TaskRow}
-use Rattle.swarm_model.specs.declared.pool_state.PoolState.{PoolState}
+use Rattle.swarm_machine.specs.Types.{TaskRow, PoolState}
 use Rattle.swarm_model.specs.Finding.{task_of}
 use Rattle.index_laws.specs.TaskSources.{if_young}
 use Rattle.swarm_model.specs.BaseRules.{AreCreatedInOrder}

@@ -1,7 +1,6 @@
 -- The row has what no row before it has, and brings what it has itself.
 use Rattle.std.proofs.Common.{List, Option, IfSome, refl, sym, subst}
-use Rattle.swarm_model.specs.declared.deadline.Deadline.{Deadline}
-use Rattle.pool_index.specs.declared.claim_link.ClaimLink.{ClaimLink}
+use Rattle.swarm_machine.specs.Types.{Deadline, ClaimLink}
 use Rattle.pool_index.specs.Claims as claims
 use Rattle.index_laws.specs.Loads.{lost_claim_link}
 use Rattle.swarm_machine.specs.Loading.{IsEndSet}

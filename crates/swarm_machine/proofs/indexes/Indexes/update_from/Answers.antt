@@ -1,12 +1,9 @@
 -- Each index follows the entry by its law.
 use Rattle.std.proofs.Common.{◌≡◌, ℕ, Option, sym, ap, ◌∙◌, subst}
-use Rattle.pool_index.specs.declared.claim_link.ClaimLink.{ClaimLink}
-use Rattle.pool_index.specs.declared.source_link.SourceLink.{SourceLink}
-use Rattle.pool_index.specs.declared.uuid_link.UuidLink.{UuidLink}
+use Rattle.swarm_machine.specs.Types.{ClaimLink, SourceLink, UuidLink, PoolState}
 use Rattle.pool_index.specs.Claims as claims
 use Rattle.pool_index.specs.Sources.{AreWith}
 use Rattle.pool_index.specs.Uuids as uuids
-use Rattle.swarm_model.specs.declared.pool_state.PoolState.{PoolState}
 use Rattle.swarm_model.specs.Effects.{after}
 use Rattle.index_laws.specs.RowDeadlines.{put_deadline, task_deadline_of, bot_deadline_of}
 use Rattle.index_laws.specs.StateCounts.{touched_row}

@@ -3,8 +3,7 @@ use Rattle.std.proofs.Common.{◌≡◌, ℕ, Bor, ap, refl, sym, ◌∙◌, Lis
 use Rattle.std.specs.Option.{option_map}
 use Rattle.blob_rows.specs.BlobRows.{BlobRowsState}
 use Rattle.content_store.specs.StoredRows.{rows_in}
-use Rattle.swarm_model.specs.declared.attempt.Chunk.{Chunk}
-use Rattle.swarm_model.specs.declared.pool_state.PoolState.{PoolState}
+use Rattle.swarm_machine.specs.Types.{Chunk, PoolState}
 use Rattle.swarm_model.specs.Effects.{life, blobs_in, with_rows, with_blobs, after}
 use Rattle.pool_changes.specs.declared.effects.BlobEffect.{BlobEffect}
 use Rattle.pool_changes.specs.Blobs.{held_in, blob_effect, effect_of, rows_with, held_with}

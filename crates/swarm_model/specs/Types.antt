@@ -1,0 +1,31 @@
+-- The types that the modules of the crate speak of.
+pub use Rattle.blob_rows.specs.declared.blob_row.BlobRow.{BlobRow}
+pub use Rattle.blob_rows.specs.declared.filled.Filled.{Filled}
+pub use Rattle.dimensions.specs.declared.bot_dims.BotDims.{BotDims}
+pub use Rattle.dimensions.specs.declared.text.Text.{Text}
+pub use Rattle.swarm_model.specs.declared.answer.Answer.{Answer}
+pub use Rattle.swarm_model.specs.declared.attempt.Attempt.{Attempt}
+pub use Rattle.swarm_model.specs.declared.attempt.Chunk.{Chunk}
+pub use Rattle.swarm_model.specs.declared.attempt.Last.{Last}
+pub use Rattle.swarm_model.specs.declared.bot_row.BotRow.{BotRow}
+pub use Rattle.swarm_model.specs.declared.deadline.Deadline.{Deadline}
+pub use Rattle.swarm_model.specs.declared.entry.Entry.{Entry}
+pub use Rattle.swarm_model.specs.declared.entry.EntryKind.{EntryKind}
+pub use Rattle.swarm_model.specs.declared.entry.EventKind.{EventKind}
+pub use Rattle.swarm_model.specs.declared.entry.Outcome.{Outcome}
+pub use Rattle.swarm_model.specs.declared.permission.Permission.{Permission}
+pub use Rattle.swarm_model.specs.declared.pool_settings.PoolSettings.{PoolSettings}
+pub use Rattle.swarm_model.specs.declared.pool_state.PoolState.{PoolState}
+pub use Rattle.swarm_model.specs.declared.reply.Reply.{Reply}
+pub use Rattle.swarm_model.specs.declared.request.Request.{Request}
+pub use Rattle.swarm_model.specs.declared.retried.Retried.{Retried}
+pub use Rattle.swarm_model.specs.declared.reuse.Reuse.{Reuse}
+pub use Rattle.swarm_model.specs.declared.rule.Rule.{Rule}
+pub use Rattle.swarm_model.specs.declared.task_row.TaskRow.{TaskRow}
+pub use Rattle.swarm_model.specs.declared.task_state.TaskState.{TaskState}
+pub use Rattle.swarm_model.specs.declared.task_state.TaskState.TheVariants.{BotDied, Canceled, Completed, Expired, Killed, NoResource, Pending, Running, TimedOut}
+pub use Rattle.swarm_model.specs.declared.task_view.TaskView.{TaskView}
+pub use Rattle.task_props.specs.declared.file.File.{File}
+pub use Rattle.task_props.specs.declared.new_task.NewTask.{NewTask}
+pub use Rattle.task_props.specs.declared.properties.Properties.{Properties}
+pub use Rattle.task_props.specs.declared.slice.Slice.{Slice}
