@@ -10,9 +10,19 @@ use std::process::Command;
 /// which it stays itself, whatever becomes of the work folder.
 ///
 /// Behind the command it stays until its input ends, which the runner holds open, or it is killed. So
-/// the number of the group stays its own. What the environment says holds for the command alone.
+/// the number of the group stays its own.
+///
+/// What the environment says holds for the command alone. It is `env` that sets it and starts the
+/// command, since some variables are a shell's own: to set one of these to what it can't be ends a shell.
+/// To `env` a program with a `=` in its name would be a variable, so `nice` starts such a one, at the
+/// niceness that it has. What the shell itself has to remember it forgets before, so that the command
+/// doesn't see it.
 const SCRIPT: &str = "echo $$ >pid; trap : TERM; \
-     (cd work || exit; while [ \"$1\" != -- ]; do export \"$1\"; shift; done; shift; exec \"$@\") \
+     (cd work || exit; swarm_past=; \
+     for swarm_word in \"$@\"; do shift; \
+     if [ \"$swarm_word\" != -- ] || [ \"$swarm_past\" ]; then set -- \"$@\" \"$swarm_word\"; \
+     else swarm_past=1; case $1 in *=*) set -- \"$@\" \"$(command -v nice)\" -n 0;; esac; fi; done; \
+     unset swarm_word swarm_past; exec env -- \"$@\") \
      >output 2>&1 </dev/null; \
      echo $? >status || exit 1; trap \"\" TERM; read -r end";
 

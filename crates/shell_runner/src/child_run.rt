@@ -7,7 +7,7 @@ use crate::shown_output::{ShownOutput, look_of};
 use crate::signals::signal_name;
 use bot_core::Signal;
 use dimensions::Text;
-use run_folders::{await_group, path_below, read_file, signal_group};
+use run_folders::{HeldFolder, await_group, path_below, read_file, signal_group};
 use runners::Look;
 use std::io::ErrorKind;
 use std::process::{Child, Processes, Stdio};
@@ -15,10 +15,11 @@ use std::rt::{Clock, Files};
 use std::time::Duration;
 use std::{fs, io, thread};
 
-/// A run: its folder, and its child from the start to the end.
+/// A run: its folder and its work folder, and its child from the start to the end.
 #[derive(Drop)]
-pub(crate) struct ChildRun<R: Files + Processes> {
+pub(crate) struct ChildRun<'a, R: Files + Processes> {
     pub(crate) folder: String,
+    pub(crate) work: HeldFolder<'a, R>,
     // Until it was waited for.
     child: Option<Child<R::Started>>,
     output: Option<ShownOutput<R::File>>,
@@ -26,16 +27,18 @@ pub(crate) struct ChildRun<R: Files + Processes> {
     pub(crate) ended: Option<i32>,
 }
 
-impl<R: Files + Processes> ChildRun<R> {
+impl<'a, R: Files + Processes> ChildRun<'a, R> {
     /// A run without a child.
-    pub(crate) fn new(folder: String) -> ChildRun<R>
+    pub(crate) fn new(folder: String, work: HeldFolder<'a, R>) -> ChildRun<'a, R>
         ensures folder { result.folder ≡ folder }
+        ensures work { result.work ≡ work.entry }
         ensures child { result.child ≡ None }
         ensures output { result.output ≡ None }
         ensures ended { result.ended ≡ None }
     {
         ChildRun {
             folder,
+            work,
             child: None,
             output: None,
             ended: None,
@@ -43,7 +46,7 @@ impl<R: Files + Processes> ChildRun<R> {
     }
 }
 
-impl<R: Files + Processes + Clock + AllocGlobal> ChildRun<R> {
+impl<'a, R: Files + Processes + Clock + AllocGlobal> ChildRun<'a, R> {
     /// Starts the child.
     pub(crate) fn start(
         &mut self,
@@ -92,17 +95,23 @@ impl<R: Files + Processes + Clock + AllocGlobal> ChildRun<R> {
         code_left(self.written_code(rt)?, status)
     }
 
-    /// Looks whether the child has ended, and shows what comes next.
-    pub(crate) fn look(&mut self, rt: &R, into: &mut [u8]) -> io::Result<Look>
-        ensures fits { IfOk result (λ l. FitsRoom l (length into.new)) }
-        ensures same { length into.new ≡ length into.old }
-    {
+    /// Looks whether the child has ended, unless it is known.
+    fn note_end(&mut self, rt: &R) -> io::Result<()> {
         if self.ended.is_none() {
             self.ended = self.written_code(rt)?;
         }
         if self.ended.is_none() {
             self.ended = self.code_of_group(rt)?;
         }
+        Ok(())
+    }
+
+    /// Looks whether the child has ended, and shows what comes next.
+    pub(crate) fn look(&mut self, rt: &R, into: &mut [u8]) -> io::Result<Look>
+        ensures fits { IfOk result (λ l. FitsRoom l (length into.new)) }
+        ensures same { length into.new ≡ length into.old }
+    {
+        self.note_end(rt)?;
         let Some(output) = &mut self.output else {
             return Err(io::Error::from(ErrorKind::NotFound));
         };

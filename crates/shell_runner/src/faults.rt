@@ -24,6 +24,10 @@ fn is_memory(error: &io::Error) -> bool
     }
 }
 
+fn log_fault<G: Log>(log: &G, call: &str, object: &str, error: &io::Error) {
+    error!(log; "can't {call} {object}: {error}");
+}
+
 impl<'a, G: Log> Faults<'a, G> {
     pub(crate) fn new(log: &'a G) -> Self
         ensures { result.count ≡ 0 }
@@ -35,7 +39,7 @@ impl<'a, G: Log> Faults<'a, G> {
     pub(crate) fn add(&mut self, call: &str, object: &str, error: &io::Error)
         ensures { Rose self.old.count self.new.count }
     {
-        error!(self.log; "can't {call} {object}: {error}");
+        log_fault(self.log, call, object, error);
         self.count = self.count.saturating_add(1);
     }
 

@@ -7,9 +7,10 @@
 //! folder, the output of the child, the number of its process group, and its exit code. A child is
 //! started in a session of its own, so that a signal reaches all that it starts. Nothing that a task
 //! names, be it an input, an output or a cache, leads out of the work folder, and no symbolic link is
-//! followed on the way. Each call waits for a limited time only: for a process that was ended two
-//! seconds, for its group one more, and for each program of the system 300. The files of these folders are
-//! those of `run_folders`.
+//! followed on the way. The work folder and `caches` are held open: where something else stands in the
+//! place of one by now, each call fails that would use it. Each call waits for a limited time only: for a
+//! process that was ended two seconds, for its group one more, and for each program of the system 300. The
+//! files of these folders are those of `run_folders`.
 //!
 //! A cache has its size as `du -sb` tells it: the lengths of its files, and those of the folders
 //! themselves. An input takes the place of a file that a cache has at its path. Where one cache lies in
@@ -21,7 +22,7 @@
 //! proved. And some of it can't be had: that a signal is delivered, that a
 //! process ends which made a session of its own, and that the test of a path and its opening are one
 //! step, so that no process which still runs changes the path between them. The programs that are
-//! trusted are `sh`, `setsid`, `timeout`, `du` and `chmod`.
+//! trusted are `sh`, `env`, `nice`, `setsid`, `timeout`, `du` and `chmod`.
 #![tactic(auto)]
 
 mod child_command;

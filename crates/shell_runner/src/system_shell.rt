@@ -6,10 +6,7 @@ use crate::child_run::ChildRun;
 use bot_core::Signal;
 use dimensions::{Seq, Text};
 use log::{Log, info};
-use run_folders::{
-    cache_sizes, keep_caches, move_all_back, move_all_in, path_below, read_output, remove_folder,
-    write_input,
-};
+use run_folders::{HeldFolder, KeptCaches, path_below, remove_folder};
 use runners::{CachePath, Look, PreparedCache};
 use std::io::ErrorKind;
 use std::process::Processes;
@@ -24,10 +21,10 @@ use std::{fs, io};
 pub struct SystemShell<'a, R: Files + Processes, G: Log> {
     rt: &'a R,
     log: &'a G,
-    // The folder of the bot, once it was made.
-    folder: Option<String>,
+    // The folder of the bot's runs, and that of its caches, once they were made.
+    made: Option<(String, KeptCaches<'a, R>)>,
     // From `lay_out` to `clear_away`.
-    run: Option<ChildRun<R>>,
+    run: Option<ChildRun<'a, R>>,
 }
 
 impl<'a, R: Files + Processes + Clock + AllocGlobal + Clone + Drop, G: Log> SystemShell<'a, R, G> {
@@ -38,17 +35,71 @@ impl<'a, R: Files + Processes + Clock + AllocGlobal + Clone + Drop, G: Log> Syst
         SystemShell {
             rt,
             log,
-            folder: None,
+            made: None,
             run: None,
         }
     }
 
-    /// A path in the folder of the bot.
-    fn path(&self, name: &str) -> io::Result<String> {
-        match &self.folder {
-            Some(folder) => Ok(path_below(self.rt.alloc(), folder.as_str(), name)?),
+    /// What was made for the bot.
+    fn made(&self) -> io::Result<&(String, KeptCaches<'a, R>)> {
+        match &self.made {
+            Some(made) => Ok(made),
             None => Err(io::Error::from(ErrorKind::NotFound)),
         }
+    }
+
+    /// Makes the folder of a bot anew.
+    fn make(&self, bot: &str) -> io::Result<(String, KeptCaches<'a, R>)> {
+        let alloc = self.rt.alloc();
+        let folder = format!(in alloc; "swarm-bot-{bot}")?;
+        let caches = path_below(alloc, folder.as_str(), "caches")?;
+        let runs = path_below(alloc, folder.as_str(), "runs")?;
+        remove_folder(self.rt, folder.as_str())?;
+        fs::create_dir(self.rt, folder.as_str())?;
+        let caches = KeptCaches::make(self.rt, caches)?;
+        fs::create_dir(self.rt, runs.as_str())?;
+        Ok((runs, caches))
+    }
+
+    /// Makes the folder of a run anew, with an empty work folder.
+    fn begin(&self, run: &str) -> io::Result<ChildRun<'a, R>> {
+        let alloc = self.rt.alloc();
+        let folder = path_below(alloc, self.made()?.0.as_str(), run)?;
+        let work = path_below(alloc, folder.as_str(), "work")?;
+        // A run that could not be cleared away.
+        if let Some(run) = &self.run {
+            let _ = remove_folder(self.rt, run.folder.as_str());
+        }
+        remove_folder(self.rt, folder.as_str())?;
+        fs::create_dir(self.rt, folder.as_str())?;
+        let work = HeldFolder::make(self.rt, work)?;
+        info!(self.log; "run in {} begins", folder.as_str());
+        Ok(ChildRun::new(folder, work))
+    }
+
+    /// Lays caches into a work folder, and then inputs.
+    fn fill(
+        &self,
+        work: &HeldFolder<'a, R>,
+        inputs: &[(Text, Seq<u8>)],
+        caches: &[PreparedCache],
+    ) -> io::Result<()> {
+        self.made()?.1.move_all_in(work, caches)?;
+        for (path, bytes) in inputs {
+            work.write(path.as_str(), bytes.as_slice())?;
+        }
+        Ok(())
+    }
+
+    /// Takes the caches of a run back, and removes its folder, also where not all could be taken back.
+    fn clear(&self, run: &ChildRun<'a, R>, caches: &[CachePath]) -> io::Result<()> {
+        let taken = self.made()?.1.move_all_back(&run.work, caches);
+        remove_folder(self.rt, run.folder.as_str())?;
+        match run.ended {
+            Some(code) => info!(self.log; "run in {} ended, exit code {code}", run.folder.as_str()),
+            None => info!(self.log; "run in {} ended, no exit code", run.folder.as_str()),
+        }
+        taken
     }
 }
 
@@ -59,16 +110,8 @@ impl<'a, R: Files + Processes + Clock + AllocGlobal + Clone + Drop, G: Log> Shel
     #[tactic(auto, using(crate::proofs::Untold::carries))]
     fn make_folder(&mut self, bot: &Text) -> io::Result<()> {
         self.run = None;
-        self.folder = None;
-        let alloc = self.rt.alloc();
-        let folder = format!(in alloc; "swarm-bot-{}", bot.as_str())?;
-        let caches = path_below(alloc, folder.as_str(), "caches")?;
-        let runs = path_below(alloc, folder.as_str(), "runs")?;
-        remove_folder(self.rt, folder.as_str())?;
-        fs::create_dir(self.rt, folder.as_str())?;
-        fs::create_dir(self.rt, caches.as_str())?;
-        fs::create_dir(self.rt, runs.as_str())?;
-        self.folder = Some(folder);
+        self.made = None;
+        self.made = Some(self.make(bot.as_str())?);
         Ok(())
     }
 
@@ -79,24 +122,10 @@ impl<'a, R: Files + Processes + Clock + AllocGlobal + Clone + Drop, G: Log> Shel
         inputs: &[(Text, Seq<u8>)],
         caches: &[PreparedCache],
     ) -> io::Result<()> {
-        let kept = self.path("caches")?;
-        let runs = self.path("runs")?;
-        let folder = path_below(self.rt.alloc(), runs.as_str(), run.as_str())?;
-        let work = path_below(self.rt.alloc(), folder.as_str(), "work")?;
-        // A run that could not be cleared away.
-        if let Some(run) = &self.run {
-            let _ = remove_folder(self.rt, run.folder.as_str());
-        }
-        remove_folder(self.rt, folder.as_str())?;
-        fs::create_dir(self.rt, folder.as_str())?;
-        fs::create_dir(self.rt, work.as_str())?;
-        info!(self.log; "run in {} begins", folder.as_str());
-        self.run = Some(ChildRun::new(folder));
-        move_all_in(self.rt, kept.as_str(), work.as_str(), caches)?;
-        for (path, bytes) in inputs {
-            write_input(self.rt, work.as_str(), path.as_str(), bytes.as_slice())?;
-        }
-        Ok(())
+        let run = self.begin(run.as_str())?;
+        let filled = self.fill(&run.work, inputs, caches);
+        self.run = Some(run);
+        filled
     }
 
     #[tactic(auto, using(crate::proofs::Untold::carries))]
@@ -125,11 +154,10 @@ impl<'a, R: Files + Processes + Clock + AllocGlobal + Clone + Drop, G: Log> Shel
 
     #[tactic(auto, using(crate::proofs::Untold::reads))]
     fn read(&mut self, path: &Text, most: u64) -> io::Result<Option<Seq<u8>>> {
-        let Some(run) = &self.run else {
-            return Err(io::Error::from(ErrorKind::NotFound));
-        };
-        let work = path_below(self.rt.alloc(), run.folder.as_str(), "work")?;
-        read_output(self.rt, work.as_str(), path.as_str(), most)
+        match &self.run {
+            Some(run) => run.work.read(path.as_str(), most),
+            None => Err(io::Error::from(ErrorKind::NotFound)),
+        }
     }
 
     fn end_child(&mut self) -> io::Result<()> {
@@ -141,24 +169,15 @@ impl<'a, R: Files + Processes + Clock + AllocGlobal + Clone + Drop, G: Log> Shel
 
     #[tactic(auto, using(crate::proofs::Untold::clears))]
     fn clear_away(&mut self, caches: &[CachePath]) -> io::Result<Seq<u64>> {
-        let kept = self.path("caches")?;
         if let Some(run) = &self.run {
-            let work = path_below(self.rt.alloc(), run.folder.as_str(), "work")?;
-            move_all_back(self.rt, kept.as_str(), work.as_str(), caches)?;
-            remove_folder(self.rt, run.folder.as_str())?;
-            match run.ended {
-                Some(code) =>
-                    info!(self.log; "run in {} ended, exit code {code}", run.folder.as_str()),
-                None => info!(self.log; "run in {} ended, no exit code", run.folder.as_str()),
-            }
+            self.clear(run, caches)?;
         }
         self.run = None;
-        cache_sizes(self.rt, kept.as_str(), caches)
+        self.made()?.1.sizes(caches)
     }
 
     #[tactic(auto, using(crate::proofs::Untold::carries))]
     fn keep_named(&mut self, names: &[Text]) -> io::Result<()> {
-        let kept = self.path("caches")?;
-        keep_caches(self.rt, kept.as_str(), names)
+        self.made()?.1.keep(names)
     }
 }

@@ -10,7 +10,7 @@ use sqlite_keeper::SqliteStore;
 use std::env;
 use std::env::VarError;
 use std::process::ExitCode;
-use sw_base::{ConsoleLink, DiskFiles, SystemClock};
+use sw_base::{ConsoleLink, SystemClock};
 use swarm_cli::run;
 use tcp_links::TcpAll;
 
@@ -50,7 +50,7 @@ fn main(rt: HostRuntime) -> ExitCode {
         LoggedStream::new(&log, "standard output", rt.stdout()),
     );
     let mut clock = SystemClock::new(&rt);
-    let mut files = LoggedFiles::new(DiskFiles::new(&rt), &rt, &log);
+    let mut files = LoggedFiles::new(&rt, &log);
     let mut store = SqliteStore::new(&rt, log);
     let mut listener = TcpAll::new(alloc, &rt, &log);
     let mut dialer = TcpAll::new(alloc, &rt, &log);

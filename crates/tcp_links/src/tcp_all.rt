@@ -72,7 +72,7 @@ impl<'a, N: Net<Listener = TcpListener, Stream = TcpStream>, T: rt::Clock + Log 
         let limits = Limits::of_server(workers);
         match acceptors(self.alloc, &listener, self.rt, limits, workers) {
             Ok(given) => {
-                info!(self.rt; "listening on {address}, workers {workers}");
+                log_listening(self.rt, &listener, address, workers);
                 Ok(given)
             }
             Err(StartFault::Memory) => Err(StartFault::Memory),
@@ -88,6 +88,14 @@ impl<'a, N: Net<Listener = TcpListener, Stream = TcpStream>, T: rt::Clock + Log 
             self.faults = self.faults.saturating_add(1);
         }
     }
+}
+
+/// Logs where a socket listens. An address with port 0 has the system choose a free one, so the port is
+/// that of the socket.
+fn log_listening<G: Log>(log: &G, listener: &TcpListener, address: &str, workers: u32) {
+    let (host, _) = address.rsplit_once(':').unwrap_or((address, ""));
+    let port = listener.local_addr().map_or(0, |place| place.port());
+    info!(log; "listening on {host}:{port}, workers {workers}");
 }
 
 /// A link to the first of the address's places that answers, and that place, with the limit of a write
