@@ -176,6 +176,12 @@ def with_texts(table, texts):
     return [(f"DELETE FROM {table}",), *((f"INSERT INTO {table} VALUES (?, ?)", at, text) for at, text in enumerate(texts, 1))]
 
 
+def move_lines(path, seconds):
+    """Lets all entries have happened so many seconds later."""
+    lines = [json.loads(line) for line in lines_of(path)]
+    change(path, *with_texts("lines", (compact({**line, "m": line["m"] + seconds}) for line in lines)))
+
+
 def as_version_1():
     """The commands that make a file of version 1 of one without lines of a base."""
     return [("DROP TABLE base",), ("DELETE FROM meta WHERE name = 'count'",), ("UPDATE meta SET value = 1",)]
