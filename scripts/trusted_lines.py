@@ -77,13 +77,20 @@ EDGE = [
     "crates/swarm/src/main.rt",
     "crates/sqlite_keeper/src/sqlite_keeper.rt",
     "crates/sqlite_keeper/src/sqlite_store.rt",
+    "crates/sqlite_keeper/src/records.rt",
+    "crates/sqlite_keeper/src/changes.rt",
+    "crates/sqlite_keeper/src/known.rt",
+    "crates/sqlite_keeper/src/standing.rt",
+    "crates/sqlite_keeper/src/site.rt",
+    "crates/sqlite_keeper/src/sql_file.rt",
+    "crates/sqlite_keeper/src/opened_tables.rt",
     "crates/sqlite_keeper/src/tables.rt",
     "crates/sw_base/src/console_link.rt",
-    "crates/sw_base/src/disk_files.rt",
     "crates/sw_base/src/system_clock.rt",
     "crates/program_log/src/journal.rt",
     "crates/program_log/src/logged_stream.rt",
     "crates/program_log/src/logged_files.rt",
+    "crates/program_log/src/disk.rt",
     "crates/tcp_links/src/tcp_link.rt",
     "crates/tcp_links/src/deadline_link.rt",
     "crates/tcp_links/src/tcp_acceptor.rt",
@@ -102,8 +109,9 @@ EDGE = [
     "crates/shell_runner/src/shown_output.rt",
     "crates/shell_runner/src/exit_codes.rt",
     "crates/shell_runner/src/signals.rt",
-    "crates/run_folders/src/work_folder.rt",
-    "crates/run_folders/src/caches.rt",
+    "crates/run_folders/src/held_folder.rt",
+    "crates/run_folders/src/kept_caches.rt",
+    "crates/run_folders/src/places.rt",
     "crates/run_folders/src/paths.rt",
     "crates/run_folders/src/found.rt",
     "crates/run_folders/src/tools.rt",
@@ -116,19 +124,37 @@ TOLD = {
         "impl<R: Read + Drop, W: Write + Drop> ConsoleLink<R, W>",
         "impl<R: Read + Drop, W: Write + Drop> Link for ConsoleLink<R, W>",
     ],
-    "crates/sw_base/src/disk_files.rt": ["fn read_up_to", "fn write_synced"],
+    "crates/sqlite_keeper/src/sqlite_keeper.rt": ["fn counted"],
+    "crates/sqlite_keeper/src/sqlite_store.rt": ["fn keeper_of", "fn new"],
+    "crates/sqlite_keeper/src/records.rt": [
+        "const CLOSED",
+        "struct Records",
+        "fn blob_before",
+        "fn found",
+        "fn judged",
+        "impl<F: PoolFile> Records<F>",
+    ],
+    "crates/sqlite_keeper/src/changes.rt": [
+        "struct BlobChange",
+        "enum LineChange",
+        "struct Change",
+        "fn dropped",
+        "fn added",
+        "fn back",
+        "fn append",
+        "fn take_out",
+    ],
+    "crates/sqlite_keeper/src/known.rt": ["struct Place", "struct Known", "impl Known", "struct BlobBefore", "struct Begun"],
+    "crates/sqlite_keeper/src/standing.rt": ["enum Standing", "enum Found"],
+    "crates/sqlite_keeper/src/site.rt": ["fn is_memory", "fn start_fault", "fn are_tables"],
     "crates/program_log/src/logged_stream.rt": [
         "struct LoggedStream",
         "impl<'a, S: Drop, G: Log> LoggedStream<'a, S, G>",
         "impl<'a, S: Read + Drop, G: Log> Read for LoggedStream<'a, S, G>",
         "impl<'a, S: Write + Drop, G: Log> Write for LoggedStream<'a, S, G>",
     ],
-    "crates/program_log/src/logged_files.rt": [
-        "struct LoggedFiles",
-        "impl<'a, F: Files + Drop, R: fs::Files + Clock, G: Log> LoggedFiles<'a, F, R, G>",
-        "fn lines_of",
-        "impl<'a, F: Files + Drop, R: fs::Files + Clock, G: Log> Files for LoggedFiles<'a, F, R, G>",
-    ],
+    "crates/program_log/src/logged_files.rt": ["fn new", "fn add_fault", "fn lines_of"],
+    "crates/program_log/src/disk.rt": ["fn read_up_to", "fn write_synced"],
     "crates/tcp_links/src/tcp_link.rt": [
         "const TLS_HANDSHAKE",
         "struct TcpLink",
@@ -428,7 +454,7 @@ def told_lines(file, lines):
             last += 1
         text = "\n".join(lines[first : last + 1])
         state = re.search(r"ghost (state|remaining|contents) = (.*?)};", text, re.S)
-        if not (re.search(r"struct|const", name) or "ensures" in text or state) or state and "None" in state[2]:
+        if not (re.search(r"struct|enum|const", name) or "ensures" in text or state) or state and "None" in state[2]:
             sys.exit("%s: %s is named by TOLD, and tells nothing" % (file, name))
         found.update(range(first, last + 1))
     return found

@@ -10,7 +10,7 @@
 //! Of what an entry needs only `reserve` takes memory. Rows that were kept elsewhere come one after
 //! the other by `load`, in the order of their numbers.
 //!
-//! It stands on `row_changes`. `swarm_machine` keeps the bots of a pool in a [`Registry`].
+//! It stands on `row_changes`. `common_rows` keeps the bots of a pool in a [`Registry`].
 #![tactic(auto)]
 
 mod demand;

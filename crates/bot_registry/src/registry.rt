@@ -63,6 +63,13 @@ impl Registry {
         self.rows.len()
     }
 
+    /// The rows, in the order of their numbers.
+    pub fn as_slice(&self) -> &[BotRow]
+        ensures { result.now ≡ self.now.rows }
+    {
+        self.rows.as_slice()
+    }
+
     /// The number of the bot of a name. It costs a bisection over the bots.
     pub fn number(&self, name: &Text) -> Option<u32>
         ensures { result ≡ option_map no_of_bot (row_named self.now.rows name.now) }

@@ -2,3 +2,4 @@ mod Tasks
 mod NumberedTasks
 pub mod LoadedRows
 pub mod Entering
+pub mod Ready

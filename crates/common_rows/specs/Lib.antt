@@ -1,2 +1,3 @@
 pub mod Changing
 pub mod Suiting
+pub mod Rows

@@ -11,7 +11,8 @@ use std::sync::ledger::Ledger;
 use swarm_model::{ReadRows, Steps, TaskRow, TaskState};
 use task_rows::TaskRows;
 
-fn is_wanted(wanted: Option<TaskState>, task: &TaskRow) -> bool
+/// Whether the task is in the state, or none is named.
+pub fn is_wanted(wanted: Option<TaskState>, task: &TaskRow) -> bool
     ensures { result ≡ is_wanted wanted task.now }
 {
     match wanted {

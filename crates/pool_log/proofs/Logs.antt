@@ -17,7 +17,7 @@ use Rattle.pool_log.specs.declared.logged_pool.LoggedPool.TheInside.{Inside}
 use Rattle.pool_log.specs.Plain.{KeptPool, machine_of}
 use Rattle.pool_log.specs.Reached.{IsReplayOf}
 use Rattle.pool_log.specs.Invariant.{start_of, IsReady, IsKept}
-use Rattle.pool_log.proofs.Limits.{few_entries, light_logs}
+use Rattle.pool_log.proofs.Limits.{rules_of}
 
 pub history_of : (kept same : KeptPool) → kept ≡ same → IsReplayOf kept.start kept.log kept.pool → IsHistory (machine_of same)
 history_of kept same is replay_of =
@@ -45,7 +45,7 @@ kept_same s new ready now old pool kept same start items total prepared =
 pub weighs_own : (start : Base) (log : List Entry) (s : PoolState) (own told total : ℕ) → IsReplayOf start log s → told ≡ capped own → told ≤ start.rows.settings.most_weight - total → told ≡ own
 weighs_own start log s own told total is capped_is low =
     let same = ap (λ (p : PoolSettings). p.most_weight) is.base.own in
-    let most = light_logs s.settings is.rules in
+    let most = (rules_of s.settings is.rules).most_weight in
     omega (arith, capped_is, low, same, most)
 
 -- what holds of a result that is an error, or is none
@@ -61,7 +61,7 @@ on_ok (Err e) is a = absurd (cc (is))
 pub weight_of_base : (base : PoolState) (count total : ℕ) (log : List Entry) → IsTrue (keeps_rules base.settings) → IsBase base.settings count base → total ≡ capped (state_weight base) → log ≡ [] →
     total ≡ state_weight base + sum_by weight log
 weight_of_base base count total log rules is_base is none =
-    let most = light_logs base.settings rules in
+    let most = (rules_of base.settings rules).most_weight in
     let light = is_base.light in
     let nothing = ap (sum_by weight) none in
     omega (arith, is, nothing, most, light)
@@ -72,7 +72,7 @@ few_in_all start log s is =
     let count = is.base.few in
     let few = is.legal.few in
     let same = ap (λ (p : PoolSettings). p.most_entries) is.base.own in
-    let most = few_entries s.settings is.rules in
+    let most = (rules_of s.settings is.rules).most_entries in
     omega (arith, count, few, same, most)
 
 -- what a machine keeps is the same where each part is

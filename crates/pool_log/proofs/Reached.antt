@@ -14,7 +14,7 @@ use Rattle.pool_laws.proofs.Sound.{sound_replay}
 use Rattle.pool_changes.proofs.Growing.{placed_within, replayed_more}
 use Rattle.pool_changes.proofs.Legality.{Rooms, rooms, legal_more}
 use Rattle.pool_log.specs.Reached.{IsReplayOf, IsReached, MayComeNext}
-use Rattle.pool_log.proofs.Limits.{few_entries}
+use Rattle.pool_log.proofs.Limits.{rules_of}
 
 -- a state to which a log leads is sound
 pub replay_is_sound : (start : Base) (log : List Entry) (s : PoolState) → IsReplayOf start log s → IsSound s
@@ -75,7 +75,7 @@ module _ (s : PoolState) (entry : Entry) (next : MayComeNext s entry) where
       let count = is.base.few in
       let few = room_before.few in
       let same = ap (λ (p : PoolSettings). p.most_entries) is.base.own in
-      let most = few_entries s.settings is.rules in
+      let most = (rules_of s.settings is.rules).most_entries in
       omega (arith, placed, before, count, few, same, most)
 
   pub reached_after : (new : PoolState) → new ≡ after s entry → IsReached new

@@ -8,7 +8,6 @@
 //! the laws of `laws.rt`.
 #![tactic(auto)]
 
-mod counting;
 mod kept;
 mod laws;
 mod reply;

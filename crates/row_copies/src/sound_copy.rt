@@ -5,8 +5,7 @@ ghost use Rattle.swarm_model.specs.Soundness.{IsSound};
 ghost use Rattle.row_copies.specs.Kept.{now_of};
 
 use crate::RowCopy;
-use crate::counting::count_in_state;
-use common_rows::{newest_below, task_of};
+use common_rows::{count_in_state, newest_below, task_of};
 use dimensions::Text;
 use pool_queries::ReadQueries;
 use std::marker::Model;
@@ -77,7 +76,7 @@ impl<'a> ReadQueries for SoundCopy<'a> {
     fn count(&self, wanted: Option<TaskState>) -> u64 {
         match wanted {
             None => self.copy.tasks.count() as u64,
-            Some(state) => count_in_state(self.tasks(), state),
+            Some(state) => count_in_state(self.copy.tasks.uncounted_rows(), state),
         }
     }
 

@@ -1,15 +1,11 @@
 -- What was made ready is what is done.
-use Rattle.std.proofs.Common.{◌≡◌, Option, Some, None, IfSome, subst}
+use Rattle.std.proofs.Common.{◌≡◌, Some}
 use Rattle.std.specs.Option.{option_map}
-use Rattle.swarm_model.specs.declared.entry.Entry.{Entry}
+use Rattle.swarm_machine.specs.Types.{Entry}
+use Rattle.common_rows.proofs.Ready.{of_ready}
 use Rattle.swarm_machine.specs.declared.indexed_rows.IndexedRows.TheInside.{Inside}
 use Rattle.swarm_machine.specs.Indexes.{IsMadeReady}
 use Rattle.swarm_machine.specs.Invariant.{IsKept}
-
--- what lies ready for an entry that is kept
-pub of_ready : {X : Type 0} (P : Entry → Type 0) (value : X → Entry) (o : Option X) (entry : Entry) → IfSome o (λ x. P (value x)) → option_map value o ≡ Some entry → P entry
-of_ready P value None entry all is = absurd (cc (is))
-of_ready P value (Some x) entry all is = let same : value x ≡ entry = cc (is) in subst P same all
 
 pub made_for : (own : Inside) → IsKept own → (entry : Entry) → option_map (λ r. r.value) own.ready ≡ Some entry → IsMadeReady own.rows own.indexes entry
 made_for own kept entry is = of_ready (IsMadeReady own.rows own.indexes) (λ r. r.value) own.ready entry kept.prepared is

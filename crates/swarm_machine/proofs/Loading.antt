@@ -34,6 +34,7 @@ use Rattle.index_laws.specs.TaskUuids.{sent_of, uuid_link, AreUuids}
 use Rattle.index_laws.proofs.Keys.{among_of}
 use Rattle.index_laws.proofs.Loading.{queue_gains, queue_is_free, claims_gain, claims_are_new, uuids_gain, uuid_is_new, sources_gain, uses_gain, counts_gain, task_deadlines_gain, bot_deadlines_gain, blob_deadlines_gain}
 use Rattle.index_laws.proofs.UsesAreFew.{uses_of_rows_weigh}
+use Rattle.pool_log.proofs.Limits.{rules_of}
 use Rattle.pool_log.proofs.RowFacts.{all_early, all_heard}
 use Rattle.common_rows.proofs.LoadedRows.{numbered_take, next_number, more_rows}
 use Rattle.swarm_machine.specs.declared.indexes.Indexes.{Indexes}
@@ -44,13 +45,12 @@ use Rattle.swarm_machine.specs.Uses.{HasRoomFor, AddsUses}
 use Rattle.swarm_machine.specs.UsesBehind.{AreUses}
 use Rattle.swarm_machine.proofs.Counts.{counts_are_small}
 use Rattle.swarm_machine.proofs.Following.{counted}
-use Rattle.swarm_machine.proofs.Holding.{few_rows}
 
 -- the rows of a base may be loaded
 pub may_load : (base : PoolState) → IsTrue (keeps_rules base.settings) → IsBase base.settings (2 ^ 31) base → MayLoad base
 may_load base rules is =
-    let most_tasks = (few_rows base.settings rules).0 in
-    let most_weight = (few_rows base.settings rules).2 in
+    let most_tasks = (rules_of base.settings rules).most_tasks in
+    let most_weight = (rules_of base.settings rules).most_weight in
     let tasks = is.sound.few_tasks in
     let light = is.light in
     record {

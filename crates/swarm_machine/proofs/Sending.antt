@@ -23,7 +23,7 @@ use Rattle.pool_log.specs.contracts.logged_pool.LoggedPool as LoggedPool
 use Rattle.swarm_machine.specs.contracts.indexed_rows.IndexedRows as IndexedRows
 use Rattle.swarm_machine.specs.contracts.indexed_rows.IndexedRows.TheInside as inside
 use Rattle.swarm_machine.specs.contracts.indexes.Indexes as Indexes
-use Rattle.swarm_machine.specs.contracts.rows.Rows as Rows
+use Rattle.common_rows.specs.contracts.rows.Rows as Rows
 
 retried_send : IsSend Retried.the_field.row
 retried_send = search (single.crosses, maps.crosses, sendable) depth 60 fits 100000

@@ -15,12 +15,12 @@ use Rattle.index_laws.specs.TaskSources.{AreSources, source_link_before}
 use Rattle.index_laws.specs.TaskUuids.{AreUuids, uuid_link_to_come}
 use Rattle.index_laws.specs.SetToCome.{set_to_come, IsReadyFor}
 use Rattle.pool_changes.specs.Blobs.{fresh_in}
-use Rattle.swarm_machine.specs.declared.rows.Rows.{Rows}
+use Rattle.common_rows.specs.declared.rows.Rows.{Rows}
 use Rattle.swarm_machine.specs.declared.indexes.Indexes.{Indexes}
 use Rattle.swarm_machine.specs.declared.indexes.Touched.{Touched}
 use Rattle.swarm_machine.specs.Uses.{AreListedFor}
 use Rattle.swarm_machine.specs.UsesBehind.{AreUses, HasFewUses}
-use Rattle.swarm_machine.specs.Inside.{state_of, IsReadyFor as AreRowsReadyFor}
+use Rattle.common_rows.specs.Rows.{state_of, IsReadyFor as AreRowsReadyFor}
 
 -- each index is that of the rows
 pub record AreIndexes (indexes : Indexes) (s : PoolState) : Type 0 where

@@ -4,7 +4,7 @@ use Rattle.std.specs.Option.{option_map}
 use Rattle.pool_log.specs.Reached.{IsReached}
 use Rattle.pool_log.specs.Plain.{RowsState}
 use Rattle.swarm_machine.specs.declared.indexed_rows.IndexedRows.TheInside.{Inside}
-use Rattle.swarm_machine.specs.Inside.{state_of, IsOfSettings}
+use Rattle.common_rows.specs.Rows.{state_of, IsOfSettings}
 use Rattle.swarm_machine.specs.Indexes.{AreIndexes, IsMadeReady}
 
 abbrev pub kept_of : Inside → RowsState

@@ -1,5 +1,4 @@
 pub mod Types
-pub mod Inside
 pub mod Counting
 pub mod TouchedBlobs
 pub mod Uses

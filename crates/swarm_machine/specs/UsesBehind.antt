@@ -8,9 +8,9 @@ use Rattle.pool_changes.specs.Blobs.{fresh_in}
 use Rattle.pool_index.specs.Uses.{uses_of}
 use Rattle.index_laws.specs.TaskUses.{uses_in, uses_to_come}
 use Rattle.index_laws.specs.Touched.{touched_task}
-use Rattle.swarm_machine.specs.declared.rows.Rows.{Rows}
+use Rattle.common_rows.specs.declared.rows.Rows.{Rows}
 use Rattle.swarm_machine.specs.declared.indexes.Touched.{Touched}
-use Rattle.swarm_machine.specs.Inside.{state_of}
+use Rattle.common_rows.specs.Rows.{state_of}
 use Rattle.swarm_machine.specs.Uses.{AreListedFor}
 
 -- the uses that are counted are those of the rows

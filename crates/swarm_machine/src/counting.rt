@@ -4,9 +4,9 @@ ghost use Rattle.std.specs.List.{All};
 ghost use Rattle.std.specs.Option.{option_map, option_and_then};
 ghost use Rattle.swarm_model.specs.Finding.{task_of};
 ghost use Rattle.swarm_machine.specs.Counting.{is_in, one_if, shifted, AreShifted};
-ghost use Rattle.swarm_machine.specs.Inside.{state_of};
+ghost use Rattle.common_rows.specs.Rows.{state_of};
 
-use crate::rows::Rows;
+use common_rows::Rows;
 use swarm_model::TaskState;
 
 fn is_in(row: Option<TaskState>, state: TaskState) -> bool

@@ -2,28 +2,19 @@
 //! their order.
 ghost use Rattle.std.specs.Prelude.{◌≡◌, ◌<◌, ◌≤◌, None, IfSome, slice_set};
 ghost use Rattle.std.specs.Option.{option_copied};
-ghost use Rattle.swarm_model.specs.Deadlines.{runner_of, bot_end};
-ghost use Rattle.swarm_model.specs.Finding.{task_of, bot_of};
+ghost use Rattle.swarm_model.specs.Finding.{task_of};
 ghost use Rattle.swarm_model.specs.Soundness.{IsSound};
-ghost use Rattle.row_changes.specs.Rows.{IsEarly, IsHeard};
+ghost use Rattle.row_changes.specs.Rows.{IsEarly};
 ghost use Rattle.index_laws.specs.BlobDeadlines.{AreMoved};
 ghost use Rattle.index_laws.specs.RowDeadlines.{task_deadline, task_deadline_of, bot_deadline_of, put_deadline};
-ghost use Rattle.swarm_machine.specs.Inside.{state_of};
+ghost use Rattle.common_rows.specs.Rows.{state_of};
 ghost use Rattle.swarm_machine.specs.TouchedBlobs.{blob_end_with};
 
-use crate::rows::Rows;
 use crate::touched::touched_blob;
+use common_rows::Rows;
 use pool_index::{DeadlineQueue, DeadlineTree};
-use row_changes::{blob_end, death_of, silence_of, slice_end};
-use swarm_model::{BotRow, Chunk, Deadline, EntryKind, TaskRow, TaskState};
-
-fn bot_of(rows: &Rows, number: u32) -> Option<&BotRow>
-    requires { IsSound (state_of rows.now) }
-    ensures value { option_copied result ≡ bot_of (state_of rows.now) number }
-    ensures heard { IfSome (option_copied result) IsHeard }
-{
-    rows.bots.bot(number)
-}
+use row_changes::{blob_end, silence_of, slice_end};
+use swarm_model::{Chunk, Deadline, EntryKind, TaskRow, TaskState};
 
 fn task_of(rows: &Rows, number: u32) -> Option<&TaskRow>
     requires { IsSound (state_of rows.now) }
@@ -31,15 +22,6 @@ fn task_of(rows: &Rows, number: u32) -> Option<&TaskRow>
     ensures early { IfSome (option_copied result) IsEarly }
 {
     rows.tasks.uncounted_row(number)
-}
-
-/// The bot of a run.
-fn runner_of<'a>(rows: &'a Rows, task: &TaskRow) -> Option<&'a BotRow>
-    requires { IsSound (state_of rows.now) }
-    ensures value { option_copied result ≡ runner_of (state_of rows.now) task.now }
-    ensures heard { IfSome (option_copied result) IsHeard }
-{
-    bot_of(rows, task.attempt.as_ref()?.bot)
 }
 
 fn task_deadline(rows: &Rows, task: &TaskRow) -> Option<Deadline>
@@ -50,7 +32,7 @@ fn task_deadline(rows: &Rows, task: &TaskRow) -> Option<Deadline>
     if task.has_state(TaskState::Pending) {
         slice_end(task)
     } else {
-        silence_of(task, runner_of(rows, task))
+        silence_of(task, rows.runner_of(task))
     }
 }
 
@@ -65,21 +47,14 @@ fn task_deadline_of(rows: &Rows, number: u32) -> Option<Deadline>
     }
 }
 
-fn bot_end(rows: &Rows, bot: &BotRow) -> Option<Deadline>
-    requires { IsHeard bot.now }
-    ensures { result ≡ bot_end (state_of rows.now) bot.now }
-{
-    death_of(rows.settings.death_timeout_secs, bot)
-}
-
 /// The deadline of the bot of a number.
 fn bot_deadline_of(rows: &Rows, number: u32) -> Option<Deadline>
     requires { IsSound (state_of rows.now) }
     ensures { result ≡ bot_deadline_of (state_of rows.now) number }
 {
-    match bot_of(rows, number) {
+    match rows.bot_of(number) {
         None => None,
-        Some(bot) => bot_end(rows, bot),
+        Some(bot) => rows.bot_end(bot),
     }
 }
 

@@ -2,12 +2,12 @@ ghost use Rattle.std.specs.Prelude.{◌≡◌, ◌≤◌, ◌<◌, ◌+◌, ◌^
 ghost use Rattle.std.specs.Option.{option_copied, option_and_then};
 ghost use Rattle.swarm_model.specs.Finding.{task_of};
 ghost use Rattle.swarm_model.specs.declared.pool_state.PoolState.{PoolState};
-ghost use Rattle.swarm_machine.specs.Inside.{state_of};
+ghost use Rattle.common_rows.specs.Rows.{state_of};
 ghost use Rattle.swarm_machine.specs.Indexes.{AreIndexes, IsMadeReady};
 
 use crate::indexes::{Indexes, touched_by};
-use crate::rows::Rows;
 use crate::sources;
+use common_rows::Rows;
 use content_store::{Filled, Held};
 use dimensions::{BotDims, DimSet, Text};
 use ghost_values::GhostValue;

@@ -5,17 +5,17 @@ ghost use Rattle.swarm_model.specs.Deadlines.{next_deadline};
 ghost use Rattle.swarm_model.specs.Soundness.{IsSound};
 ghost use Rattle.index_laws.specs.TaskClaims.{claim_link_to_come};
 ghost use Rattle.index_laws.specs.TaskUuids.{uuid_link_to_come};
-ghost use Rattle.swarm_machine.specs.Inside.{state_of};
+ghost use Rattle.common_rows.specs.Rows.{state_of};
 ghost use Rattle.swarm_machine.specs.Indexes.{AreIndexes, AreReadyFor, IsTouchedBy, AreBehind};
 ghost use Rattle.swarm_machine.specs.Loading.{with_bots};
 
 use crate::counting::{shift_counts, state_in};
 use crate::deadlines::{blob_end_with, move_deadline, put_bot_deadline, put_task_deadline};
 use crate::queueing::{move_in_queue, prepare_queue};
-use crate::rows::Rows;
 use crate::sources::prepare_source;
 use crate::touched::{touched_bot, touched_task};
 use crate::uses::{follow_uses, list_uses};
+use common_rows::Rows;
 use dim_queue::Queues;
 use pool_index::{
     ClaimIndex, DeadlineQueue, DeadlineTree, SourceIndex, UseCounts, UuidIndex, sooner_of,

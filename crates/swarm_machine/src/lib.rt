@@ -3,9 +3,8 @@
 //! [`Pool`] is a [`Machine`](swarm_model::Machine): the log is that of `pool_log`, over
 //! [`IndexedRows`]. They answer the queries of `pool_rules` by indexes that their invariant alone ties
 //! to the rows (`specs/Indexes.antt`, `specs/Invariant.antt`), so the contract is that of any rows.
-//! `indexed_rows.rt` has the queries, `rows.rt` the rows, of which those of tasks and bots change by
-//! `common_rows`, and `indexes.rt` the indexes. These are set anew for the rows that an entry
-//! touched (`touched.rt`): deadlines (`deadlines.rt`), queues (`queueing.rt`), sources of
+//! The rows are those of `common_rows`; `indexed_rows.rt` has the queries, and `indexes.rt` the
+//! indexes. These are set anew for the rows that an entry touched (`touched.rt`): deadlines (`deadlines.rt`), queues (`queueing.rt`), sources of
 //! outcomes (`sources.rt`), uses of digests (`uses.rt`) and counts of states (`counting.rt`).
 //! A pool that opens from the rows of a base copies them, and loads each index row by row
 //! (`loading_indexes.rt`).
@@ -34,7 +33,6 @@ mod indexed_rows;
 mod indexes;
 mod loading_indexes;
 mod queueing;
-mod rows;
 mod sources;
 mod touched;
 mod uses;

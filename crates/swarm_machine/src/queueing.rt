@@ -4,10 +4,10 @@ ghost use Rattle.std.specs.Option.{option_copied, option_and_then};
 ghost use Rattle.dim_queue.specs.Plain.{IsAbsent, SameWaits};
 ghost use Rattle.index_laws.specs.SetToCome.{set_at, set_moved, set_if_lost, set_to_come, IsReadyFor};
 ghost use Rattle.index_laws.specs.TaskQueues.{IsRequeued, waiting_of, touched_place};
-ghost use Rattle.swarm_machine.specs.Inside.{state_of};
+ghost use Rattle.common_rows.specs.Rows.{state_of};
 
-use crate::rows::Rows;
 use crate::touched::{bot_of_run, row_of};
+use common_rows::Rows;
 use dim_queue::Queues;
 use row_changes::is_tried_again;
 use std::alloc::AllocError;

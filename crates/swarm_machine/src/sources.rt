@@ -6,7 +6,7 @@ ghost use Rattle.pool_index.specs.Sources.{AreWith};
 ghost use Rattle.index_laws.specs.TaskSources.{hash_of_slice, slice_hash_of, source_hash_of, source_of, link_under, link_by_report, source_link_before};
 ghost use Rattle.index_laws.specs.TaskSources as sources;
 
-use crate::rows::Rows;
+use common_rows::Rows;
 use pool_index::SourceIndex;
 use row_changes::{ended_well, is_young};
 use std::alloc::{AllocError, Global};

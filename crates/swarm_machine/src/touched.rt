@@ -3,10 +3,10 @@ ghost use Rattle.std.specs.Prelude.{◌≡◌};
 ghost use Rattle.std.specs.Option.{option_map, option_copied};
 ghost use Rattle.index_laws.specs.StateCounts.{touched_row};
 ghost use Rattle.index_laws.specs.Touched.{attempt_bot_in, touched_task, touched_bot};
-ghost use Rattle.swarm_machine.specs.Inside.{state_of};
+ghost use Rattle.common_rows.specs.Rows.{state_of};
 ghost use Rattle.swarm_machine.specs.TouchedBlobs.{touched_with};
 
-use crate::rows::Rows;
+use common_rows::Rows;
 use swarm_model::{Attempt, BlobRow, Chunk, EntryKind, TaskRow};
 
 /// The bot of a run.

@@ -7,12 +7,12 @@ ghost use Rattle.pool_index.specs.Uses.{uses_of, HasUses, IsListed, SameUses, St
 ghost use Rattle.index_laws.specs.TaskUses.{chunks_with, times_named, uses_of_slices};
 ghost use Rattle.index_laws.specs.TaskUses as tasks;
 ghost use Rattle.swarm_machine.specs.Uses.{AreInputsListed, AreListedFor, IsChunkOf, uses_of_chunk, uses_brought, AddsUses, RemovesUses, HasRoomFor, HasUsesFor};
-ghost use Rattle.swarm_machine.specs.Inside.{state_of};
+ghost use Rattle.common_rows.specs.Rows.{state_of};
 ghost use Rattle.swarm_machine.specs.UsesBehind.{AreUses, UsesAreBehind};
 
 use crate::indexes::Touched;
-use crate::rows::Rows;
 use crate::touched::row_of;
+use common_rows::Rows;
 use pool_index::UseCounts;
 use std::alloc::AllocError;
 use swarm_model::{Attempt, Chunk, Entry, EntryKind, MaybeRetried, TaskRow};

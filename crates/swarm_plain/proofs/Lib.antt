@@ -1,4 +1,3 @@
-mod RowEffects
 mod Holding
 mod Lowest
 mod NextBot

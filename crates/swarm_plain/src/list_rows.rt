@@ -1,13 +1,13 @@
 use crate::deadlines::next_deadline;
-use crate::rows::Rows;
 use crate::{pages, scans, sources};
+use common_rows::Rows;
 use content_store::{Filled, Held};
 use dimensions::{BotDims, DimSet, Text};
 use ghost_values::GhostValue;
 use pool_changes::{bring_bytes, lend_bytes};
 use pool_log::PoolRows;
 use pool_queries::{PoolQueries, ReadQueries};
-use row_changes::{BotParts, TaskParts, is_capable, row_of};
+use row_changes::is_capable;
 use std::alloc::{AllocError, Global};
 use std::marker::Model;
 use std::mem;
@@ -17,23 +17,12 @@ use swarm_model::{
 };
 use task_props::Digest;
 
-/// What is made ready of an entry.
-#[derive(Drop)]
-struct Ready {
-    /// The entry for which all lies ready.
-    entry: GhostValue<Entry>,
-    /// What moves into the row of a task.
-    task: TaskParts,
-    /// What moves into the row of a bot.
-    bot: BotParts,
-}
-
 /// Rows of a pool that are scanned.
 #[derive(Drop)]
 pub struct ListRows {
-    alloc: Global,
     rows: Rows,
-    ready: Option<Ready>,
+    /// The entry for which all lies ready.
+    ready: Option<GhostValue<Entry>>,
 }
 
 impl Model for ListRows {
@@ -61,15 +50,15 @@ impl ReadQueries for ListRows {
     }
 
     fn task_count(&self) -> usize {
-        self.rows.tasks.len()
+        self.rows.tasks.count()
     }
 
     fn count(&self, wanted: Option<TaskState>) -> u64 {
-        scans::count_wanted(self.rows.tasks.as_slice(), wanted)
+        scans::count_wanted(self.rows.tasks.uncounted_rows(), wanted)
     }
 
     fn task_of<L: Ledger>(&self, number: u32, steps: &mut Steps<L>) -> Option<&TaskRow> {
-        let row = row_of(self.rows.tasks.as_slice(), number)?;
+        let row = self.rows.tasks.uncounted_row(number)?;
         steps.tick();
         Some(row)
     }
@@ -80,15 +69,15 @@ impl ReadQueries for ListRows {
         below: Option<u32>,
         _steps: &mut Steps<L>,
     ) -> Option<&TaskRow> {
-        pages::newest_below(self.rows.tasks.as_slice(), wanted, below)
+        pages::newest_below(self.rows.tasks.uncounted_rows(), wanted, below)
     }
 
     fn bot_count(&self) -> usize {
-        self.rows.bots.len()
+        self.rows.bots.count()
     }
 
     fn bot_of(&self, number: u32) -> Option<&BotRow> {
-        row_of(self.rows.bots.as_slice(), number)
+        self.rows.bots.bot(number)
     }
 
     fn bot_named<'a>(&'a self, name: &Text) -> Option<&'a BotRow> {
@@ -107,7 +96,7 @@ impl PoolQueries for ListRows {
         uuid: &Text,
         _steps: &mut Steps<L>,
     ) -> Option<&'a TaskRow> {
-        scans::sent(self.rows.tasks.as_slice(), who, uuid)
+        scans::sent(self.rows.tasks.uncounted_rows(), who, uuid)
     }
 
     fn newest_source<'a, L: Ledger>(
@@ -118,7 +107,7 @@ impl PoolQueries for ListRows {
         _steps: &mut Steps<L>,
     ) -> Result<Option<&'a TaskRow>, AllocError> {
         let age = self.rows.settings.reuse_age_secs;
-        sources::newest_source(alloc, self.rows.tasks.as_slice(), age, moment, digest)
+        sources::newest_source(alloc, self.rows.tasks.uncounted_rows(), age, moment, digest)
     }
 
     fn by_claim<'a, L: Ledger>(
@@ -127,7 +116,7 @@ impl PoolQueries for ListRows {
         claim: &Text,
         _steps: &mut Steps<L>,
     ) -> Option<&'a TaskRow> {
-        scans::claimed(self.rows.tasks.as_slice(), bot, claim)
+        scans::claimed(self.rows.tasks.uncounted_rows(), bot, claim)
     }
 
     fn first_for<'a, L: Ledger>(
@@ -136,7 +125,7 @@ impl PoolQueries for ListRows {
         dims: &BotDims,
         _steps: &mut Steps<L>,
     ) -> Option<&'a TaskRow> {
-        scans::first(self.rows.tasks.as_slice(), no, dims)
+        scans::first(self.rows.tasks.uncounted_rows(), no, dims)
     }
 
     fn capable(&self, dims: &DimSet) -> bool {
@@ -160,7 +149,7 @@ impl PoolQueries for ListRows {
     }
 
     fn is_used(&self, digest: &Digest) -> bool {
-        scans::is_used(self.rows.tasks.as_slice(), digest)
+        scans::is_used(self.rows.tasks.uncounted_rows(), digest)
     }
 
     fn next_deadline(&self) -> Option<Deadline> {
@@ -175,7 +164,6 @@ impl PoolRows for ListRows {
 
     fn of_rows(alloc: Global, base: &PoolState) -> Result<ListRows, AllocError> {
         Ok(ListRows {
-            alloc,
             rows: Rows::of_base(alloc, base)?,
             ready: None,
         })
@@ -187,24 +175,14 @@ impl PoolRows for ListRows {
 
     fn reserve(&mut self, entry: &Entry) -> Result<(), AllocError> {
         drop(self.ready.take());
-        self.rows.make_room(&entry.kind)?;
-        let ready = Ready {
-            entry: GhostValue::of(entry),
-            task: TaskParts::copied(self.alloc, &entry.kind)?,
-            bot: BotParts::copied(self.alloc, &entry.kind)?,
-        };
-        drop(mem::replace(&mut self.ready, Some(ready)));
+        self.rows.reserve(entry)?;
+        drop(mem::replace(&mut self.ready, Some(GhostValue::of(entry))));
         Ok(())
     }
 
     fn apply(&mut self, entry: &Entry, bytes: Option<&[u8]>) {
-        match self.ready.take() {
-            None => unreachable!(),
-            Some(ready) => {
-                self.rows
-                    .apply(self.alloc, entry, ready.task, ready.bot, bytes);
-            }
-        }
+        drop(self.ready.take());
+        self.rows.apply(entry, bytes);
     }
 
     fn fill(&mut self, digest: &Digest, bytes: &[u8]) -> Filled {
@@ -217,7 +195,7 @@ impl PoolRows for ListRows {
     }
 
     fn tally(&self) -> [u64; 9] {
-        scans::tally(self.rows.tasks.as_slice())
+        scans::tally(self.rows.tasks.uncounted_rows())
     }
 
     fn last(&self) -> u64 {

@@ -9,7 +9,7 @@ ghost use Rattle.swarm_model.specs.Finding.{is_wanted};
 ghost use Rattle.swarm_model.specs.Pages.{is_listed, is_named_before, is_after};
 ghost use Rattle.swarm_plain.specs.Lowest.{lower};
 
-use crate::scans::is_wanted;
+use common_rows::is_wanted;
 use dimensions::Text;
 use swarm_model::{BotRow, TaskRow, TaskState};
 

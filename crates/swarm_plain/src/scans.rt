@@ -9,19 +9,11 @@ ghost use Rattle.swarm_model.specs.Reuse.{is_sent};
 ghost use Rattle.swarm_model.specs.Uses.{needs};
 ghost use Rattle.dimensions.specs.Rules.{is_empty};
 
+use common_rows::{count_in_state, is_wanted};
 use dimensions::{BotDims, Text};
 use row_changes::{has_claim, is_sent, needs, waits_for};
 use swarm_model::{BotRow, TaskRow, TaskState};
 use task_props::Digest;
-
-pub(crate) fn is_wanted(wanted: Option<TaskState>, task: &TaskRow) -> bool
-    ensures { result ≡ is_wanted wanted task.now }
-{
-    match wanted {
-        None => true,
-        Some(state) => task.has_state(state),
-    }
-}
 
 /// How many tasks are in the state, or in any where none is named.
 pub(crate) fn count_wanted(tasks: &[TaskRow], wanted: Option<TaskState>) -> u64
@@ -30,27 +22,20 @@ pub(crate) fn count_wanted(tasks: &[TaskRow], wanted: Option<TaskState>) -> u64
     tasks.iter().filter(|task| is_wanted(wanted, task)).count() as u64
 }
 
-/// How many tasks are in the state.
-fn count_in(tasks: &[TaskRow], state: TaskState) -> u64
-    ensures { result ≡ count_by (has_state state) tasks.now }
-{
-    tasks.iter().filter(|task| task.has_state(state)).count() as u64
-}
-
 /// How many tasks are in each state, in the order of the states.
 pub(crate) fn tally(tasks: &[TaskRow]) -> [u64; 9]
     ensures { result ≡ map (λ state. count_by (has_state state) tasks.now) states }
 {
     [
-        count_in(tasks, TaskState::Pending),
-        count_in(tasks, TaskState::Running),
-        count_in(tasks, TaskState::Expired),
-        count_in(tasks, TaskState::TimedOut),
-        count_in(tasks, TaskState::BotDied),
-        count_in(tasks, TaskState::Canceled),
-        count_in(tasks, TaskState::Completed),
-        count_in(tasks, TaskState::Killed),
-        count_in(tasks, TaskState::NoResource),
+        count_in_state(tasks, TaskState::Pending),
+        count_in_state(tasks, TaskState::Running),
+        count_in_state(tasks, TaskState::Expired),
+        count_in_state(tasks, TaskState::TimedOut),
+        count_in_state(tasks, TaskState::BotDied),
+        count_in_state(tasks, TaskState::Canceled),
+        count_in_state(tasks, TaskState::Completed),
+        count_in_state(tasks, TaskState::Killed),
+        count_in_state(tasks, TaskState::NoResource),
     ]
 }
 

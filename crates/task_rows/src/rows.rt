@@ -73,6 +73,14 @@ impl TaskRows {
         row_of(&self.rows, no)
     }
 
+    /// All rows, in the order of their numbers, for what goes through them one after another and
+    /// has no count.
+    pub fn uncounted_rows(&self) -> &[TaskRow]
+        ensures { result.now ≡ self.now.rows }
+    {
+        self.rows.as_slice()
+    }
+
     /// The chunk, where it goes on from the output of the task of a number.
     pub fn fresh_chunk(&self, no: u32, chunk: Option<Chunk>) -> Option<Chunk>
         ensures { result ≡ fresh_chunk (run_of self.now.rows no) chunk }

@@ -2,7 +2,7 @@
 use Rattle.dimensions.proofs.Found.{IfSome-find}
 use Rattle.swarm_model.specs.Finding.{is_task}
 use Rattle.row_changes.specs.Rows.{IsEarly}
-use Rattle.swarm_machine.specs.Inside.{state_of}
+use Rattle.common_rows.specs.Rows.{state_of}
 use Rattle.pool_log.proofs.RowFacts.{all_early}
 use Rattle.swarm_machine.proofs.deadlines.task_of.Goals as goal
 

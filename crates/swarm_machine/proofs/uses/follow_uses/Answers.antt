@@ -6,7 +6,7 @@ use Rattle.pool_index.specs.Uses.{uses_of}
 use Rattle.index_laws.specs.StateCounts.{touched_row}
 use Rattle.index_laws.specs.TaskUses.{row_after}
 use Rattle.index_laws.specs.Touched.{touched_task}
-use Rattle.swarm_machine.specs.Inside.{state_of}
+use Rattle.common_rows.specs.Rows.{state_of}
 use Rattle.swarm_machine.specs.Uses.{IsChunkOf}
 use Rattle.swarm_machine.specs.UsesBehind.{AreUses}
 use Rattle.swarm_machine.proofs.UsesFollow.{fresh_is_chunk, room_for_brought, counts_with_brought, counts_no_row, counts_row_not_ended, can_remove_uses, counts_row_ended}

@@ -6,6 +6,5 @@ use Rattle.swarm_plain.proofs.deadlines.slices_ends.Goals as goal
 
 pub loop-task-preserved : goal.loop-task-preserved
 loop-task-preserved c =
-    let step = fold-filter_map_more sooner slice_end None c.deref-task-items.result.now c.loop-task.task-index c.task-item.result c.loop-task-test.true c.task-item.is in
-    let more = rw c.deref-task-items.ensures.value at step in
+    let more = fold-filter_map_more sooner slice_end None c.args.tasks.now c.loop-task.task-index c.task-item.result c.loop-task-test.true c.task-item.is in
     rw (more, ← c.slice_end.ensures, ← c.loop-task.invariant) c.sooner_of-soonest.ensures

@@ -1,7 +1,7 @@
 -- The task that is found by bot and id is the one that was claimed.
 use Rattle.std.proofs.Common.{◌∙◌}
 use Rattle.index_laws.proofs.ClaimLinks.{claim_is_found}
-use Rattle.swarm_machine.specs.Inside.{state_of}
+use Rattle.common_rows.specs.Rows.{state_of}
 use Rattle.swarm_machine.proofs.Holding.{kept_sound}
 use Rattle.swarm_machine.proofs.indexed_rows.IndexedRowsPoolQueries.by_claim.Goals as goal
 

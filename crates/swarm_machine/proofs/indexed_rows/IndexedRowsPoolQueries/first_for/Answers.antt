@@ -4,7 +4,7 @@ use Rattle.std.specs.Option.{option_and_then}
 use Rattle.dim_queue.specs.declared.waiting.Waiting.{Waiting}
 use Rattle.swarm_model.specs.Finding.{task_of}
 use Rattle.index_laws.proofs.FirstIsNext.{first_is_next}
-use Rattle.swarm_machine.specs.Inside.{state_of}
+use Rattle.common_rows.specs.Rows.{state_of}
 use Rattle.swarm_machine.proofs.Holding.{kept_sound}
 use Rattle.swarm_machine.proofs.indexed_rows.IndexedRowsPoolQueries.first_for.Goals as goal
 

@@ -1,7 +1,7 @@
 -- A blob is used where its digest has a use.
 use Rattle.std.proofs.Common.{ℕ, nat_lt, sym, ap, ◌∙◌}
 use Rattle.index_laws.proofs.UseIsCounted.{use_is_counted}
-use Rattle.swarm_machine.specs.Inside.{state_of}
+use Rattle.common_rows.specs.Rows.{state_of}
 use Rattle.swarm_machine.proofs.indexed_rows.IndexedRowsPoolQueries.is_used.Goals as goal
 
 pub returns : goal.returns

@@ -7,7 +7,7 @@ use Rattle.index_laws.specs.TaskSources.{if_young}
 use Rattle.swarm_model.specs.BaseRules.{AreCreatedInOrder}
 use Rattle.index_laws.proofs.CreatedInOrder.{created_in_order}
 use Rattle.index_laws.proofs.SourceIsFound.{source_is_found}
-use Rattle.swarm_machine.specs.Inside.{state_of}
+use Rattle.common_rows.specs.Rows.{state_of}
 use Rattle.swarm_machine.proofs.Holding.{kept_sound}
 use Rattle.swarm_machine.proofs.indexed_rows.IndexedRowsPoolQueries.newest_source.Goals as goal
 

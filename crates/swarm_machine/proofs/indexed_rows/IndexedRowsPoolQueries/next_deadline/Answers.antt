@@ -1,5 +1,5 @@
 -- The deadlines at hand are those of the rows.
-use Rattle.swarm_machine.specs.Inside.{state_of}
+use Rattle.common_rows.specs.Rows.{state_of}
 use Rattle.swarm_machine.proofs.Holding.{kept_sound}
 use Rattle.swarm_machine.proofs.indexed_rows.IndexedRowsPoolQueries.next_deadline.Goals as goal
 

@@ -1,7 +1,7 @@
 -- The task that is found by caller and uuid is the one that was sent.
 use Rattle.std.proofs.Common.{◌∙◌}
 use Rattle.index_laws.proofs.UuidLinks.{uuid_is_found}
-use Rattle.swarm_machine.specs.Inside.{state_of}
+use Rattle.common_rows.specs.Rows.{state_of}
 use Rattle.swarm_machine.proofs.Holding.{kept_sound}
 use Rattle.swarm_machine.proofs.indexed_rows.IndexedRowsPoolQueries.sent.Goals as goal
 

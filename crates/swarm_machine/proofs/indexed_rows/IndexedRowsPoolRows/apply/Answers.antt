@@ -10,7 +10,7 @@ use Rattle.pool_changes.proofs.Growing.{brought_is}
 use Rattle.pool_log.specs.Reached.{MayComeNext}
 use Rattle.pool_log.specs.Plain.{RowsState}
 use Rattle.pool_log.proofs.Reached.{few_placed, reached_after}
-use Rattle.swarm_machine.specs.Inside.{state_of}
+use Rattle.common_rows.specs.Rows.{state_of}
 use Rattle.swarm_machine.proofs.Committing.{made_for}
 use Rattle.swarm_machine.proofs.Holding.{kept_sound, few_tasks, few_uses}
 use Rattle.swarm_machine.proofs.indexed_rows.IndexedRowsPoolRows.apply.Goals as goal

@@ -2,7 +2,7 @@
 use Rattle.std.proofs.Common.{refl, subst, length, IfSome, IsTrue}
 use Rattle.swarm_model.specs.Finding.{has_blob}
 use Rattle.pool_log.specs.Plain.{RowsState}
-use Rattle.swarm_machine.specs.Inside.{state_of}
+use Rattle.common_rows.specs.Rows.{state_of}
 use Rattle.swarm_machine.proofs.indexed_rows.IndexedRowsPoolRows.bytes.Goals as goal
 
 pub returns-clause-sized : goal.returns-clause-sized

@@ -1,7 +1,7 @@
 -- Rows from which a pool may open are those to which the empty log leads from them.
 use Rattle.std.proofs.Common.{◌≡◌, sym, subst}
 use Rattle.pool_log.proofs.Reached.{base_is_reached}
-use Rattle.swarm_machine.specs.Inside.{state_of}
+use Rattle.common_rows.specs.Rows.{state_of}
 use Rattle.swarm_machine.specs.Indexes.{AreIndexes}
 use Rattle.swarm_machine.proofs.indexed_rows.IndexedRowsPoolRows.of_rows.Goals as goal
 

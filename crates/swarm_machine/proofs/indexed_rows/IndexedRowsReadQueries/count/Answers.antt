@@ -1,7 +1,7 @@
 -- The counts are those of the rows.
 use Rattle.std.proofs.Common.{ℕ, List, ap, ◌∙◌, slice_index_or, sym}
 use Rattle.swarm_model.specs.History.{count_in, tally}
-use Rattle.swarm_machine.specs.Inside.{state_of}
+use Rattle.common_rows.specs.Rows.{state_of}
 use Rattle.swarm_machine.proofs.Counts.{count_all, count_at}
 use Rattle.swarm_machine.proofs.indexed_rows.IndexedRowsReadQueries.count.Goals as goal
 

@@ -15,7 +15,7 @@ use Rattle.index_laws.proofs.ToCome.{place_ready}
 use Rattle.index_laws.proofs.SourceHash.{source_hash_is_known_before}
 use Rattle.index_laws.proofs.SourcesFollow.{sources_follow}
 use Rattle.index_laws.proofs.UuidLinks.{uuids_follow, uuids_are_fresh}
-use Rattle.swarm_machine.specs.Inside.{state_of}
+use Rattle.common_rows.specs.Rows.{state_of}
 use Rattle.swarm_machine.specs.Indexes.{state_of_row, AreIndexes}
 use Rattle.swarm_machine.specs.UsesBehind.{AreUses}
 use Rattle.swarm_machine.proofs.Following.{blob_ends_after, counts_after, task_ends_after, bot_ends_after}

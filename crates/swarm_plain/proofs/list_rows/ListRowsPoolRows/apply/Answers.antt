@@ -1,5 +1,5 @@
 -- The rows go on by what an entry does that may come next.
-use Rattle.std.proofs.Common.{ℕ, List, Bor, sym, ap, ◌∙◌}
+use Rattle.std.proofs.Common.{ℕ, List, Bor, ap, ◌∙◌}
 use Rattle.std.specs.Option.{option_map}
 use Rattle.content_store.specs.Contents.{bytes_of}
 use Rattle.swarm_model.specs.Bytes.{held_after}
@@ -8,7 +8,7 @@ use Rattle.pool_changes.proofs.Growing.{brought_is}
 use Rattle.pool_log.specs.Reached.{MayComeNext}
 use Rattle.pool_log.specs.Plain.{RowsState}
 use Rattle.pool_log.proofs.Reached.{few_placed, reached_after}
-use Rattle.swarm_plain.specs.Inside.{state_of}
+use Rattle.common_rows.specs.Rows.{state_of}
 use Rattle.swarm_plain.proofs.Holding.{kept_sound, made_for}
 use Rattle.swarm_plain.proofs.list_rows.ListRowsPoolRows.apply.Goals as goal
 
@@ -18,34 +18,15 @@ apply-requires-clause-sound c = kept_sound c.self.inside c.self.invariant
 pub apply-requires-clause-follows : goal.apply-requires-clause-follows
 apply-requires-clause-follows c = (rw (← c.self.view_is) at c.requires.next).follows
 
-pub apply-requires-clause-of_pool : goal.apply-requires-clause-of_pool
-apply-requires-clause-of_pool c = c.self.invariant.of_pool
-
 pub apply-requires-clause-number : goal.apply-requires-clause-number
 apply-requires-clause-number c = few_placed (state_of c.self.inside.rows) c.args.entry.now (rw (← c.self.view_is) at c.requires.next)
 
 pub apply-requires-clause-bytes : goal.apply-requires-clause-bytes
 apply-requires-clause-bytes c = brought_is c.args.entry.now.kind c.args.bytes c.requires.bytes
 
-pub apply-requires-clause-task : goal.apply-requires-clause-task
-apply-requires-clause-task c =
-    let ready = ap (λ (kept : RowsState). kept.ready) c.self.view_is ∙ c.requires.ready in
-    (made_for c.self.inside.rows c.self.inside.ready c.in-Some.ready c.args.entry.now c.self.invariant.prepared (sym c.take.ensures.value ∙ c.in-Some.is) ready).task
-
-pub apply-requires-clause-bot : goal.apply-requires-clause-bot
-apply-requires-clause-bot c =
-    let ready = ap (λ (kept : RowsState). kept.ready) c.self.view_is ∙ c.requires.ready in
-    (made_for c.self.inside.rows c.self.inside.ready c.in-Some.ready c.args.entry.now c.self.invariant.prepared (sym c.take.ensures.value ∙ c.in-Some.is) ready).bot
-
-pub apply-requires-clause-room : goal.apply-requires-clause-room
-apply-requires-clause-room c =
-    let ready = ap (λ (kept : RowsState). kept.ready) c.self.view_is ∙ c.requires.ready in
-    (made_for c.self.inside.rows c.self.inside.ready c.in-Some.ready c.args.entry.now c.self.invariant.prepared (sym c.take.ensures.value ∙ c.in-Some.is) ready).room
-
-pub apply-requires-clause-chunk : goal.apply-requires-clause-chunk
-apply-requires-clause-chunk c =
-    let ready = ap (λ (kept : RowsState). kept.ready) c.self.view_is ∙ c.requires.ready in
-    (made_for c.self.inside.rows c.self.inside.ready c.in-Some.ready c.args.entry.now c.self.invariant.prepared (sym c.take.ensures.value ∙ c.in-Some.is) ready).chunk
+pub apply-requires-clause-ready : goal.apply-requires-clause-ready
+apply-requires-clause-ready c =
+    made_for c.self.inside c.self.invariant c.args.entry.now (ap (λ (kept : RowsState). kept.ready) c.self.view_is ∙ c.requires.ready)
 
 pub invariant_of-self : goal.invariant_of-self
 invariant_of-self c =
@@ -53,7 +34,7 @@ invariant_of-self c =
     let next : MayComeNext s c.args.entry.now = rw (← c.self.view_is) at c.requires.next in
     record {
       reached = reached_after s c.args.entry.now next (state_of c.apply.new.self) c.apply.ensures.state;
-      of_pool = c.apply.ensures.of_pool;
+      of_settings = c.apply.ensures.of_settings;
       prepared = rw c.take.ensures.after tt;
     }
 

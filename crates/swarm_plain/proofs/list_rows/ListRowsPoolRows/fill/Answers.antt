@@ -4,7 +4,7 @@ use Rattle.content_store.specs.Contents.{bytes_of}
 use Rattle.swarm_model.specs.declared.pool_state.PoolState.{PoolState}
 use Rattle.swarm_model.specs.Bytes.{filled, held_after_fill}
 use Rattle.pool_log.specs.Plain.{RowsState}
-use Rattle.swarm_plain.specs.Inside.{state_of}
+use Rattle.common_rows.specs.Rows.{state_of}
 use Rattle.swarm_plain.proofs.list_rows.ListRowsPoolRows.fill.Goals as goal
 
 pub returns-clause-told : goal.returns-clause-told

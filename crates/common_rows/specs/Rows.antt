@@ -1,12 +1,13 @@
--- What the rows stand for, and what lies ready for an entry.
+-- What the rows of a pool stand for, and what lies ready for an entry.
 use Rattle.std.specs.Prelude.{◌≡◌, ℕ, List, Option, Some}
-use Rattle.swarm_machine.specs.Types.{PoolState, EntryKind}
+use Rattle.swarm_model.specs.declared.pool_state.PoolState.{PoolState}
+use Rattle.swarm_model.specs.declared.entry.EntryKind.{EntryKind}
 use Rattle.swarm_model.specs.Answers.{entry_at}
 use Rattle.swarm_model.specs.Bytes.{held_after}
 use Rattle.swarm_model.specs.Effects.{after}
 use Rattle.row_changes.specs.Parts.{bot_parts, task_parts}
 use Rattle.pool_changes.specs.Blobs.{held_in, IsOfPool}
-use Rattle.swarm_machine.specs.declared.rows.Rows.{Rows}
+use Rattle.common_rows.specs.declared.rows.Rows.{Rows}
 
 -- the state that the rows stand for
 abbrev pub state_of : Rows → PoolState

@@ -1,26 +1,31 @@
 //! The rows of a pool, which follow its log.
-ghost use Rattle.std.specs.Prelude.{◌≡◌, ◌+◌, ◌<◌, ◌≤◌, ◌^◌, IfOk, OnOk};
-ghost use Rattle.std.specs.Option.{option_map};
+ghost use Rattle.std.specs.Prelude.{◌≡◌, ◌+◌, ◌<◌, ◌≤◌, ◌^◌, IfOk, OnOk, IfSome};
+ghost use Rattle.std.specs.Option.{option_map, option_copied};
 ghost use Rattle.swarm_model.specs.BaseRules.{IsBase};
 ghost use Rattle.swarm_model.specs.Bytes.{nothing_held};
+ghost use Rattle.swarm_model.specs.Deadlines.{runner_of, bot_end};
 ghost use Rattle.swarm_model.specs.Effects.{run_of_bot};
+ghost use Rattle.swarm_model.specs.Finding.{bot_of};
 ghost use Rattle.swarm_model.specs.History.{MayFollow};
 ghost use Rattle.swarm_model.specs.Soundness.{IsSound};
+ghost use Rattle.row_changes.specs.Rows.{IsHeard};
 ghost use Rattle.pool_changes.specs.Blobs.{AreBrought, fresh_in, held_in};
-ghost use Rattle.swarm_machine.specs.Inside.{state_of, IsReadyFor, IsOfSettings, IsAfter};
+ghost use Rattle.common_rows.specs.Rows.{state_of, IsReadyFor, IsOfSettings, IsAfter};
 
+use crate::changing::{self, change_rows};
+use crate::loading::{load_bots, load_tasks};
 use bot_registry::Registry;
-use common_rows::{change_rows, load_bots, load_tasks};
 use content_store::Blobs;
 use dimensions::TryCopy;
 use pool_changes::{blob_effect, change_blobs, load_blobs};
+use row_changes::death_of;
 use std::alloc::{AllocError, Global};
-use swarm_model::{Chunk, Entry, EntryKind, PoolSettings, PoolState};
+use swarm_model::{BotRow, Chunk, Deadline, Entry, EntryKind, PoolSettings, PoolState, TaskRow};
 use task_rows::TaskRows;
 
 /// The rows of a pool.
 #[derive(Drop)]
-pub(crate) struct Rows {
+pub struct Rows {
     pub settings: PoolSettings,
     pub last: u64,
     pub tasks: TaskRows,
@@ -72,11 +77,37 @@ impl Rows {
         }
     }
 
+    /// The bot of a number.
+    pub fn bot_of(&self, number: u32) -> Option<&BotRow>
+        requires { IsSound (state_of self.now) }
+        ensures value { option_copied result ≡ bot_of (state_of self.now) number }
+        ensures heard { IfSome (option_copied result) IsHeard }
+    {
+        self.bots.bot(number)
+    }
+
+    /// The bot of a run.
+    pub fn runner_of(&self, task: &TaskRow) -> Option<&BotRow>
+        requires { IsSound (state_of self.now) }
+        ensures value { option_copied result ≡ runner_of (state_of self.now) task.now }
+        ensures heard { IfSome (option_copied result) IsHeard }
+    {
+        self.bot_of(task.attempt.as_ref()?.bot)
+    }
+
+    /// When a bot counts as dead, if it stays silent.
+    pub fn bot_end(&self, bot: &BotRow) -> Option<Deadline>
+        requires { IsHeard bot.now }
+        ensures { result ≡ bot_end (state_of self.now) bot.now }
+    {
+        death_of(self.settings.death_timeout_secs, bot)
+    }
+
     /// The task that the bot of a number runs.
     pub fn run_of_bot(&self, b: u32) -> Option<u32>
         ensures { result ≡ run_of_bot (state_of self.now) b }
     {
-        common_rows::run_of_bot(&self.bots, b)
+        changing::run_of_bot(&self.bots, b)
     }
 
     /// How many seconds a blob is kept.

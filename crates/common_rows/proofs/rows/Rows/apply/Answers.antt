@@ -3,14 +3,15 @@ use Rattle.std.proofs.Common.{◌≡◌, ℕ, Bor, ap, refl, sym, ◌∙◌, Lis
 use Rattle.std.specs.Option.{option_map}
 use Rattle.blob_rows.specs.BlobRows.{BlobRowsState}
 use Rattle.content_store.specs.StoredRows.{rows_in}
-use Rattle.swarm_machine.specs.Types.{Chunk, PoolState}
+use Rattle.swarm_model.specs.declared.attempt.Chunk.{Chunk}
+use Rattle.swarm_model.specs.declared.pool_state.PoolState.{PoolState}
 use Rattle.swarm_model.specs.Effects.{life, blobs_in, with_rows, with_blobs, after}
 use Rattle.pool_changes.specs.declared.effects.BlobEffect.{BlobEffect}
 use Rattle.pool_changes.specs.Blobs.{held_in, blob_effect, effect_of, rows_with, held_with}
 use Rattle.pool_changes.proofs.BlobEffects.{with_blobs_is, held_is, can_change}
-use Rattle.swarm_machine.specs.Inside.{state_of}
+use Rattle.common_rows.specs.Rows.{state_of}
 use Rattle.common_rows.proofs.Entering.{suits_tasks, follows_bots}
-use Rattle.swarm_machine.proofs.rows.Rows.apply.Goals as goal
+use Rattle.common_rows.proofs.rows.Rows.apply.Goals as goal
 
 pub change_rows-requires-clause-suits : goal.change_rows-requires-clause-suits
 change_rows-requires-clause-suits c = suits_tasks (state_of c.args.self.now) c.args.entry.now c.requires.sound c.requires.follows
