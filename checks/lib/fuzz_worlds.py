@@ -1,5 +1,5 @@
 """Worlds of random turns between a bot and its pool, with what the model says that stands in each at its end.
-`crates/test_two_ends` plays them.
+`crates/test_rows` plays them.
 
 A part of `checks/fuzz`; it is no check of its own.
 """
@@ -15,7 +15,7 @@ import time
 from lib.model_worlds import Reader
 
 # The file with worlds that the gate plays, and how many it has.
-FILE = os.path.join(os.path.dirname(os.path.dirname(os.path.dirname(os.path.abspath(__file__)))), "crates", "test_two_ends", "data", "random.worlds")
+FILE = os.path.join(os.path.dirname(os.path.dirname(os.path.dirname(os.path.abspath(__file__)))), "crates", "test_rows", "data", "worlds", "random.worlds")
 WORLDS_OF_THE_FILE = 200
 SEED = 20240229
 TURNS = 40
@@ -215,12 +215,12 @@ def run(asked):
     """Plays so many worlds by the program, and prints the figures: the status of the check."""
     maker, began, passed, failed, number, last = Maker(asked.seed), time.monotonic(), 0, 0, asked.session or 0, asked.count + (asked.session or 0)
     while number < last and not failed:
-        folder = tempfile.mkdtemp()
-        many = 0
+        folder, many = tempfile.mkdtemp(), 0
+        os.mkdir(os.path.join(folder, "worlds"))
         for place in range(FILES_OF_A_RUN):
             count = min(WORLDS_OF_A_FILE, last - number)
             if count:
-                with open(os.path.join(folder, f"fuzz_{place}.worlds"), "w", encoding="ascii") as file:
+                with open(os.path.join(folder, "worlds", f"fuzz_{place}.worlds"), "w", encoding="ascii") as file:
                     file.write(text_of(maker, number, count))
             number, many = number + count, many + count
         done = subprocess.run([os.path.abspath(asked.worlds), folder], capture_output=True, text=True, check=False)

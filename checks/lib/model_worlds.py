@@ -1,7 +1,7 @@
 """The program's bot and its pool, with all that is lost, repeated and reordered between them.
 
 The bot is written from docs/protocol.md alone ("The program's bot"), turn by turn, and its pool is that of the
-model of the server. What a world has is told in the words of `crates/test_two_ends`. It is no check of its own.
+model of the server. What a world has is told in the words of `crates/test_rows`. It is no check of its own.
 """
 from lib import model_calls as calls
 from lib.model import READERS
@@ -419,7 +419,7 @@ def run_text(run):
 
 
 class Reader:
-    """Plays the worlds of a text, as `crates/test_two_ends` does, and tells the first difference."""
+    """Plays the worlds of a text, as `crates/test_rows` does, and tells the first difference."""
 
     def __init__(self):
         self.numbers, self.limits, self.requests, self.steps, self.world = {"store_units": 64}, (100, 1000, 100000), {}, {}, None

@@ -1,9 +1,8 @@
 //! Transcripts of the files of a folder.
 
-use crate::TranscriptTest;
+use crate::{TextTest, TranscriptTest, check_folder, tell};
 use std::io;
 use std::rt::Files;
-use test_folders::{TextTest, check_folder, tell};
 use test_transcript_reader::{Conversation, Transcript, TranscriptError, read};
 
 /// The first of these transcripts, and those behind it that go on with its store.

@@ -1,2 +1,0 @@
-mod NewMachines
-mod NextLines

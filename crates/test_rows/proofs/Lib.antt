@@ -1,0 +1,3 @@
+mod NewMachines
+mod NextLines
+mod OnePool
