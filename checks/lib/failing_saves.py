@@ -11,15 +11,14 @@ import hashlib
 import json
 import os
 import re
-import signal
 import subprocess
 
 from lib import records, serving
 from lib.failing_disks import Fault, program
 
 LINES = 10
-# Of a batch that two runs send, so that the first is at work for a while.
-MANY_LINES = 400
+# How long a save of the first of two runs is held up, so that the second comes meanwhile.
+HELD_SECONDS = 3
 NAME = "nightly"
 SECONDS = 30
 # The calls of a save, each of which fails: for these errors, by their names and what the system says of them.
@@ -135,16 +134,16 @@ def check_calls(results, folder, server):
 
 
 def check_two_runs(results, folder, server):
-    """A second run over the file of one that goes on."""
-    batch = Batch(os.path.join(folder, "two"), server, MANY_LINES)
-    with batch.spawn() as first:
+    """A second run over the file of one whose second save is held up."""
+    batch = Batch(os.path.join(folder, "two"), server)
+    held = f"inject=fsync:delay_enter={HELD_SECONDS * 10**6}:when=2"
+    words = ["strace", "-f", "-qq", "-e", "signal=none", "-P", batch.new, "-e", "trace=fsync", "-e", held, "-o", f"{batch.folder}/trace"]
+    with batch.spawn(words) as first:
         serving.wait_until(lambda: batch.progress() or first.poll() is not None)
-        first.send_signal(signal.SIGSTOP)
-        stopped = batch.progress()
-        results.check("the first of two runs goes on", True, first.poll() is None and 0 < len(stopped.splitlines()) - 1 < MANY_LINES)
+        saved = batch.progress()
         results.check("the second of two runs", can_not_write(batch, "another run saves it"), batch.run())
-        results.check("the second of two runs saves nothing", stopped, batch.progress())
-        first.send_signal(signal.SIGCONT)
+        results.check("the second of two runs saves nothing", saved, batch.progress())
+        results.check("the first of two runs goes on", (True, 1), (first.poll() is None, len((saved or batch.head).splitlines()) - 1))
         status, output, log = outcome(first)
     results.check("the first of two runs", (0, []), (status, log))
     results.check("the first of two runs: its progress", batch.head + output, batch.progress())
@@ -157,7 +156,7 @@ def check_all(results, folder):
         check_calls(results, folder, server)
         before = tasks_of(server)
         check_two_runs(results, folder, server)
-        results.check("two runs send no line twice", MANY_LINES, tasks_of(server) - before)
+        results.check("two runs send no line twice", LINES, tasks_of(server) - before)
 
 
 def tasks_of(server):
