@@ -14,12 +14,14 @@ ghost use Rattle.board_sessions.specs.Steps.{Answers};
 use dimensions::Seq;
 use pool_views::Views;
 use std::alloc::Global;
-use swarm_http::{PoolCall, Received, Refusal, ReplyBytes, ServedCalls, read_call, whole_reply};
+use swarm_http::{
+    PermittedCall, Received, Refusal, ReplyBytes, ServedCalls, read_call, whole_reply,
+};
 use swarm_model::Settings;
 
 /// Asks the view of the call's pool. A reply for which there is no memory has no front, also where the
 /// view answered.
-fn ask_view<V: Views>(alloc: Global, call: &PoolCall, views: &mut V) -> ReplyBytes
+fn ask_view<V: Views>(alloc: Global, call: &PermittedCall, views: &mut V) -> ReplyBytes
     requires low { call.now.asked.place < 4 }
     requires place { call.now.asked.place < length (V.known views.old) }
     requires reads { IsTrue (reads_rows call.now.asked.request) }

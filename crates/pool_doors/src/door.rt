@@ -1,10 +1,12 @@
 ghost use Rattle.std.specs.Prelude.{◌<◌, ◌^◌, length, slice_get, IsTrue, IsSomeAnd};
 ghost use Rattle.swarm_model.specs.Bytes.{Carries};
 ghost use Rattle.swarm_model.specs.Fits.{fits};
+ghost use Rattle.pool_doors.specs.Calls.{call_of};
 ghost use Rattle.pool_doors.specs.Doors.{DoorState, IsCall};
 
-use dimensions::{Seq, Text};
-use swarm_model::{Reply, Request};
+use crate::pool_call::PoolCall;
+use dimensions::Seq;
+use swarm_model::Reply;
 
 /// Why a call was not answered.
 #[derive(Clone, Copy, Debug, PartialEq, Eq)]
@@ -31,22 +33,12 @@ pub trait Door {
     /// What the door tells.
     ghost state: { Self → DoorState };
 
-    /// Answers a request of `who` to the pool at the place, at the moment or, where that is past,
-    /// at the moment of the log's last entry. `after` is the length of a log that the caller has
-    /// seen, `bytes` what the request carries.
-    fn call(
-        &mut self,
-        place: u32,
-        moment: u64,
-        after: Option<u64>,
-        who: &Text,
-        request: &Request,
-        bytes: &[u8],
-    ) -> Result<Answered, CallFault>
+    /// Answers a request to the pool at the place, at the call's moment or, where that is past, at
+    /// the moment of the log's last entry.
+    fn call(&mut self, place: u32, call: &PoolCall) -> Result<Answered, CallFault>
         requires place { place < length (state self.old).settings.pools }
-        requires fits { IsSomeAnd (slice_get (state self.old).settings.pools place) (λ pool. IsTrue (fits pool request.now)) }
-        requires carries { Carries request.now bytes.now }
+        requires fits { IsSomeAnd (slice_get (state self.old).settings.pools place) (λ pool. IsTrue (fits pool call.now.request.now)) }
+        requires carries { Carries call.now.request.now call.now.bytes.now }
         requires calls { (state self.old).calls < 2 ^ 40 }
-        ensures { IsCall (state self.old) (state self.new) place
-            (record { pass = (state self.old).writer.numbers place; caller = who.now; moment = moment; after = after; request = request.now }) result };
+        ensures { IsCall (state self.old) (state self.new) place (call_of ((state self.old).writer.numbers place) call.now) result };
 }

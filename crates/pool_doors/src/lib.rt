@@ -12,5 +12,7 @@
 #![tactic(auto)]
 
 mod door;
+mod pool_call;
 
 pub use door::{Answered, CallFault, Door};
+pub use pool_call::PoolCall;

@@ -9,12 +9,10 @@ use crate::places::take_at;
 use crate::server::{Passes, Server};
 use crate::shared_desk::take_turn;
 use crate::view::Lasting;
-use dimensions::Text;
-use pool_doors::{Answered, CallFault, Door};
+use pool_doors::{Answered, CallFault, Door, PoolCall};
 use std::sync::Wait;
-use swarm_history::PoolCall;
 use swarm_keeper::Keeper;
-use swarm_model::{Entry, Machine, Request};
+use swarm_model::{Entry, Machine};
 use turnstile::{Counted, Pass};
 
 /// A door to the pools of a server, to which others write as well. A call waits for the turn of its
@@ -62,26 +60,11 @@ impl<'a, M: Machine + Drop, K: Keeper + Drop, R: Wait> SharedDoor<'a, M, K, R> {
 impl<'a, M: Machine + Drop, K: Keeper + Drop, R: Wait> Door for SharedDoor<'a, M, K, R> {
     ghost state = { λ d. shared_door d.server.now.store (pools_of (lasting_in M.kept) d.server.now.turnstiles.items) (identities_of d.server.now.turnstiles.items) (views d.passes.items) };
 
-    fn call(
-        &mut self,
-        place: u32,
-        moment: u64,
-        after: Option<u64>,
-        who: &Text,
-        request: &Request,
-        bytes: &[u8],
-    ) -> Result<Answered, CallFault> {
+    fn call(&mut self, place: u32, call: &PoolCall) -> Result<Answered, CallFault> {
         let at = place as usize;
         let pass = take_at(&mut self.passes, at);
         let turnstile = &self.server.turnstiles[at];
-        let call = PoolCall {
-            moment,
-            after,
-            who,
-            request,
-            bytes,
-        };
-        let (result, pass) = take_turn(self.rt, self.server.alloc, turnstile, pass, &call);
+        let (result, pass) = take_turn(self.rt, self.server.alloc, turnstile, pass, call);
         self.passes[at] = Some(pass);
         result
     }

@@ -8,7 +8,7 @@
 //! keeper tells its records, they tell where the log begins, their lines are those of the log, and the
 //! blobs of the pool have their bytes in them (`specs/Records.antt`).
 //!
-//! What a call does at its point stands in [`serve`], of a [`PoolCall`] over a [`Desk`]: settling,
+//! What a call does at its point stands in [`serve`], of a [`PoolCall`](pool_doors::PoolCall) over a [`Desk`]: settling,
 //! answering, and keeping what is added. A door whose machines are shared with others has a desk of its own.
 //!
 //! The door holds the bytes of each blob of its pools: those of a request are handed on with the
@@ -32,7 +32,6 @@ mod loading;
 mod pieces;
 mod plain_desk;
 mod plain_door;
-mod pool_call;
 mod serving;
 mod settling;
 mod unkept;
@@ -43,6 +42,5 @@ pub use desk::Desk;
 pub use load_fault::LoadFault;
 pub use pieces::pieces_of;
 pub use plain_door::PlainDoor;
-pub use pool_call::PoolCall;
 pub use serving::serve;
 pub use unkept::serve_unkept;

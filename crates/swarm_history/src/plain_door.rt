@@ -7,9 +7,9 @@ ghost use Rattle.swarm_model.specs.Fits.{fits};
 ghost use Rattle.swarm_model.specs.MachineState.{IsHistory};
 ghost use Rattle.swarm_model.specs.Points.{Growth};
 ghost use Rattle.swarm_model.specs.Settings.{are_settings};
+ghost use Rattle.pool_doors.specs.Calls.{call_of};
 ghost use Rattle.pool_doors.specs.Doors.{base_told, IsPoolCall, IsFreshDoor, CountsKeeper};
 ghost use Rattle.pool_loading.specs.Records.{AreFilled};
-ghost use Rattle.swarm_history.specs.Calls.{call_of};
 ghost use Rattle.swarm_history.specs.Checkpoints.{IsCheckpointed, IsCountFull, LeavesRestorable};
 ghost use Rattle.swarm_history.specs.Machines.{logs_of, own_door, pools_of, start_at, starts_of};
 ghost use Rattle.swarm_history.specs.Records.{AreBasesOf, AreKept, AreRecordsOf, AreMachineRecords, AreRestorable, HoldsNoOthers, IsFirstBadRecord};
@@ -20,13 +20,12 @@ use crate::checkpointing::begin_all_anew;
 use crate::load_fault::LoadFault;
 use crate::loading::load_machines;
 use crate::plain_desk::PlainDesk;
-use crate::pool_call::PoolCall;
 use crate::serving::serve;
 use dimensions::{Text, TryCopy};
-use pool_doors::{Answered, CallFault, Door};
+use pool_doors::{Answered, CallFault, Door, PoolCall};
 use std::alloc::Global;
 use swarm_keeper::Keeper;
-use swarm_model::{Machine, Request, Settings};
+use swarm_model::{Machine, Settings};
 
 /// A door over machines and keepers of its own, one of each for each pool, which no other door
 /// shares. Its pass has number 0.
@@ -213,25 +212,10 @@ impl<M: Machine + Drop, K: Keeper + Drop> PlainDoor<M, K> {
 impl<M: Machine + Drop, K: Keeper + Drop> Door for PlainDoor<M, K> {
     ghost state = { λ d. own_door d.store (map M.kept d.machines.items) (map K.tables d.keepers.items) (sum_by K.faults d.keepers.items) d.calls };
 
-    fn call(
-        &mut self,
-        place: u32,
-        moment: u64,
-        after: Option<u64>,
-        who: &Text,
-        request: &Request,
-        bytes: &[u8],
-    ) -> Result<Answered, CallFault> {
+    fn call(&mut self, place: u32, call: &PoolCall) -> Result<Answered, CallFault> {
         self.calls += 1;
         let machine = &mut self.machines[place as usize];
         let keeper = &mut self.keepers[place as usize];
-        let call = PoolCall {
-            moment,
-            after,
-            who,
-            request,
-            bytes,
-        };
-        call_machine(self.alloc, machine, keeper, &call)
+        call_machine(self.alloc, machine, keeper, call)
     }
 }

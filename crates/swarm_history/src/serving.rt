@@ -7,16 +7,15 @@ ghost use Rattle.swarm_model.specs.Answers.{answer};
 ghost use Rattle.swarm_model.specs.Deadlines.{due_entry};
 ghost use Rattle.swarm_model.specs.MachineState.{IsHistory};
 ghost use Rattle.swarm_model.specs.Points.{LacksRoom};
+ghost use Rattle.pool_doors.specs.Calls.{call_of};
 ghost use Rattle.pool_doors.specs.Doors.{is_log_full, CountsKeeper};
-ghost use Rattle.swarm_history.specs.Calls.{call_of};
 ghost use Rattle.swarm_history.specs.Records.{HoldsNoOthers};
 ghost use Rattle.swarm_history.specs.Settling.{IsUnchanged, Responds, HasFrontAndPieces, IsPointAlone, IsOwnStop};
 
 use crate::desk::Desk;
-use crate::pool_call::PoolCall;
 use crate::settling::settle;
 use dimensions::Seq;
-use pool_doors::{Answered, CallFault};
+use pool_doors::{Answered, CallFault, PoolCall};
 use std::alloc::Global;
 use swarm_model::{Answer, Entry, EntryKind, Reply, Rule, is_ahead};
 

@@ -8,10 +8,9 @@ ghost use Rattle.swarm_history.specs.Calls.{first_call};
 ghost use Rattle.swarm_history.specs.Settling.{HasFrontAndPieces, IsPointAlone, IsOwnStop};
 
 use crate::plain_desk::PlainDesk;
-use crate::pool_call::PoolCall;
 use crate::serving::serve;
 use dimensions::Text;
-use pool_doors::{Answered, CallFault};
+use pool_doors::{Answered, CallFault, PoolCall};
 use std::alloc::Global;
 use swarm_keeper::NoKeeper;
 use swarm_model::{Machine, Request};

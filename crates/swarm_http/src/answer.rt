@@ -13,10 +13,10 @@ ghost use Rattle.swarm_http.specs.Answered.{KeepsDoor};
 ghost use Rattle.swarm_http.specs.Steps.{Answers};
 
 use crate::ServedCalls;
-use crate::pool_call::{PoolCall, read_call};
+use crate::permitted_call::{PermittedCall, read_call};
 use crate::reply::{Refusal, ReplyBytes, whole_reply};
 use crate::request::Received;
-use pool_doors::{CallFault, Door};
+use pool_doors::{CallFault, Door, PoolCall};
 use std::alloc::Global;
 use sw_base::Clock;
 use swarm_model::Settings;
@@ -33,7 +33,7 @@ fn stop_refusal(why: CallFault) -> Refusal
 
 fn call_door<D: Door, C: Clock>(
     alloc: Global,
-    call: &PoolCall,
+    call: &PermittedCall,
     door: &mut D,
     clock: &mut C,
 ) -> ReplyBytes
@@ -49,14 +49,14 @@ fn call_door<D: Door, C: Clock>(
 {
     let place = call.asked.place;
     let moment = clock.now();
-    match door.call(
-        place,
+    let pool_call = PoolCall {
         moment,
-        call.after,
-        &call.who,
-        &call.asked.request,
-        call.asked.bytes.as_slice(),
-    ) {
+        after: call.after,
+        who: &call.who,
+        request: &call.asked.request,
+        bytes: call.asked.bytes.as_slice(),
+    };
+    match door.call(place, &pool_call) {
         Ok(answered) => {
             let pieces = answered.pieces;
             let front = Some(answered.front);

@@ -4,7 +4,7 @@ use Rattle.swarm_model.specs.declared.pool_settings.PoolSettings.{PoolSettings}
 use Rattle.swarm_model.specs.Bases.{empty_base}
 use Rattle.swarm_model.specs.Fits.{fits}
 use Rattle.swarm_model.specs.Points.{Call}
-use Rattle.swarm_history.specs.Calls.{call_of}
+use Rattle.pool_doors.specs.Calls.{call_of}
 use Rattle.swarm_history.proofs.OwnPoints.{never_fails}
 use Rattle.turnstile.specs.Passes.{IsPassOf, fixed_of, number, of_value, pass_of, raised, seen, told}
 use Rattle.shared_doors.specs.Desks.{no_state}

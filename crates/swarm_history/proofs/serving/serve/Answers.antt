@@ -10,7 +10,7 @@ use Rattle.swarm_model.specs.Bases.{front}
 use Rattle.swarm_model.specs.Deadlines.{due_entry}
 use Rattle.swarm_model.specs.History.{moment_of}
 use Rattle.swarm_model.specs.Points.{is_ahead, LacksRoom}
-use Rattle.swarm_history.specs.Calls.{call_of}
+use Rattle.pool_doors.specs.Calls.{call_of}
 use Rattle.swarm_history.specs.Settling.{IsPointAlone, Responds, Settles}
 use Rattle.pool_doors.specs.Doors.{is_log_full}
 use Rattle.pool_laws.proofs.MachineLaws.{is_sound}

@@ -35,7 +35,7 @@ take_turn-result-requires g c =
       turns = turns_at (lasting_in g.M.Machine.kept) ts items c.args.place t own low at pass is 1099511627776 c.requires.calls;
       standing = standing_at (lasting_in g.M.Machine.kept) ts items c.args.place t own low at c.args.self.now.server.now.standing;
       sure = c.args.self.now.server.now.sure;
-      fits = fits_at (lasting_in g.M.Machine.kept) ts items c.args.place t own low at c.args.request.now c.requires.fits;
+      fits = fits_at (lasting_in g.M.Machine.kept) ts items c.args.place t own low at c.args.call.now.request.now c.requires.fits;
       carries = c.requires.carries;
     }
 
@@ -63,5 +63,5 @@ returns g c =
     let low = low_at (lasting_in g.M.Machine.kept) ts c.args.place c.requires.place in
     rw c.take_at-pass.ensures.taken
     (door_call (lasting_in g.M.Machine.kept) ts c.args.self.now.passes.items c.args.place c.index-turnstile.result.now c.args.self.now.own low c.index-turnstile.ensures
-    c.take_at-pass.result c.take_at-pass.ensures.pass c.args.self.now.server.now.store c.args.who.now c.args.moment c.args.after c.args.request.now
+    c.take_at-pass.result c.take_at-pass.ensures.pass c.args.self.now.server.now.store c.args.call.now.who.now c.args.call.now.moment c.args.call.now.after c.args.call.now.request.now
     c.take_turn-result.result.0 c.take_turn-result.result.1 c.take_turn-result.ensures.rest c.take_turn-result.ensures.no_fault c.take_turn-result.ensures.done)

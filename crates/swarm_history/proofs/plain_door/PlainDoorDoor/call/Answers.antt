@@ -5,6 +5,7 @@ use Rattle.std.specs.List.{sum_by}
 use Rattle.std.proofs.lemmas.List.{length-map, length-set}
 use Rattle.swarm_model.specs.declared.pool_settings.PoolSettings.{PoolSettings}
 use Rattle.swarm_model.specs.Fits.{fits}
+use Rattle.pool_doors.specs.Calls.{call_of}
 use Rattle.swarm_history.proofs.Keepers.{lines_kept, records_at, records_set, sum_grows, sum_counts}
 use Rattle.swarm_history.proofs.Machines.{within, machine_of, held_at, all_held, own_call}
 use Rattle.swarm_history.proofs.plain_door.PlainDoorDoor.call.Goals as goal
@@ -21,7 +22,7 @@ index_mut-keeper-requires g c =
 
 pub call_machine-requires-clause-fits : goal.call_machine-requires-clause-fits
 call_machine-requires-clause-fits g c =
-    machine_of g.M.Machine.kept (λ (pool : PoolSettings). IsTrue (fits pool c.args.request.now)) c.args.self.now.machines.items c.args.place
+    machine_of g.M.Machine.kept (λ (pool : PoolSettings). IsTrue (fits pool c.args.call.now.request.now)) c.args.self.now.machines.items c.args.place
     c.index_mut-machine.result.now c.requires.place c.index_mut-machine.ensures.value c.requires.fits
 
 pub call_machine-requires-clause-held : goal.call_machine-requires-clause-held
@@ -54,7 +55,7 @@ returns g c =
     let keepers = c.args.self.now.keepers.items in
     own_call g.M.Machine.kept g.K.Keeper.tables c.args.self.now.store machines keepers
     (sum_by faults keepers) (sum_by faults (set keepers c.args.place c.call_machine.new.keeper)) c.args.self.now.calls c.args.place
-    (record { pass = 0; caller = c.args.who.now; moment = c.args.moment; after = c.args.after; request = c.args.request.now })
+    (call_of 0 c.args.call.now)
     c.call_machine.result c.index_mut-machine.result.now c.call_machine.new.machine c.index_mut-keeper.result.now c.call_machine.new.keeper
     c.requires.place (omega (arith, low, paired)) c.index_mut-machine.ensures.value c.index_mut-keeper.ensures.value c.call_machine.ensures.start c.call_machine.ensures.settings
     (sum_grows faults keepers c.args.place c.index_mut-keeper.result.now c.call_machine.new.keeper (omega (arith, low, paired)) c.index_mut-keeper.ensures.value c.call_machine.ensures.grows)

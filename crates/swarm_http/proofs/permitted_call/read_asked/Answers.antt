@@ -2,7 +2,7 @@ use Rattle.std.proofs.Common.{refl, ap, ◌∙◌, Ok}
 use Rattle.swarm_wire.specs.Asking.{asked_of}
 use Rattle.swarm_http.specs.Requests.{with_front, broken_front}
 use Rattle.swarm_http.specs.Steps.{by_rule}
-use Rattle.swarm_http.proofs.pool_call.read_asked.Goals as goal
+use Rattle.swarm_http.proofs.permitted_call.read_asked.Goals as goal
 
 pub returns-in-Broken-clause-refused : goal.returns-in-Broken-clause-refused
 returns-in-Broken-clause-refused c =

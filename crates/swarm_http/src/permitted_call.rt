@@ -26,7 +26,7 @@ use swarm_wire::{Asked, Parts, WireFault, read_request};
 
 /// What a caller asks of a pool that permits it.
 #[derive(Drop)]
-pub struct PoolCall {
+pub struct PermittedCall {
     pub who: Text,
     /// The length of a log that the caller has seen.
     pub after: Option<u64>,
@@ -141,7 +141,7 @@ pub fn read_call(
     settings: &Settings,
     received: Received,
     serves: ServedCalls,
-) -> Result<PoolCall, ReplyBytes>
+) -> Result<PermittedCall, ReplyBytes>
     requires rules { IsTrue (are_settings settings.now) }
     requires short { IfSome received.body (λ body. length body.items ≤ 16777216) }
     ensures asks { (body : List ℕ) (head : RequestHead) → IsHeld received body head →
@@ -177,7 +177,7 @@ pub fn read_call(
     };
     match read_asked(alloc, settings, route, &parts, after, body) {
         Ok(asked) => match check_permission(alloc, settings, &who, &asked) {
-            Ok(()) => Ok(PoolCall {
+            Ok(()) => Ok(PermittedCall {
                 who,
                 after: front_of(after),
                 asked,

@@ -9,7 +9,7 @@ use Rattle.swarm_wire.specs.Asking.{asked_of}
 use Rattle.swarm_http.proofs.Asking.{route_refused, no_caller, body_left, body_asks, asks_permitted, left_refused}
 use Rattle.swarm_http.proofs.BoardCalls.{board_reads}
 use Rattle.swarm_http.proofs.Pools.{place_within}
-use Rattle.swarm_http.proofs.pool_call.read_call.Goals as goal
+use Rattle.swarm_http.proofs.permitted_call.read_call.Goals as goal
 
 pub returns-in-Err-clause-refused : goal.returns-in-Err-clause-refused
 returns-in-Err-clause-refused c = λ body head held.

@@ -3,7 +3,7 @@ use Rattle.swarm_model.specs.declared.rule.Rule.TheVariants as rule
 use Rattle.swarm_http.specs.Requests.{with_front}
 use Rattle.swarm_http.specs.Sends.{rule_of}
 use Rattle.swarm_http.specs.Steps.{by_rule}
-use Rattle.swarm_http.proofs.pool_call.fault_reply.Goals as goal
+use Rattle.swarm_http.proofs.permitted_call.fault_reply.Goals as goal
 
 pub returns-in-BadJson : goal.returns-in-BadJson
 returns-in-BadJson c = λ asked is.
