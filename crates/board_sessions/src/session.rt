@@ -10,7 +10,7 @@ use crate::answer::answer_request;
 use pool_views::Views;
 use std::alloc::Global;
 use sw_base::Link;
-use swarm_http::{Ended, Received, Replies, ReplyBytes, converse};
+use swarm_http::{Ended, Received, Replies, ReplyBytes, RequestReader, converse};
 use swarm_model::Settings;
 
 /// Views answer. They need no clock.
@@ -37,6 +37,7 @@ impl<V: Views> Replies<V, ()> for ByViews {
 pub fn board_session<V: Views, L: Link>(
     alloc: Global,
     settings: &Settings,
+    reader: &mut RequestReader,
     views: &mut V,
     link: &mut L,
 ) -> Ended
@@ -48,5 +49,5 @@ pub fn board_session<V: Views, L: Link>(
         (record { link = L.state link.new; views = V.known views.new }) result }
     ensures keeps { KeepsViews (V.known views.old) (V.known views.new) }
 {
-    converse::<V, (), ByViews, L>(alloc, settings, views, &mut (), link).ended
+    converse::<V, (), ByViews, L>(alloc, settings, reader, views, &mut (), link).ended
 }

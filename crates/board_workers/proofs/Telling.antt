@@ -1,15 +1,13 @@
 -- Sessions, as they are told of what they left.
-use Rattle.std.proofs.Common.{◌≡◌, ◌≢◌, ℕ, ◌<◌, ◌≤◌, List, [], ◌∷◌, map, refl, sym, ap, ◌∙◌, subst}
+use Rattle.std.proofs.Common.{◌≡◌, ℕ, ◌≤◌, List, [], ◌∷◌, map, refl, sym, ap, ◌∙◌, subst}
 use Rattle.std.specs.List.{AllByRecursion}
-use Rattle.std.proofs.lemmas.List.{length-map, map-append}
+use Rattle.std.proofs.lemmas.List.{length-map}
 use Rattle.sw_base.specs.Link.{LinkState}
 use Rattle.sw_base.specs.Told.{Loses, Gains}
 use Rattle.sw_base.specs.Acceptors.{AcceptorState}
-use Rattle.board_workers.specs.Types.{PoolSettings, Ended, Worked, WorkStop}
+use Rattle.board_workers.specs.Types.{PoolSettings, Ended, Worked}
 use Rattle.pool_views.specs.Views.{Known, pools_of}
-use Rattle.swarm_http.specs.declared.ended.Ended.TheVariants as ended
-use Rattle.swarm_workers.specs.declared.worked.WorkStop.TheVariants as stop
-use Rattle.swarm_workers.specs.Visits.{Visit, TellsFault, IsFaultCounted, NoneLacked, LastLacked, StopsServing, Follow, HasServed}
+use Rattle.swarm_workers.specs.Visits.{Visit, TellsFault, IsFaultCounted, Follow, HasServed}
 use Rattle.swarm_workers.proofs.Slices.{map_both}
 use Rattle.swarm_workers.proofs.Visiting.{all_mapped, visit_told}
 use Rattle.board_sessions.specs.Boards.{BoardState, IsBoardAnswered, KeepsViews}
@@ -38,27 +36,9 @@ module _ {X Y : Type 0} (look : X → Y) (does : LinkState → LinkState → End
   follow_told x y [] so = ap look so
   follow_told x y (v ∷ visits) so = (so.0, follow_told v.after y visits so.1)
 
-  had_told : (visits : List (Visit X)) → NoneLacked visits → NoneLacked (map (visit_told look) visits)
-  had_told visits had = all_mapped (λ (v : Visit X). v.ending ≢ ended.Memory) (λ (v : Visit Y). v.ending ≢ ended.Memory) (visit_told look) visits (λ v h. h) had
-
   counted_told : (visits : List (Visit X)) → AllByRecursion (λ (v : Visit X). IsFaultCounted v.first v.last v.ending) visits
       → AllByRecursion (λ (v : Visit Y). IsFaultCounted v.first v.last v.ending) (map (visit_told look) visits)
   counted_told visits all = all_mapped (λ (v : Visit X). IsFaultCounted v.first v.last v.ending) (λ (v : Visit Y). IsFaultCounted v.first v.last v.ending) (visit_told look) visits (λ v c. c) all
-
-  lacked_told : (visits : List (Visit X)) → LastLacked visits → LastLacked (map (visit_told look) visits)
-  lacked_told visits l = record {
-    earlier = map (visit_told look) l.earlier;
-    last = visit_told look l.last;
-    are = ap (map (visit_told look)) l.are ∙ map-append (visit_told look) l.earlier (l.last ∷ []);
-    before = had_told l.earlier l.before;
-    lacked = l.lacked;
-  }
-
-  stops_told : (why : WorkStop) (n : ℕ) (visits : List (Visit X)) (s t : AcceptorState) → StopsServing why n visits s t → StopsServing why n (map (visit_told look) visits) s t
-  stops_told stop.Done n visits s t so = (length-map visits (visit_told look) ∙ so.0, had_told visits so.1, so.2)
-  stops_told stop.NoMore n visits s t so = (subst (λ k. k < n) (sym (length-map visits (visit_told look))) so.0, had_told visits so.1, so.2, so.3)
-  stops_told stop.Failed n visits s t so = (subst (λ k. k < n) (sym (length-map visits (visit_told look))) so.0, had_told visits so.1, so.2)
-  stops_told stop.Memory n visits s t so = (lacked_told visits so.0, so.1)
 
   pub served_told : (s t : AcceptorState) (x y : X) (n : ℕ) (worked : Worked) → HasServed Looked s t x y n worked → HasServed does s t (look x) (look y) n worked
   served_told s t x y n worked h = record {
@@ -70,5 +50,5 @@ module _ {X Y : Type 0} (look : X → Y) (does : LinkState → LinkState → End
     out = h.out;
     counted = counted_told h.visits h.counted;
     sessions = follow_told x y h.visits h.sessions;
-    stops = stops_told worked.stop n h.visits s t h.stops;
+    stops = h.stops;
   }

@@ -11,7 +11,7 @@ use std::alloc::Global;
 use std::marker::Send;
 use std::thread::{self, Threads};
 use sw_base::{Acceptor, Link};
-use swarm_http::Ended;
+use swarm_http::{Ended, RequestReader};
 use swarm_model::Settings;
 use swarm_workers::{LinkSessions, Worked, serve_links};
 
@@ -38,11 +38,12 @@ impl<V: Views> LinkSessions<V, ()> for ViewSessions {
     fn session<L: Link>(
         alloc: Global,
         settings: &Settings,
+        reader: &mut RequestReader,
         desk: &mut V,
         _clock: &mut (),
         link: &mut L,
     ) -> Ended {
-        board_session(alloc, settings, desk, link)
+        board_session(alloc, settings, reader, desk, link)
     }
 }
 

@@ -14,7 +14,7 @@ use Rattle.swarm_cli.specs.declared.door_command.DoorCommand.TheVariants as comm
 use Rattle.swarm_cli.specs.declared.serving.DoorResult.{DoorResult}
 use Rattle.swarm_cli.specs.declared.serving.DoorResult.TheVariants as used
 use Rattle.remote_commands.specs.Streams.{Streams, PrintsMade}
-use Rattle.swarm_cli.specs.ServerWork.{CarriesOutWork, ServesConsole, ServesNothing, served, not_served, work_status}
+use Rattle.swarm_cli.specs.ServerWork.{CarriesOutWork, IsConsoleServed, ServesNothing, served, not_served, work_status}
 use Rattle.swarm_cli.specs.Handling.{IsUsed, IsFinished, work_of}
 use Rattle.swarm_cli.specs.KeptRecords.{TellsFault}
 use Rattle.swarm_cli.specs.SettingsFile.{RunsNew, no_memory}
@@ -39,7 +39,7 @@ pub does_all : (what : DoorCommand) (before after : DoorState) (o m : Streams) (
     → IsUsed what before after o m result → IsFinished result text m.console t status → text ≡ summary_of before.settings.pools before.writer.starts after.seen
     → CarriesOutWork (work_of what) before after o (with_console m t) status
 does_all command.Session before after o m t (used.Ended good) status text x y is =
-    subst (λ (u : Streams). ServesConsole before after o u status) (sym (same_console m t y.1)) (subst (λ (n : ℕ). ServesConsole before after o m n) (sym y.0) x)
+    subst (λ (u : Streams). IsConsoleServed before after o u status) (sym (same_console m t y.1)) (subst (λ (n : ℕ). IsConsoleServed before after o m n) (sym y.0) x)
 does_all command.Session before after o m t (used.Worked stop) status text x y is = absurd x
 does_all (command.Serve address connections) before after o m t (used.Ended good) status text x y is =
     not_served (subst (λ (u : Streams). ServesNothing before after o u status) (sym (same_console m t y.1)) (subst (λ (n : ℕ). ServesNothing before after o m n) (sym y.0) x))

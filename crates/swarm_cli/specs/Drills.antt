@@ -4,7 +4,7 @@ use Rattle.std.specs.List.{count_by}
 use Rattle.drill_requests.specs.Texts.{drill_bytes}
 use Rattle.sw_base.specs.Clock.{steps_from}
 use Rattle.sw_base.specs.Link.{LinkState, opened}
-use Rattle.swarm_cli.specs.Types.{Settings, Ended, Closed, LastAsked, CutShort, BadHead, Retired, ReadFault, WriteFault, Memory}
+use Rattle.swarm_cli.specs.Types.{Settings, Ended, Closed, LastAsked, CutShort, BadHead, Retired, ReadFault, WriteFault}
 use Rattle.swarm_policy.specs.Open.{open_pool, open_settings}
 use Rattle.pool_doors.specs.Doors.{DoorState, IsFreshDoor}
 use Rattle.swarm_http.specs.Exchange.{is_accepted}
@@ -29,7 +29,6 @@ drill_status LastAsked = 0
 drill_status Retired = 0
 drill_status ReadFault = 5
 drill_status WriteFault = 5
-drill_status Memory = 5
 drill_status CutShort = 7
 drill_status BadHead = 7
 
@@ -47,7 +46,7 @@ pub record Drilled (start cycles : ℕ) (s t : LinkState) (status : ℕ) : Type 
       (record { link = last; clock = ahead; door = after }) ended
   pub prints : PrintsMade (drill_text (length answered.xs) (count_by is_accepted answered.xs) (summary_of drill_settings.pools before.writer.starts after.seen)) (drill_status ended) s t status
 
--- a drill was carried out, or there was no memory for its input or its door
+-- a drill was carried out, or there was no memory for its input, its door or what reads it
 pub data Drills (start cycles : ℕ) (s t : LinkState) (status : ℕ) : Type 0 where
   drilled : Drilled start cycles s t status → Drills start cycles s t status
   no_memory : status ≡ 5 → t ≡ s → Drills start cycles s t status

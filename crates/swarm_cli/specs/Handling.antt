@@ -11,7 +11,7 @@ use Rattle.swarm_cli.specs.declared.serving.DoorResult.{DoorResult}
 use Rattle.swarm_cli.specs.declared.serving.DoorResult.TheVariants as used
 use Rattle.remote_commands.specs.Streams.{Streams, PrintsMade}
 use Rattle.swarm_cli.specs.ServerWork as deeds
-use Rattle.swarm_cli.specs.ServerWork.{ServerWork, session, serve, by_one, by_several, with_boards, ServesListener, ServesConsole, ServesNothing, work_status}
+use Rattle.swarm_cli.specs.ServerWork.{ServerWork, session, serve, by_one, by_several, with_boards, ServesListener, IsConsoleServed, ServesNothing, work_status}
 
 abbrev pub work_of : DoorCommand → ServerWork
 work_of command.Session = session
@@ -39,7 +39,7 @@ HasRanges service.Checkpoint = ⊤
 
 -- what is done before the door is ended
 abbrev pub IsUsed : DoorCommand → DoorState → DoorState → Streams → Streams → DoorResult → Type 0
-IsUsed command.Session before after o u (used.Ended status) = ServesConsole before after o u status
+IsUsed command.Session before after o u (used.Ended status) = IsConsoleServed before after o u status
 IsUsed command.Session before after o u (used.Worked stop) = ⊥
 IsUsed (command.Serve address connections) before after o u (used.Ended status) = ServesNothing before after o u status
 IsUsed (command.Serve address connections) before after o u (used.Worked stop) =

@@ -3,7 +3,7 @@ use Rattle.std.specs.Prelude.{◌≡◌, ◌==◌, if◌then◌else◌, ℕ, Lis
 use Rattle.std.specs.List.{flat_map}
 use Rattle.sw_base.specs.Acceptors.{AcceptorState}
 use Rattle.sw_base.specs.Listeners.{ListenerState, Gives, FailsToListen, Shuts}
-use Rattle.swarm_cli.specs.Types.{StartFault, PoolSettings, Ended, Closed, LastAsked, CutShort, BadHead, Retired, ReadFault, WriteFault, Memory, WorkStop}
+use Rattle.swarm_cli.specs.Types.{StartFault, PoolSettings, Ended, Closed, LastAsked, CutShort, BadHead, Retired, ReadFault, WriteFault, WorkStop}
 use Rattle.sw_base.specs.declared.start_fault.StartFault.TheVariants as start
 use Rattle.swarm_model.specs.Bases.{Base, empty_base}
 use Rattle.pool_doors.specs.Doors.{DoorState}
@@ -48,7 +48,6 @@ exit_status LastAsked = 0
 exit_status Retired = 0
 exit_status ReadFault = 4
 exit_status WriteFault = 4
-exit_status Memory = 5
 exit_status CutShort = 7
 exit_status BadHead = 7
 
@@ -59,6 +58,11 @@ pub record ServesConsole (before after : DoorState) (o u : Streams) (status : �
   pub logs_are : (p : ℕ) → after.seen p ≡ before.seen p ++ flat_map (entries_of p) answered.xs
   pub listener : u.listener ≡ o.listener
   pub status_is : status ≡ exit_status ended
+
+-- the console was served, or there was no memory to begin and nothing was done
+pub data IsConsoleServed (before after : DoorState) (o u : Streams) (status : ℕ) : Type 0 where
+  served_console : ServesConsole before after o u status → IsConsoleServed before after o u status
+  no_memory : after ≡ before → u ≡ o → status ≡ 5 → IsConsoleServed before after o u status
 
 -- ---- connections that come
 
@@ -111,5 +115,5 @@ pub data IsServedBy (address : List ℕ) (connections : ℕ) (before after : Doo
 
 -- what was done, between two states of the door and of the outside, with which status
 abbrev pub CarriesOutWork : ServerWork → DoorState → DoorState → Streams → Streams → ℕ → Type 0
-CarriesOutWork session before after o u status = ServesConsole before after o u status
+CarriesOutWork session before after o u status = IsConsoleServed before after o u status
 CarriesOutWork (serve address connections) before after o u status = IsServedBy address connections before after o u status

@@ -5,7 +5,7 @@ pub use Rattle.swarm_history.specs.declared.checkpoint_fault.CheckpointFault.{Ch
 pub use Rattle.swarm_history.specs.declared.checkpoint_fault.CheckpointWhy.{CheckpointWhy}
 pub use Rattle.swarm_history.specs.declared.load_fault.LoadFault.{LoadFault}
 pub use Rattle.swarm_http.specs.declared.ended.Ended.{Ended}
-pub use Rattle.swarm_http.specs.declared.ended.Ended.TheVariants.{BadHead, Closed, CutShort, LastAsked, Memory, ReadFault, Retired, WriteFault}
+pub use Rattle.swarm_http.specs.declared.ended.Ended.TheVariants.{BadHead, Closed, CutShort, LastAsked, ReadFault, Retired, WriteFault}
 pub use Rattle.swarm_model.specs.declared.entry.Entry.{Entry}
 pub use Rattle.swarm_model.specs.declared.pool_settings.PoolSettings.{PoolSettings}
 pub use Rattle.swarm_model.specs.declared.pool_settings.Settings.{Settings}

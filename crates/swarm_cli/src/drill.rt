@@ -15,7 +15,7 @@ use link_writer::print;
 use std::alloc::{AllocError, Global};
 use sw_base::{MemoryLink, StepClock};
 use swarm_history::PlainDoor;
-use swarm_http::{ConnectionCounts, Ended, Link, counted_session};
+use swarm_http::{ConnectionCounts, Ended, Link, RequestReader, counted_session};
 use swarm_keeper::NoKeeper;
 use swarm_machine::Pool;
 use swarm_model::{Machine, PoolSettings, Settings};
@@ -42,7 +42,7 @@ fn drill_status(ended: Ended) -> u8
 {
     match ended {
         Ended::Closed | Ended::LastAsked | Ended::Retired => 0,
-        Ended::ReadFault | Ended::WriteFault | Ended::Memory => 5,
+        Ended::ReadFault | Ended::WriteFault => 5,
         Ended::CutShort | Ended::BadHead => 7,
     }
 }
@@ -101,6 +101,9 @@ fn drill_over<L: Link>(
     requires count { length keepers.items ≡ length settings.now.pools }
     ensures { (start cycles : ℕ) → input.items ≡ drill_bytes start cycles → Drills start cycles (L.state console.old) (L.state console.new) result }
 {
+    let Ok(mut reader) = RequestReader::new(alloc) else {
+        return 5;
+    };
     match PlainDoor::<Pool, NoKeeper>::new(alloc, settings, keepers) {
         Ok(mut door) => {
             let mut clock = StepClock {
@@ -109,7 +112,14 @@ fn drill_over<L: Link>(
                 waited: 0,
             };
             let mut link = MemoryLink::new(alloc, input, PIECE, Vec::new(alloc));
-            let counted = counted_session(alloc, settings, &mut door, &mut clock, &mut link);
+            let counted = counted_session(
+                alloc,
+                settings,
+                &mut reader,
+                &mut door,
+                &mut clock,
+                &mut link,
+            );
             let (machines, _) = door.end();
             let pools = settings.pools.as_slice();
             print_drill(alloc, pools, &machines, console, &counted)

@@ -20,7 +20,7 @@ use link_writer::print;
 use std::alloc::{AllocError, Global};
 use sw_base::{Listener, StartFault};
 use swarm_history::{LoadFault, PlainDoor};
-use swarm_http::{Clock, Door, Ended, Link, session};
+use swarm_http::{Clock, Door, Ended, Link, RequestReader, session};
 use swarm_keeper::{Keeper, NoKeeper};
 use swarm_machine::Pool;
 use swarm_model::{Machine, PoolSettings, Settings};
@@ -41,7 +41,6 @@ fn exit_status(ended: Ended) -> u8
     match ended {
         Ended::Closed | Ended::LastAsked | Ended::Retired => 0,
         Ended::ReadFault | Ended::WriteFault => 4,
-        Ended::Memory => 5,
         Ended::CutShort | Ended::BadHead => 7,
     }
 }
@@ -87,10 +86,13 @@ fn use_door<D: Door, L: Link, C: Clock, N: Listener>(
     ensures door { KeepsDoor (2 ^ 40) (D.state door.old) (D.state door.new) }
 {
     match command {
-        DoorCommand::Session => {
-            let ended = session(alloc, settings, door, clock, console);
-            DoorResult::Ended(exit_status(ended))
-        }
+        DoorCommand::Session => match RequestReader::new(alloc) {
+            Ok(mut reader) => {
+                let ended = session(alloc, settings, &mut reader, door, clock, console);
+                DoorResult::Ended(exit_status(ended))
+            }
+            Err(_) => DoorResult::Ended(5),
+        },
         DoorCommand::Serve {
             address,
             connections,

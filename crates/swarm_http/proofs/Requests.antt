@@ -19,7 +19,7 @@ use Rattle.request_head.specs.HeadChecks.{IsCheckedHead}
 use Rattle.request_head.specs.declared.head_check.HeadCheck.TheVariants as head_check
 use Rattle.swarm_model.specs.declared.rule.Rule.TheVariants as rule
 use Rattle.swarm_http.specs.declared.ended.Ended.{Ended}
-use Rattle.swarm_http.specs.declared.ended.Ended.TheVariants.{Closed, LastAsked, CutShort, BadHead, Retired, ReadFault, WriteFault, Memory}
+use Rattle.swarm_http.specs.declared.ended.Ended.TheVariants.{Closed, LastAsked, CutShort, BadHead, Retired, ReadFault, WriteFault}
 use Rattle.swarm_http.specs.declared.reply.Refusal.{Refusal}
 use Rattle.swarm_http.specs.declared.request.Received.{Received}
 use Rattle.swarm_http.specs.declared.request.Incoming.{Incoming}
@@ -156,7 +156,6 @@ stops_after LastAsked rest s t u le x = x
 stops_after BadHead rest s t u le x = x
 stops_after Retired rest s t u le x = x
 stops_after WriteFault rest s t u le x = x
-stops_after Memory rest s t u le x = x
 
 taken_after : (s t u : LinkState) (input new : List ℕ) (r : Incoming) → t.read_faults ≡ s.read_faults → IsIncoming t u input new r → IsIncoming s u input new r
 taken_after s t u input new (taken.Asks received) le x = (x.0, x.1 ∙ le)

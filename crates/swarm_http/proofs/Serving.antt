@@ -12,7 +12,7 @@ use Rattle.sw_base.specs.Link.{LinkState, IsClean, Moves, NoFault}
 use Rattle.sw_base.proofs.Moving.{Moves-refl, Moves-trans, NoFault-refl, NoFault-trans, clean_still}
 use Rattle.link_writer.specs.Sends.{Sends}
 use Rattle.swarm_http.specs.declared.ended.Ended.{Ended}
-use Rattle.swarm_http.specs.declared.ended.Ended.TheVariants.{Closed, LastAsked, CutShort, BadHead, Retired, ReadFault, WriteFault, Memory}
+use Rattle.swarm_http.specs.declared.ended.Ended.TheVariants.{Closed, LastAsked, CutShort, BadHead, Retired, ReadFault, WriteFault}
 use Rattle.swarm_http.specs.declared.reply.Refusal.{Refusal}
 use Rattle.swarm_http.specs.declared.reply.ReplyBytes.{ReplyBytes}
 use Rattle.swarm_http.specs.declared.request.Received.{Received}
@@ -71,9 +71,9 @@ cut_after xs ys rest sent few o (refused_head method why front back still refuse
 
 -- a connection that ends after some requests, none of which asks to close it
 ends_after : (ended : Ended) (xs ys : List Served) (rest sent : List ℕ) (s m t : LinkState) → length xs < 65536 → NoneCloses xs → NoFault s m
-    → ended ≢ Retired → ended ≢ Memory → EndsAs 1 ended ys rest sent m t → EndsAs 65536 ended (xs ++ ys) rest (replies xs ++ sent) s t
-ends_after Closed xs ys rest sent s m t few o well nr nm e = (e.0, e.1, replies_after xs ys sent e.2, open_after xs ys few o e.3)
-ends_after LastAsked xs ys rest sent s m t few o well nr nm e =
+    → ended ≢ Retired → EndsAs 1 ended ys rest sent m t → EndsAs 65536 ended (xs ++ ys) rest (replies xs ++ sent) s t
+ends_after Closed xs ys rest sent s m t few o well nr e = (e.0, e.1, replies_after xs ys sent e.2, open_after xs ys few o e.3)
+ends_after LastAsked xs ys rest sent s m t few o well nr e =
     let l = e.0 in (
       record {
         earlier = xs ++ l.earlier;
@@ -84,14 +84,13 @@ ends_after LastAsked xs ys rest sent s m t few o well nr nm e =
       },
       replies_after xs ys sent e.1,
     )
-ends_after CutShort xs ys rest sent s m t few o well nr nm e = (e.0, e.1, replies_after xs ys sent e.2, open_after xs ys few o e.3)
-ends_after BadHead xs ys rest all s m t few o well nr nm e =
+ends_after CutShort xs ys rest sent s m t few o well nr e = (e.0, e.1, replies_after xs ys sent e.2, open_after xs ys few o e.3)
+ends_after BadHead xs ys rest all s m t few o well nr e =
     let sent = sent_to e.0 (refusal None e.1) in
     (e.0, e.1, e.2, ap (λ l. replies xs ++ l) e.3 ∙ sym (append_assoc (replies xs) (replies ys) sent) ∙ ap (λ l. l ++ sent) (sym (flat_map-append reply_bytes xs ys)), open_after xs ys few o e.4)
-ends_after Retired xs ys rest sent s m t few o well nr nm e = absurd (nr refl)
-ends_after ReadFault xs ys rest sent s m t few o well nr nm e = (subst (λ n. Rose n t.read_faults) well.reads e.0, e.1, replies_after xs ys sent e.2, open_after xs ys few o e.3)
-ends_after WriteFault xs ys rest sent s m t few o well nr nm e = (subst (λ n. Rose n t.write_faults) well.writes e.0, cut_after xs ys rest sent few o e.1)
-ends_after Memory xs ys rest sent s m t few o well nr nm e = absurd (nm refl)
+ends_after Retired xs ys rest sent s m t few o well nr e = absurd (nr refl)
+ends_after ReadFault xs ys rest sent s m t few o well nr e = (subst (λ n. Rose n t.read_faults) well.reads e.0, e.1, replies_after xs ys sent e.2, open_after xs ys few o e.3)
+ends_after WriteFault xs ys rest sent s m t few o well nr e = (subst (λ n. Rose n t.write_faults) well.writes e.0, cut_after xs ys rest sent few o e.1)
 
 -- no request was answered
 none_served : {pending rest taken sent : List ℕ} {s t : LinkState} → Moves s t taken sent → pending ++ taken ≡ rest → Transfers [] pending rest sent s t
@@ -153,7 +152,6 @@ reply_cut does shown {rest = rest} {new = new} {s = s} {u = u} x answers y rose 
       few = omega arith;
       faults = write_fault (y.written.input.read_faults ∙ x.outcome.1);
       not_retired = λ h. cc;
-      not_memory = λ h. cc;
     }
 
 -- its reply was the last
@@ -178,7 +176,6 @@ asked_last does shown {rest = rest} {new = new} {s = s} {u = u} x answers y all 
       few = omega arith;
       faults = no_faults (y.written.input.read_faults ∙ x.outcome.1) (well ∙ x.output.write_faults) flushed;
       not_retired = λ h. cc;
-      not_memory = λ h. cc;
     }
 
 -- the head was refused
@@ -197,7 +194,6 @@ head_refused does {rest = rest} {method = method} {why = why} {s = s} {u = u} x 
       few = omega arith;
       faults = no_faults (w.written.input.read_faults ∙ x.outcome.2) (well ∙ x.output.write_faults) flushed;
       not_retired = λ h. cc;
-      not_memory = λ h. cc;
     }
 
 -- the refusal of a head was not written whole
@@ -215,18 +211,16 @@ refusal_cut does {rest = rest} {method = method} {why = why} {s = s} {u = u} x w
       few = omega arith;
       faults = write_fault (w.written.input.read_faults ∙ x.outcome.2);
       not_retired = λ h. cc;
-      not_memory = λ h. cc;
     }
 
-ends_of : (ended : Ended) (rest : List ℕ) (s t : LinkState) → StopsAs ended rest s t → EndsAs 1 ended [] rest [] s t × (ended ≢ Retired) × (ended ≢ Memory) × (ended ≢ ReadFault → ReadsWell s t)
-ends_of Closed rest s t x = ((x.0, x.1, refl, nothing_open), (λ h. cc), (λ h. cc), λ n. x.2)
-ends_of CutShort rest s t x = ((x.0, x.1, refl, nothing_open), (λ h. cc), (λ h. cc), λ n. x.2)
-ends_of ReadFault rest s t x = ((x.0, x.1, refl, nothing_open), (λ h. cc), (λ h. cc), λ n. absurd (n refl))
+ends_of : (ended : Ended) (rest : List ℕ) (s t : LinkState) → StopsAs ended rest s t → EndsAs 1 ended [] rest [] s t × (ended ≢ Retired) × (ended ≢ ReadFault → ReadsWell s t)
+ends_of Closed rest s t x = ((x.0, x.1, refl, nothing_open), (λ h. cc), λ n. x.2)
+ends_of CutShort rest s t x = ((x.0, x.1, refl, nothing_open), (λ h. cc), λ n. x.2)
+ends_of ReadFault rest s t x = ((x.0, x.1, refl, nothing_open), (λ h. cc), λ n. absurd (n refl))
 ends_of LastAsked rest s t x = absurd x
 ends_of BadHead rest s t x = absurd x
 ends_of Retired rest s t x = absurd x
 ends_of WriteFault rest s t x = absurd x
-ends_of Memory rest s t x = absurd x
 
 -- no request came
 abbrev taking_ended : {S : Type 0} (does : Does S) {pending rest : List ℕ} {v : S} {s t : LinkState} (ended : Ended) → Takes s t pending rest (taken.Ends ended) → IsClean s → Stops does pending v v s t ended
@@ -240,9 +234,8 @@ taking_ended does {pending = pending} {s = s} {t = t} ended x clean =
       each = refl;
       ends = e.0;
       few = omega arith;
-      faults = record { reads = e.3; writes = λ n. x.output.write_faults; clean = λ n. clean_still x.output clean };
+      faults = record { reads = e.2; writes = λ n. x.output.write_faults; clean = λ n. clean_still x.output clean };
       not_retired = e.1;
-      not_memory = e.2;
     }
 
 -- ---- the numbers of requests
@@ -352,7 +345,7 @@ ended_counted does {u = u} {v = v} {w = w} {r = r} {s = s} {t = t} {ended = ende
   sent = replies x.xs ++ y.sent;
   transfers = Transfers-trans x.transfers y.transfers;
   each = DoesEach-append does u v w x.xs y.xs x.each y.each;
-  ends = ends_after ended x.xs y.xs y.rest y.sent r s t (omega (arith, x.counted)) x.open_still x.no_fault y.not_retired y.not_memory y.ends;
+  ends = ends_after ended x.xs y.xs y.rest y.sent r s t (omega (arith, x.counted)) x.open_still x.no_fault y.not_retired y.ends;
   few = omega (arith, length-append x.xs y.xs, x.counted, y.few);
   faults = record { reads = λ n. y.faults.reads n ∙ x.no_fault.reads; writes = λ n. y.faults.writes n ∙ x.no_fault.writes; clean = y.faults.clean };
   requests = omega (arith, length-append x.xs y.xs, x.counted, k.requests);
@@ -372,18 +365,4 @@ retired_counted does {pending = pending} x full = record {
   faults = no_faults x.no_fault.reads x.no_fault.writes x.clean;
   requests = sym full ∙ sym x.counted;
   accepted = sym x.accepted;
-}
-
-pub no_memory_counted : {S : Type 0} (does : Does S) {v : S} {s : LinkState} → IsClean s → Converses does v v s s (record { ended = Memory; requests = 0; accepted = 0 })
-no_memory_counted does {s = s} clean = record {
-  xs = [];
-  rest = [];
-  sent = [];
-  transfers = nothing_served s;
-  each = refl;
-  ends = (refl, refl, refl);
-  few = omega arith;
-  faults = no_faults refl refl clean;
-  requests = refl;
-  accepted = refl;
 }

@@ -11,7 +11,7 @@ use Rattle.swarm_http.specs.Types.{Method, HeadRefusal, Bad, LengthRequired, Too
 use Rattle.request_head.specs.HeadFields.{head_refusal, method_of, size_of}
 use Rattle.swarm_model.specs.declared.rule.Rule.TheVariants as rule
 use Rattle.swarm_http.specs.declared.ended.Ended.{Ended}
-use Rattle.swarm_http.specs.declared.ended.Ended.TheVariants.{Closed, LastAsked, CutShort, BadHead, Retired, ReadFault, WriteFault, Memory}
+use Rattle.swarm_http.specs.declared.ended.Ended.TheVariants.{Closed, LastAsked, CutShort, BadHead, Retired, ReadFault, WriteFault}
 use Rattle.swarm_http.specs.Replies.{refusal, sent_to}
 use Rattle.swarm_http.specs.Served.{Served, request_bytes, reply_bytes, replies, closes, HeadSays}
 
@@ -74,7 +74,6 @@ EndsAs most BadHead xs rest sent s t =
 EndsAs most Retired xs rest sent s t = (length xs ≡ most) × (sent ≡ replies xs) × NoneCloses xs
 EndsAs most ReadFault xs rest sent s t = Rose s.read_faults t.read_faults × ((rest ≡ []) ⊎ IsPart rest) × (sent ≡ replies xs) × IsOpenStill most xs
 EndsAs most WriteFault xs rest sent s t = Rose s.write_faults t.write_faults × IsCutReply most xs rest sent
-EndsAs most Memory xs rest sent s t = (xs ≡ []) × (rest ≡ []) × (sent ≡ [])
 
 -- no call on the link failed but the one that ended the connection, and all that was written is flushed unless that was a write or a flush
 pub record EndsAtFault (ended : Ended) (s t : LinkState) : Type 0 where

@@ -10,7 +10,7 @@ use Rattle.swarm_model.specs.declared.rule.Rule.TheVariants as rule
 use Rattle.reply_bodies.specs.Bodies.{status_of}
 use Rattle.pool_doors.specs.Doors.{DoorState}
 use Rattle.swarm_http.specs.declared.ended.Ended.{Ended}
-use Rattle.swarm_http.specs.declared.ended.Ended.TheVariants.{Retired, Memory}
+use Rattle.swarm_http.specs.declared.ended.Ended.TheVariants.{Retired}
 use Rattle.swarm_http.specs.declared.connection.Step.{Step}
 use Rattle.swarm_http.specs.declared.connection.Step.TheVariants.{Next, End}
 use Rattle.swarm_http.specs.declared.reply.ReplyBytes.{ReplyBytes}
@@ -66,7 +66,6 @@ pub record Stops {S : Type 0} (does : Does S) (pending : List ℕ) (old new : S)
   pub few : length xs ≤ 1
   pub faults : EndsAtFault ended s t
   pub not_retired : ended ≢ Retired
-  pub not_memory : ended ≢ Memory
 
 -- 1 where it is true
 abbrev pub count_of : Bool → ℕ

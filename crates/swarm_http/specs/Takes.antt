@@ -4,7 +4,7 @@ use Rattle.std.specs.Io.KnownBytes.{IsAtEnd}
 use Rattle.sw_base.specs.Faults.{Rose}
 use Rattle.sw_base.specs.Link.{LinkState, Moves, SameOutput}
 use Rattle.swarm_http.specs.declared.ended.Ended.{Ended}
-use Rattle.swarm_http.specs.declared.ended.Ended.TheVariants.{Closed, LastAsked, CutShort, BadHead, Retired, ReadFault, WriteFault, Memory}
+use Rattle.swarm_http.specs.declared.ended.Ended.TheVariants.{Closed, LastAsked, CutShort, BadHead, Retired, ReadFault, WriteFault}
 use Rattle.httparse.specs.Grammar.{RequestHead}
 use Rattle.request_head.specs.HeadFields.{method_of, closes_of, caller_of, after_of}
 use Rattle.routes.specs.Routes.{resource_of}
@@ -32,7 +32,6 @@ StopsAs LastAsked rest s t = ⊥
 StopsAs BadHead rest s t = ⊥
 StopsAs Retired rest s t = ⊥
 StopsAs WriteFault rest s t = ⊥
-StopsAs Memory rest s t = ⊥
 
 -- the caller's name that is held, where there was memory for it
 abbrev pub IsCaller : Caller → Option (List ℕ) → Type 0

@@ -1,5 +1,5 @@
 //! One connection, whatever answers its requests.
-ghost use Rattle.std.specs.Prelude.{◌≡◌, ◌≤◌, ◌+◌, ℕ, Bool, [], IfOk, IsTrue};
+ghost use Rattle.std.specs.Prelude.{◌≡◌, ◌≤◌, ◌+◌, ℕ, Bool, IsTrue};
 ghost use Rattle.sw_base.specs.Link.{IsClean};
 ghost use Rattle.swarm_model.specs.Settings.{are_settings};
 ghost use Rattle.swarm_http.specs.Conversing.{Converses};
@@ -8,10 +8,10 @@ ghost use Rattle.swarm_http.specs.Steps.{IsStep, count_of};
 use crate::reply::ReplyBytes;
 use crate::request::{Incoming, take_request};
 use crate::send::send_shown;
-use crate::{ConnectionCounts, Ended, Replies};
+use crate::{ConnectionCounts, Ended, Replies, RequestReader};
 use link_reader::Pending;
 use routes::Routes;
-use std::alloc::{AllocError, Global};
+use std::alloc::Global;
 use sw_base::Link;
 use swarm_model::Settings;
 
@@ -33,13 +33,6 @@ enum Step {
 
 // The most requests of one connection.
 const REQUEST_LIMIT: u32 = 65536;
-
-/// What a connection holds from its begin to its end: the bytes that are pending, and the router.
-fn begin(alloc: Global) -> Result<(Pending, Routes), AllocError>
-    ensures { IfOk result (λ held. held.0 ≡ []) }
-{
-    Ok((Pending::new(alloc)?, Routes::new(alloc)?))
-}
 
 fn serve_one<D, C, R: Replies<D, C>, L: Link>(
     alloc: Global,
@@ -113,6 +106,7 @@ fn count_of(test: bool) -> u32
 pub fn converse<D, C, R: Replies<D, C>, L: Link>(
     alloc: Global,
     settings: &Settings,
+    reader: &mut RequestReader,
     desk: &mut D,
     clock: &mut C,
     link: &mut L,
@@ -122,16 +116,18 @@ pub fn converse<D, C, R: Replies<D, C>, L: Link>(
     requires clean { IsClean (L.state link.old) }
     ensures { Converses R.does (desk.old, clock.old) (desk.new, clock.new) (L.state link.old) (L.state link.new) result }
 {
-    let Ok((mut pending, routes)) = begin(alloc) else {
-        return ConnectionCounts {
-            ended: Ended::Memory,
-            requests: 0,
-            accepted: 0,
-        };
-    };
+    reader.clear();
     let mut good = 0;
     'requests: for turn in 0..REQUEST_LIMIT {
-        match serve_one::<D, C, R, L>(alloc, settings, &routes, &mut pending, desk, clock, link) {
+        match serve_one::<D, C, R, L>(
+            alloc,
+            settings,
+            &reader.routes,
+            &mut reader.pending,
+            desk,
+            clock,
+            link,
+        ) {
             Step::Next { accepted } => good += count_of(accepted),
             Step::End {
                 ended,

@@ -10,7 +10,7 @@ use crate::answer::answer_request;
 use crate::connection::converse;
 use crate::reply::ReplyBytes;
 use crate::request::Received;
-use crate::{ConnectionCounts, Ended, Replies};
+use crate::{ConnectionCounts, Ended, Replies, RequestReader};
 use pool_doors::Door;
 use std::alloc::Global;
 use sw_base::{Clock, Link};
@@ -40,6 +40,7 @@ impl<D: Door, C: Clock> Replies<D, C> for ByDoor {
 pub fn counted_session<D: Door, L: Link, C: Clock>(
     alloc: Global,
     settings: &Settings,
+    reader: &mut RequestReader,
     door: &mut D,
     clock: &mut C,
     link: &mut L,
@@ -53,13 +54,14 @@ pub fn counted_session<D: Door, L: Link, C: Clock>(
         (record { link = L.state link.new; clock = C.ahead clock.new; door = D.state door.new }) result }
     ensures door { KeepsDoor 65536 (D.state door.old) (D.state door.new) }
 {
-    converse::<D, C, ByDoor, L>(alloc, settings, door, clock, link)
+    converse::<D, C, ByDoor, L>(alloc, settings, reader, door, clock, link)
 }
 
 /// Answers the requests that come over a link, until it ends or has asked 65536 times.
 pub fn session<D: Door, L: Link, C: Clock>(
     alloc: Global,
     settings: &Settings,
+    reader: &mut RequestReader,
     door: &mut D,
     clock: &mut C,
     link: &mut L,
@@ -73,5 +75,5 @@ pub fn session<D: Door, L: Link, C: Clock>(
         (record { link = L.state link.new; clock = C.ahead clock.new; door = D.state door.new }) result }
     ensures door { KeepsDoor 65536 (D.state door.old) (D.state door.new) }
 {
-    counted_session(alloc, settings, door, clock, link).ended
+    counted_session(alloc, settings, reader, door, clock, link).ended
 }

@@ -13,6 +13,4 @@ pub enum Ended {
     Retired,
     ReadFault,
     WriteFault,
-    /// There was no memory to begin.
-    Memory,
 }

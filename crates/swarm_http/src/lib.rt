@@ -15,6 +15,8 @@
 //! [`Replies`] alone, whose marker for a door stands in `src/door_session.rt`, and its contract,
 //! `Converses` of `specs/Conversing.antt`, says of each request that it did what the marker says.
 //! [`read_call`] reads what a request asks of a pool, of all calls or of those that boards serve.
+//! A [`RequestReader`] takes the requests off the link. Whoever serves one connection after another
+//! makes it once: what one connection left in it is forgotten as the next begins.
 //!
 //! The crate passes on the link and the clock of `sw_base` and the door of `pool_doors`, which a
 //! caller of [`session`] needs.
@@ -31,6 +33,7 @@ mod permitting;
 mod replies;
 mod reply;
 mod request;
+mod request_reader;
 mod send;
 mod served_calls;
 
@@ -44,5 +47,6 @@ pub use pool_doors::{Answered, CallFault, Door};
 pub use replies::Replies;
 pub use reply::{Refusal, ReplyBytes, whole_reply};
 pub use request::{Caller, Received, RequestLine};
+pub use request_reader::RequestReader;
 pub use served_calls::ServedCalls;
 pub use sw_base::{Clock, ConsoleLink, Failed, Link, MemoryLink, StepClock, SystemClock};

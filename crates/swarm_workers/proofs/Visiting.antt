@@ -1,5 +1,5 @@
 -- Sessions, one after another, whatever holds them.
-use Rattle.std.proofs.Common.{◌≡◌, ◌≢◌, ℕ, ◌+◌, ◌-◌, ◌^◌, ◌<◌, ◌≤◌, min, List, [], ◌∷◌, ◌++◌, length, map, Option, Some, None, option_map, refl, sym, ap, ◌∙◌, arith, append_assoc, append-nil, length-append, subst}
+use Rattle.std.proofs.Common.{◌≡◌, ℕ, ◌+◌, ◌-◌, ◌^◌, ◌<◌, ◌≤◌, min, List, [], ◌∷◌, ◌++◌, length, map, Option, Some, None, option_map, refl, sym, ap, ◌∙◌, arith, append_assoc, append-nil, length-append, subst}
 use Rattle.std.specs.List.{AllByRecursion}
 use Rattle.std.proofs.lemmas.List.{map-append}
 use Rattle.sw_base.specs.Faults.{Rose}
@@ -7,9 +7,8 @@ use Rattle.sw_base.specs.Link.{LinkState}
 use Rattle.sw_base.specs.Told.{Loses, Gains, IsNoMore}
 use Rattle.sw_base.specs.Acceptors.{AcceptorState, Comes, Ends}
 use Rattle.swarm_http.specs.declared.ended.Ended.{Ended}
-use Rattle.swarm_http.specs.declared.ended.Ended.TheVariants as ended
 use Rattle.swarm_workers.specs.declared.worked.WorkStop.TheVariants as stop
-use Rattle.swarm_workers.specs.Visits.{Visit, TellsFault, IsFaultCounted, NoneLacked, Follow, HasServed, IsServed, IsIdle}
+use Rattle.swarm_workers.specs.Visits.{Visit, TellsFault, IsFaultCounted, Follow, HasServed, IsServed, IsIdle}
 
 pub add_injective : (a b : Option ℕ) → option_map (λ n. n + 1) a ≡ option_map (λ n. n + 1) b → a ≡ b
 add_injective None None e = refl
@@ -70,7 +69,8 @@ module _ {S : Type 0} (does : LinkState → LinkState → Ended → S → S → 
   follow_more a b c (v ∷ visits) first last ending so held = (so.0, follow_more v.after b c visits first last ending so.1 held)
 
   -- so many links were served
-  pub record Visited (visits : List (Visit S)) (n : ℕ) (s t : AcceptorState) (d e : S) : Type 0 where
+  pub record SoFar (n : ℕ) (s t : AcceptorState) (d e : S) : Type 0 where
+    pub visits : List (Visit S)
     pub number : length visits ≡ n
     pub coming : Loses s.coming t.coming (map (λ v. v.first) visits)
     pub served : Gains s.served t.served (map (λ v. v.last) visits)
@@ -79,102 +79,85 @@ module _ {S : Type 0} (does : LinkState → LinkState → Ended → S → S → 
     pub counted : AllByRecursion (λ v. IsFaultCounted v.first v.last v.ending) visits
     pub sessions : Follow does d e visits
 
-  pub record SoFar (n : ℕ) (s t : AcceptorState) (d e : S) : Type 0 where
-    pub visits : List (Visit S)
-    pub visited : Visited visits n s t d e
-    pub had : NoneLacked visits
-
   pub begun : (s : AcceptorState) (d : S) → SoFar 0 s s d d
   begun s d = record {
     visits = [];
-    visited = record {
-      number = refl;
-      coming = loses_none s.coming;
-      served = gains_none s.served;
-      out = refl;
-      faults = refl;
-      counted = tt;
-      sessions = refl;
-    };
-    had = tt;
+    number = refl;
+    coming = loses_none s.coming;
+    served = gains_none s.served;
+    out = refl;
+    faults = refl;
+    counted = tt;
+    sessions = refl;
   }
 
   -- one more was served
-  pub visited_more : {visits : List (Visit S)} {n : ℕ} {s t u : AcceptorState} {d e f : S}
-      → Visited visits n s t d e → (x : IsServed does t u e f) → Visited (visits ++ visit x ∷ []) (n + 1) s u d f
-  visited_more {visits = visits} {n = n} {s = s} {t = t} {u = u} {d = d} {e = e} {f = f} v x = record {
-    number = length-append visits (visit x ∷ []) ∙ ap (λ k. k + 1) v.number;
-    coming = subst (Loses s.coming u.coming) (sym (map-append (λ v. v.first) visits (visit x ∷ []))) (loses_more s.coming t.coming u.coming _ _ v.coming x.coming);
-    served = subst (Gains s.served u.served) (sym (map-append (λ v. v.last) visits (visit x ∷ []))) (gains_more s.served t.served u.served _ _ v.served x.served);
-    out = x.out ∙ v.out;
-    faults = x.faults ∙ v.faults;
-    counted = all_more (λ v. IsFaultCounted v.first v.last v.ending) visits (visit x) v.counted x.counted;
-    sessions = follow_more d e f visits x.first x.last x.ending v.sessions x.held;
-  }
-
-  pub one_more : {n : ℕ} {s t u : AcceptorState} {d e f : S} → SoFar n s t d e → (x : IsServed does t u e f) → x.ending ≢ ended.Memory → SoFar (n + 1) s u d f
-  one_more so x memory = record {
+  pub one_more : {n : ℕ} {s t u : AcceptorState} {d e f : S} → SoFar n s t d e → (x : IsServed does t u e f) → SoFar (n + 1) s u d f
+  one_more {s = s} {t = t} {u = u} {d = d} {e = e} {f = f} so x = record {
     visits = so.visits ++ visit x ∷ [];
-    visited = visited_more so.visited x;
-    had = all_more (λ v. v.ending ≢ ended.Memory) so.visits (visit x) so.had memory;
+    number = length-append so.visits (visit x ∷ []) ∙ ap (λ k. k + 1) so.number;
+    coming = subst (Loses s.coming u.coming) (sym (map-append (λ v. v.first) so.visits (visit x ∷ []))) (loses_more s.coming t.coming u.coming _ _ so.coming x.coming);
+    served = subst (Gains s.served u.served) (sym (map-append (λ v. v.last) so.visits (visit x ∷ []))) (gains_more s.served t.served u.served _ _ so.served x.served);
+    out = x.out ∙ so.out;
+    faults = x.faults ∙ so.faults;
+    counted = all_more (λ v. IsFaultCounted v.first v.last v.ending) so.visits (visit x) so.counted x.counted;
+    sessions = follow_more d e f so.visits x.first x.last x.ending so.sessions x.held;
   }
 
-  -- the last lacked memory
-  pub lacked_memory : {n most : ℕ} {s t u : AcceptorState} {d e f : S} → SoFar n s t d e → n < most → (x : IsServed does t u e f) → x.ending ≡ ended.Memory
-      → HasServed does s u d f most (record { sessions = n + 1; stop = stop.Memory })
-  lacked_memory so less x memory =
-      let v = visited_more so.visited x in record {
-        visits = so.visits ++ visit x ∷ [];
-        number = v.number;
-        few = omega (arith, v.number, less);
-        coming = v.coming;
-        served = v.served;
-        out = v.out;
-        counted = v.counted;
-        sessions = v.sessions;
-        stops = (record { earlier = so.visits; last = visit x; are = refl; before = so.had; lacked = memory }, v.faults);
-      }
+  -- there was no memory to begin
+  pub no_memory : (most : ℕ) (s : AcceptorState) (d : S) → HasServed does s s d d most (record { sessions = 0; stop = stop.Memory })
+  no_memory most s d = record {
+    visits = [];
+    number = refl;
+    few = omega arith;
+    coming = loses_none s.coming;
+    served = gains_none s.served;
+    out = refl;
+    counted = tt;
+    sessions = refl;
+    stops = (refl, refl);
+  }
 
   -- nothing more was served
   pub no_more : {n most : ℕ} {s t u : AcceptorState} {d e f : S} → SoFar n s t d e → n < most → IsIdle t u e f → IsNoMore u.coming → u.faults ≡ t.faults
       → HasServed does s u d f most (record { sessions = n; stop = stop.NoMore })
   no_more {s = s} {d = d} so less idle none same = record {
     visits = so.visits;
-    number = so.visited.number;
-    few = omega (arith, so.visited.number, less);
-    coming = subst (λ k. Loses s.coming k (map (λ v. v.first) so.visits)) (sym idle.coming) so.visited.coming;
-    served = subst (λ k. Gains s.served k (map (λ v. v.last) so.visits)) (sym idle.served) so.visited.served;
-    out = idle.out ∙ so.visited.out;
-    counted = so.visited.counted;
-    sessions = subst (λ (k : S). Follow does d k so.visits) (sym idle.same) so.visited.sessions;
-    stops = (omega (arith, so.visited.number), so.had, none, same ∙ so.visited.faults);
+    number = so.number;
+    few = omega (arith, so.number, less);
+    coming = subst (λ k. Loses s.coming k (map (λ v. v.first) so.visits)) (sym idle.coming) so.coming;
+    served = subst (λ k. Gains s.served k (map (λ v. v.last) so.visits)) (sym idle.served) so.served;
+    out = idle.out ∙ so.out;
+    counted = so.counted;
+    sessions = subst (λ (k : S). Follow does d k so.visits) (sym idle.same) so.sessions;
+    stops = (less, none, same ∙ so.faults);
   }
 
   pub failed : {n most : ℕ} {s t u : AcceptorState} {d e f : S} → SoFar n s t d e → n < most → IsIdle t u e f → Rose t.faults u.faults
       → HasServed does s u d f most (record { sessions = n; stop = stop.Failed })
   failed {s = s} {u = u} {d = d} so less idle rose = record {
     visits = so.visits;
-    number = so.visited.number;
-    few = omega (arith, so.visited.number, less);
-    coming = subst (λ k. Loses s.coming k (map (λ v. v.first) so.visits)) (sym idle.coming) so.visited.coming;
-    served = subst (λ k. Gains s.served k (map (λ v. v.last) so.visits)) (sym idle.served) so.visited.served;
-    out = idle.out ∙ so.visited.out;
-    counted = so.visited.counted;
-    sessions = subst (λ (k : S). Follow does d k so.visits) (sym idle.same) so.visited.sessions;
-    stops = (omega (arith, so.visited.number), so.had, subst (λ k. Rose k u.faults) so.visited.faults rose);
+    number = so.number;
+    few = omega (arith, so.number, less);
+    coming = subst (λ k. Loses s.coming k (map (λ v. v.first) so.visits)) (sym idle.coming) so.coming;
+    served = subst (λ k. Gains s.served k (map (λ v. v.last) so.visits)) (sym idle.served) so.served;
+    out = idle.out ∙ so.out;
+    counted = so.counted;
+    sessions = subst (λ (k : S). Follow does d k so.visits) (sym idle.same) so.sessions;
+    stops = (less, subst (λ k. Rose k u.faults) so.faults rose);
   }
 
   pub all_served : {most : ℕ} {s t : AcceptorState} {d e : S} → SoFar most s t d e → HasServed does s t d e most (record { sessions = most; stop = stop.Done })
   all_served so = record {
     visits = so.visits;
-    number = so.visited.number;
-    few = omega (arith, so.visited.number);
-    coming = so.visited.coming;
-    served = so.visited.served;
-    out = so.visited.out;
-    counted = so.visited.counted;
-    sessions = so.visited.sessions;
-    stops = (so.visited.number, so.had, so.visited.faults);
+    number = so.number;
+    few = omega (arith, so.number);
+    coming = so.coming;
+    served = so.served;
+    out = so.out;
+    counted = so.counted;
+    sessions = so.sessions;
+    stops = (refl, so.faults);
   }
 
 -- ---- what is told of the sessions in other words

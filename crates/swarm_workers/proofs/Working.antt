@@ -1,19 +1,16 @@
 -- Sessions over a door.
-use Rattle.std.proofs.Common.{◌≡◌, ◌≢◌, ℕ, zero, suc, ◌+◌, ◌*◌, ◌^◌, ◌<◌, ◌≤◌, List, [], ◌∷◌, length, map, Option, refl, sym, ap, ◌∙◌, arith, subst}
+use Rattle.std.proofs.Common.{◌≡◌, ℕ, zero, suc, ◌+◌, ◌*◌, ◌^◌, ◌<◌, ◌≤◌, List, [], ◌∷◌, length, map, Option, refl, sym, ap, ◌∙◌, arith, subst}
 use Rattle.std.specs.List.{AllByRecursion}
-use Rattle.std.proofs.lemmas.List.{length-map, map-append}
+use Rattle.std.proofs.lemmas.List.{length-map}
 use Rattle.sw_base.specs.Link.{LinkState}
 use Rattle.sw_base.specs.Told.{Loses, Gains}
 use Rattle.sw_base.specs.Acceptors.{AcceptorState}
 use Rattle.swarm_workers.specs.Types.{Settings, Ended}
 use Rattle.pool_doors.specs.Doors.{DoorState}
-use Rattle.swarm_http.specs.declared.ended.Ended.TheVariants as ended
 use Rattle.swarm_http.specs.Answered.{ConnectionState, IsAnswered, KeepsDoor}
 use Rattle.swarm_workers.specs.declared.worked.Worked.{Worked}
-use Rattle.swarm_workers.specs.declared.worked.WorkStop.{WorkStop}
-use Rattle.swarm_workers.specs.declared.worked.WorkStop.TheVariants as stop
-use Rattle.swarm_workers.specs.Visits.{Visit, TellsFault, IsFaultCounted, NoneLacked, LastLacked, StopsServing, Follow, HasServed}
-use Rattle.swarm_workers.specs.Works.{ServedLink, Sessions, HasFaultsCounted, HadMemory, LastLackedMemory, StopsAs, IsWorked, IsDoorSession, MayServe}
+use Rattle.swarm_workers.specs.Visits.{Visit, TellsFault, IsFaultCounted, Follow, HasServed}
+use Rattle.swarm_workers.specs.Works.{ServedLink, Sessions, HasFaultsCounted, IsWorked, IsDoorSession, MayServe}
 use Rattle.swarm_workers.proofs.Slices.{map_both}
 use Rattle.swarm_workers.proofs.Visiting.{all_mapped}
 
@@ -70,26 +67,8 @@ module _ {X : Type 0} (ahead : X → Ahead) (door : X → DoorState) where
   keeps_told x y [] so = subst (λ (d : DoorState). KeepsDoor (65536 * 0) (door x) d) (sym (ap door so)) (keeps_all (door x))
   keeps_told x y (v ∷ visits) so = keeps_then (length visits) so.0.keeps (keeps_told v.after y visits so.1)
 
-  had_told : (visits : List (Visit X)) → NoneLacked visits → HadMemory (map served_link visits)
-  had_told visits had = all_mapped (λ (v : Visit X). v.ending ≢ ended.Memory) (λ (v : ServedLink). v.ending ≢ ended.Memory) served_link visits (λ v h. h) had
-
   counted_told : (visits : List (Visit X)) → AllByRecursion (λ v. IsFaultCounted v.first v.last v.ending) visits → AllByRecursion HasFaultsCounted (map served_link visits)
   counted_told visits all = all_mapped (λ (v : Visit X). IsFaultCounted v.first v.last v.ending) HasFaultsCounted served_link visits (λ v c. record { fresh = c.fresh; reads = c.reads; writes = c.writes }) all
-
-  lacked_told : (visits : List (Visit X)) → LastLacked visits → LastLackedMemory (map served_link visits)
-  lacked_told visits l = record {
-    earlier = map served_link l.earlier;
-    last = served_link l.last;
-    are = ap (map served_link) l.are ∙ map-append served_link l.earlier (l.last ∷ []);
-    before = had_told l.earlier l.before;
-    lacked = l.lacked;
-  }
-
-  stops_told : (why : WorkStop) (n : ℕ) (visits : List (Visit X)) (s t : AcceptorState) → StopsServing why n visits s t → StopsAs why n (map served_link visits) s t
-  stops_told stop.Done n visits s t so = (length-map visits served_link ∙ so.0, had_told visits so.1, so.2)
-  stops_told stop.NoMore n visits s t so = (subst (λ k. k < n) (sym (length-map visits served_link)) so.0, had_told visits so.1, so.2, so.3)
-  stops_told stop.Failed n visits s t so = (subst (λ k. k < n) (sym (length-map visits served_link)) so.0, had_told visits so.1, so.2)
-  stops_told stop.Memory n visits s t so = (lacked_told visits so.0, so.1)
 
   -- such sessions are the work of a worker
   pub worked_told : (s t : AcceptorState) (x y : X) (n : ℕ) (worked : Worked) → HasServed Holds s t x y n worked → IsWorked s t (ahead x) (ahead y) (door x) (door y) n worked
@@ -101,7 +80,7 @@ module _ {X : Type 0} (ahead : X → Ahead) (door : X → DoorState) where
     out = h.out;
     counted = counted_told h.visits h.counted;
     sessions = sessions_told x y h.visits h.sessions;
-    stops = stops_told worked.stop n h.visits s t h.stops;
+    stops = h.stops;
   }
 
   -- they keep the door

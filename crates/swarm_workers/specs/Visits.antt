@@ -1,5 +1,5 @@
 -- Sessions over the links of an acceptor, whatever holds them.
-use Rattle.std.specs.Prelude.{◌≡◌, ◌≢◌, ℕ, ◌<◌, ◌≤◌, List, [], ◌∷◌, ◌++◌, length, map}
+use Rattle.std.specs.Prelude.{◌≡◌, ℕ, ◌<◌, ◌≤◌, List, [], ◌∷◌, length, map}
 use Rattle.std.specs.List.{AllByRecursion}
 use Rattle.sw_base.specs.Faults.{Rose}
 use Rattle.sw_base.specs.Link.{LinkState}
@@ -31,26 +31,14 @@ pub record IsFaultCounted (first last : LinkState) (ending : Ended) : Type 0 whe
   pub reads : ending ≡ ended.ReadFault → 0 < last.read_faults
   pub writes : ending ≡ ended.WriteFault → 0 < last.write_faults
 
+-- why it stopped, where so many of n links were served
+abbrev pub StopsServing : WorkStop → ℕ → ℕ → AcceptorState → AcceptorState → Type 0
+StopsServing stop.Done n count s t = (count ≡ n) × (t.faults ≡ s.faults)
+StopsServing stop.NoMore n count s t = (count < n) × IsNoMore t.coming × (t.faults ≡ s.faults)
+StopsServing stop.Failed n count s t = (count < n) × Rose s.faults t.faults
+StopsServing stop.Memory n count s t = (count ≡ 0) × (t.faults ≡ s.faults)
+
 module _ {S : Type 0} where
-  -- no session ended for want of memory
-  abbrev pub NoneLacked : List (Visit S) → Type 0
-  NoneLacked visits = AllByRecursion (λ v. v.ending ≢ ended.Memory) visits
-
-  -- the last session ended for want of memory, and no other
-  pub record LastLacked (visits : List (Visit S)) : Type 0 where
-    pub earlier : List (Visit S)
-    pub last : Visit S
-    pub are : visits ≡ earlier ++ last ∷ []
-    pub before : NoneLacked earlier
-    pub lacked : last.ending ≡ ended.Memory
-
-  -- why it stopped, where n links were to be served
-  abbrev pub StopsServing : WorkStop → ℕ → List (Visit S) → AcceptorState → AcceptorState → Type 0
-  StopsServing stop.Done n visits s t = (length visits ≡ n) × NoneLacked visits × (t.faults ≡ s.faults)
-  StopsServing stop.NoMore n visits s t = (length visits < n) × NoneLacked visits × IsNoMore t.coming × (t.faults ≡ s.faults)
-  StopsServing stop.Failed n visits s t = (length visits < n) × NoneLacked visits × Rose s.faults t.faults
-  StopsServing stop.Memory n visits s t = LastLacked visits × (t.faults ≡ s.faults)
-
   -- nothing was served
   pub record IsIdle (s t : AcceptorState) (old new : S) : Type 0 where
     pub coming : t.coming ≡ s.coming
@@ -74,7 +62,7 @@ module _ {S : Type 0} where
       pub out : t.out ≡ s.out
       pub counted : AllByRecursion (λ v. IsFaultCounted v.first v.last v.ending) visits
       pub sessions : Follow old new visits
-      pub stops : StopsServing worked.stop n visits s t
+      pub stops : StopsServing worked.stop n worked.sessions s t
 
     -- the next link was served
     pub record IsServed (s t : AcceptorState) (old new : S) : Type 0 where
@@ -90,7 +78,6 @@ module _ {S : Type 0} where
 
     -- what came of asking for the next link
     abbrev pub IsTurn : AcceptorState → AcceptorState → S → S → NextLink → Type 0
-    IsTurn s t old new turn.Served = (x : IsServed s t old new) × (x.ending ≢ ended.Memory)
-    IsTurn s t old new turn.OutOfMemory = (x : IsServed s t old new) × (x.ending ≡ ended.Memory)
+    IsTurn s t old new turn.Served = IsServed s t old new
     IsTurn s t old new turn.NoMore = IsIdle s t old new × IsNoMore t.coming × (t.faults ≡ s.faults)
     IsTurn s t old new turn.Failed = IsIdle s t old new × Rose s.faults t.faults

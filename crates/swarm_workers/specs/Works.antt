@@ -1,17 +1,15 @@
 -- What a worker does.
-use Rattle.std.specs.Prelude.{◌≡◌, ◌≢◌, ℕ, ◌+◌, ◌*◌, ◌^◌, ◌<◌, ◌≤◌, List, [], ◌∷◌, ◌++◌, length, map, Option}
+use Rattle.std.specs.Prelude.{◌≡◌, ℕ, ◌+◌, ◌*◌, ◌^◌, ◌<◌, ◌≤◌, List, [], ◌∷◌, length, map, Option}
 use Rattle.std.specs.List.{AllByRecursion}
-use Rattle.sw_base.specs.Faults.{Rose}
 use Rattle.sw_base.specs.Link.{LinkState}
-use Rattle.sw_base.specs.Told.{Loses, Gains, IsNoMore}
+use Rattle.sw_base.specs.Told.{Loses, Gains}
 use Rattle.sw_base.specs.Acceptors.{AcceptorState, IsFresh}
 use Rattle.swarm_workers.specs.Types.{Settings, Ended}
 use Rattle.pool_doors.specs.Doors.{DoorState}
 use Rattle.swarm_http.specs.declared.ended.Ended.TheVariants as ended
 use Rattle.swarm_http.specs.Answered.{IsAnswered, KeepsDoor}
 use Rattle.swarm_workers.specs.declared.worked.Worked.{Worked}
-use Rattle.swarm_workers.specs.declared.worked.WorkStop.{WorkStop}
-use Rattle.swarm_workers.specs.declared.worked.WorkStop.TheVariants as stop
+use Rattle.swarm_workers.specs.Visits.{StopsServing}
 
 -- a session: its link as it came and as it ended, its ending, and what the clock had ahead and the
 -- door was as it ended
@@ -34,25 +32,6 @@ pub record HasFaultsCounted (v : ServedLink) : Type 0 where
   pub reads : v.ending ≡ ended.ReadFault → 0 < v.last.read_faults
   pub writes : v.ending ≡ ended.WriteFault → 0 < v.last.write_faults
 
--- no session ended for want of memory
-abbrev pub HadMemory : List ServedLink → Type 0
-HadMemory visits = AllByRecursion (λ v. v.ending ≢ ended.Memory) visits
-
--- the last session ended for want of memory, and no other
-pub record LastLackedMemory (visits : List ServedLink) : Type 0 where
-  pub earlier : List ServedLink
-  pub last : ServedLink
-  pub are : visits ≡ earlier ++ last ∷ []
-  pub before : HadMemory earlier
-  pub lacked : last.ending ≡ ended.Memory
-
--- why the work stopped, where it was to serve n links
-abbrev pub StopsAs : WorkStop → ℕ → List ServedLink → AcceptorState → AcceptorState → Type 0
-StopsAs stop.Done n visits s t = (length visits ≡ n) × HadMemory visits × (t.faults ≡ s.faults)
-StopsAs stop.NoMore n visits s t = (length visits < n) × HadMemory visits × IsNoMore t.coming × (t.faults ≡ s.faults)
-StopsAs stop.Failed n visits s t = (length visits < n) × HadMemory visits × Rose s.faults t.faults
-StopsAs stop.Memory n visits s t = LastLackedMemory visits × (t.faults ≡ s.faults)
-
 -- The links that came were served in the order in which they came, each by a session over the one
 -- door, and each is told as it ended.
 pub record IsWorked (s t : AcceptorState) (a b : ℕ → Option (List ℕ)) (old new : DoorState) (n : ℕ) (worked : Worked) : Type 0 where
@@ -63,7 +42,7 @@ pub record IsWorked (s t : AcceptorState) (a b : ℕ → Option (List ℕ)) (old
   pub out : t.out ≡ s.out
   pub counted : AllByRecursion HasFaultsCounted visits
   pub sessions : Sessions a b old new visits
-  pub stops : StopsAs worked.stop n visits s t
+  pub stops : StopsServing worked.stop n worked.sessions s t
 
 -- a session over a door, at the moments of a clock
 pub record IsDoorSession (first last : LinkState) (ending : Ended) (a b : ℕ → Option (List ℕ)) (old new : DoorState) : Type 0 where

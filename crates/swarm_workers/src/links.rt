@@ -7,7 +7,7 @@ ghost use Rattle.swarm_workers.specs.Visits.{HasServed, IsTurn, TellsFault};
 use crate::{WorkStop, Worked};
 use std::alloc::Global;
 use sw_base::{Acceptor, Link};
-use swarm_http::Ended;
+use swarm_http::{Ended, RequestReader};
 use swarm_model::Settings;
 
 /// How sessions are held over a desk `D`, with what it needs beside, `C`. It is implemented by a
@@ -28,6 +28,7 @@ pub trait LinkSessions<D, C> {
     fn session<L: Link>(
         alloc: Global,
         settings: &Settings,
+        reader: &mut RequestReader,
         desk: &mut D,
         clock: &mut C,
         link: &mut L,
@@ -44,8 +45,6 @@ pub trait LinkSessions<D, C> {
 #[derive(Clone, Copy, Debug, PartialEq, Eq)]
 enum NextLink {
     Served,
-    /// It was served by a session that had no memory to begin.
-    OutOfMemory,
     NoMore,
     Failed,
 }
@@ -53,6 +52,7 @@ enum NextLink {
 fn serve_next<A: Acceptor, D, C, S: LinkSessions<D, C>>(
     alloc: Global,
     settings: &Settings,
+    reader: &mut RequestReader,
     desk: &mut D,
     clock: &mut C,
     acceptor: &mut A,
@@ -64,12 +64,9 @@ fn serve_next<A: Acceptor, D, C, S: LinkSessions<D, C>>(
 {
     match acceptor.accept() {
         Ok(Some(mut link)) => {
-            let ended = S::session(alloc, settings, desk, clock, &mut link);
+            S::session(alloc, settings, reader, desk, clock, &mut link);
             acceptor.end(link);
-            match ended {
-                Ended::Memory => NextLink::OutOfMemory,
-                _ => NextLink::Served,
-            }
+            NextLink::Served
         }
         Ok(None) => NextLink::NoMore,
         Err(_) => NextLink::Failed,
@@ -77,8 +74,9 @@ fn serve_next<A: Acceptor, D, C, S: LinkSessions<D, C>>(
 }
 
 /// Serves the links of the acceptor, one after another, each by a session over the one desk: until
-/// so many connections are served, there are no more, a session has no memory to begin, or no link
-/// can be accepted. A session that ends by a fault of its own link ends that link alone.
+/// so many connections are served, there are no more, or no link can be accepted. Where there is no
+/// memory to begin, none is served. A session that ends by a fault of its own link ends that link
+/// alone.
 pub fn serve_links<A: Acceptor, D, C, S: LinkSessions<D, C>>(
     alloc: Global,
     settings: &Settings,
@@ -92,15 +90,15 @@ pub fn serve_links<A: Acceptor, D, C, S: LinkSessions<D, C>>(
     requires may { S.may settings.now connections (desk.old, clock.old) }
     ensures { HasServed S.does (A.state acceptor.old) (A.state acceptor.new) (desk.old, clock.old) (desk.new, clock.new) connections result }
 {
+    let Ok(mut reader) = RequestReader::new(alloc) else {
+        return Worked {
+            sessions: 0,
+            stop: WorkStop::Memory,
+        };
+    };
     'links: for served in 0..connections {
-        match serve_next::<A, D, C, S>(alloc, settings, desk, clock, acceptor) {
+        match serve_next::<A, D, C, S>(alloc, settings, &mut reader, desk, clock, acceptor) {
             NextLink::Served => {}
-            NextLink::OutOfMemory => {
-                return Worked {
-                    sessions: served + 1,
-                    stop: WorkStop::Memory,
-                };
-            }
             NextLink::NoMore => {
                 return Worked {
                     sessions: served,

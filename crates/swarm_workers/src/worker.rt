@@ -8,7 +8,7 @@ use crate::Worked;
 use crate::links::{LinkSessions, serve_links};
 use std::alloc::Global;
 use sw_base::{Acceptor, Link};
-use swarm_http::{Clock, Door, Ended, session};
+use swarm_http::{Clock, Door, Ended, RequestReader, session};
 use swarm_model::Settings;
 
 /// Sessions over a door, at the moments of a clock.
@@ -24,17 +24,19 @@ impl<D: Door, C: Clock> LinkSessions<D, C> for DoorSessions {
     fn session<L: Link>(
         alloc: Global,
         settings: &Settings,
+        reader: &mut RequestReader,
         desk: &mut D,
         clock: &mut C,
         link: &mut L,
     ) -> Ended {
-        session(alloc, settings, desk, clock, link)
+        session(alloc, settings, reader, desk, clock, link)
     }
 }
 
 /// Serves the links of the acceptor, one after another, each by a session over the one door: until
-/// so many connections are served, there are no more, a session has no memory to begin, or no link
-/// can be accepted. A session that ends by a fault of its own link ends that link alone.
+/// so many connections are served, there are no more, or no link can be accepted. Where there is no
+/// memory to begin, none is served. A session that ends by a fault of its own link ends that link
+/// alone.
 pub fn work<A: Acceptor, D: Door, C: Clock>(
     alloc: Global,
     settings: &Settings,

@@ -16,7 +16,6 @@ fn exit_status(ended: Ended) -> u8 {
     match ended {
         Ended::Closed | Ended::LastAsked | Ended::Retired => 0,
         Ended::ReadFault | Ended::WriteFault => 4,
-        Ended::Memory => 5,
         Ended::CutShort | Ended::BadHead => 7,
     }
 }

@@ -5,7 +5,7 @@ ghost use Rattle.swarm_model.specs.Settings.{are_settings};
 use std::alloc::{AllocError, Global};
 use sw_base::{Clock, Link};
 use swarm_history::{LoadFault, PlainDoor};
-use swarm_http::{Ended, session};
+use swarm_http::{Ended, RequestReader, session};
 use swarm_keeper::{Keeper, NoKeeper};
 use swarm_model::{Machine, PoolSettings, Settings};
 
@@ -26,9 +26,12 @@ pub fn serve<M: Machine + Drop, K: Keeper + Drop, L: Link, C: Clock>(
     requires count { length keepers.items ≡ length settings.now.pools }
     requires clean { IsClean (L.state link.old) }
 {
+    let Ok(mut reader) = RequestReader::new(alloc) else {
+        return (Err(LoadFault::Memory), keepers);
+    };
     match PlainDoor::<M, K>::new(alloc, settings, keepers) {
         Ok(mut door) => {
-            let ended = session(alloc, settings, &mut door, clock, link);
+            let ended = session(alloc, settings, &mut reader, &mut door, clock, link);
             let (_, keepers) = door.end();
             (Ok(ended), keepers)
         }

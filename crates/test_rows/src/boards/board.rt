@@ -7,6 +7,7 @@ use board_sessions::board_session;
 use pool_views::Views;
 use std::alloc::Global;
 use swarm_boards::{BoardViews, Poster};
+use swarm_http::RequestReader;
 use swarm_model::Settings;
 use test_transcript_reader::{Conversation, TranscriptError};
 
@@ -46,7 +47,14 @@ impl<'a> Board<'a> {
         connection: Option<&Conversation>,
     ) -> Result<(), TranscriptError> {
         let mut link = link_of(self.alloc, connection)?;
-        board_session(self.alloc, self.settings, &mut self.views, &mut link);
+        let mut reader = RequestReader::new(self.alloc)?;
+        board_session(
+            self.alloc,
+            self.settings,
+            &mut reader,
+            &mut self.views,
+            &mut link,
+        );
         compare(self.alloc, connection, &link)
     }
 }

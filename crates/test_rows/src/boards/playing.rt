@@ -15,7 +15,7 @@ use std::alloc::Global;
 use std::sync::Wait;
 use sw_base::StepClock;
 use swarm_boards::Poster;
-use swarm_http::session;
+use swarm_http::{RequestReader, session};
 use swarm_keeper::NoKeeper;
 use swarm_model::{Machine, Settings};
 use test_sessions::no_keepers;
@@ -41,7 +41,8 @@ fn work<D: Door>(
         waited: 0,
     };
     let mut link = link_of(alloc, connection)?;
-    session(alloc, settings, door, &mut clock, &mut link);
+    let mut reader = RequestReader::new(alloc)?;
+    session(alloc, settings, &mut reader, door, &mut clock, &mut link);
     match connection {
         Some(connection) if !connection.replies.is_empty() => {
             compare(alloc, Some(connection), &link)

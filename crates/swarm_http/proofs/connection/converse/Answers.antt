@@ -1,12 +1,12 @@
 use Rattle.std.proofs.Common.{◌≡◌, ℕ, ◌+◌, ◌-◌, List, refl, arith, subst, sym}
-use Rattle.swarm_http.proofs.Serving.{SoFar, begun, one_on, ended_counted, retired_counted, no_memory_counted}
+use Rattle.swarm_http.proofs.Serving.{SoFar, begun, one_on, ended_counted, retired_counted}
 use Rattle.swarm_http.proofs.connection.converse.Goals as goal
 
 pub requests-init : goal.requests-init
 requests-init g c =
     let s = g.L.Link.state c.args.link.now in
     record {
-      so_far = subst (λ (p : List ℕ). SoFar g.R.Replies.does 0 0 p (c.args.desk.now, c.args.clock.now) (c.args.desk.now, c.args.clock.now) s s) (sym c.in-Ok.ensures)
+      so_far = subst (λ (p : List ℕ). SoFar g.R.Replies.does 0 0 p (c.args.desk.now, c.args.clock.now) (c.args.desk.now, c.args.clock.now) s s) (sym c.clear.ensures)
           (begun g.R.Replies.does (c.args.desk.now, c.args.clock.now) s c.requires.clean);
       may = λ n e. let all : 65536 ≡ n = omega (arith, e) in subst (λ (k : ℕ). g.R.Replies.may c.args.settings.now k (c.args.desk.now, c.args.clock.now)) all c.requires.may;
     }
@@ -26,6 +26,3 @@ returns-in-End g c =
 
 pub returns : goal.returns
 returns g c = retired_counted g.R.Replies.does c.requests.invariant.so_far (omega arith)
-
-pub returns-in_default : goal.returns-in_default
-returns-in_default g c = no_memory_counted g.R.Replies.does c.requires.clean

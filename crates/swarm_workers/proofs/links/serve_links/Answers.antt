@@ -1,6 +1,6 @@
 -- One link more.
 use Rattle.std.proofs.Common.{◌≡◌, ℕ, ◌+◌, ◌-◌, subst, arith, rules}
-use Rattle.swarm_workers.proofs.Visiting.{begun, one_more, lacked_memory}
+use Rattle.swarm_workers.proofs.Visiting.{begun, one_more, no_memory}
 use Rattle.swarm_workers.proofs.links.serve_links.Goals as goal
 
 pub links-init : goal.links-init
@@ -18,9 +18,8 @@ serve_next-requires-clause-may g c =
 pub links-preserved : goal.links-preserved
 links-preserved g c = record {
   may = λ n e. c.serve_next.ensures.may c.in-Served.is n (c.links.invariant.may (n + 1) (omega (arith, e)));
-  so_far = one_more g.S.LinkSessions.does c.links.invariant.so_far c.in-Served.ensures.turn.0 c.in-Served.ensures.turn.1;
+  so_far = one_more g.S.LinkSessions.does c.links.invariant.so_far c.in-Served.ensures.turn;
 }
 
-pub returns-in-OutOfMemory : goal.returns-in-OutOfMemory
-returns-in-OutOfMemory g c =
-    lacked_memory g.S.LinkSessions.does c.links.invariant.so_far (omega arith) c.in-OutOfMemory.ensures.turn.0 c.in-OutOfMemory.ensures.turn.1
+pub returns-in_default : goal.returns-in_default
+returns-in_default g c = no_memory g.S.LinkSessions.does c.args.connections (g.A.Acceptor.state c.args.acceptor.now) (c.args.desk.now, c.args.clock.now)
