@@ -29,6 +29,7 @@ HEADLINE = [
     ("Rattle.command_words.specs.Commands", "command_of"),
     ("Rattle.swarm_http.specs.Answered", "IsAnswered KeepsDoor"),
     ("Rattle.swarm_model.specs.Settings", "are_settings"),
+    ("Rattle.pool_doors.specs.Calls", "call_of"),
     ("Rattle.pool_doors.specs.Doors", "DoorState IsCall"),
     ("Rattle.sw_base.specs.Link", "LinkState IsClean Reads Writes Flushes"),
     ("Rattle.sw_base.specs.Clock", "HandsIn Waits"),
