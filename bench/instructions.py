@@ -24,7 +24,7 @@ strace, over as many connections.
 
 --kind counts this kind alone, and may be given several times. --before OTHER counts the program OTHER as
 well: each line has its figures, those of PROGRAM, and how many times as many instructions OTHER takes.
---write puts the table into docs/performance.md. It
+--write puts the table into docs/performance.md, which `checks/instructions` compares a program with. It
 needs the packages valgrind and strace, the second for `connection` alone.
 
 The program is built by the first `./swarm session`.
