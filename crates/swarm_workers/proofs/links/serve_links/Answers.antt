@@ -1,6 +1,6 @@
 -- One link more.
 use Rattle.std.proofs.Common.{◌≡◌, ℕ, ◌+◌, ◌-◌, subst, arith, rules}
-use Rattle.swarm_workers.proofs.Visiting.{begun, one_more, no_memory}
+use Rattle.swarm_workers.proofs.Visiting.{begun, one_more, no_memory, no_more, failed}
 use Rattle.swarm_workers.proofs.links.serve_links.Goals as goal
 
 pub links-init : goal.links-init
@@ -23,3 +23,10 @@ links-preserved g c = record {
 
 pub returns-in_default : goal.returns-in_default
 returns-in_default g c = no_memory g.S.LinkSessions.does c.args.connections (g.A.Acceptor.state c.args.acceptor.now) (c.args.desk.now, c.args.clock.now)
+
+pub returns-in-NoMore : goal.returns-in-NoMore
+returns-in-NoMore g c =
+    no_more g.S.LinkSessions.does c.links.invariant.so_far (omega arith) c.in-NoMore.ensures.turn.0 c.in-NoMore.ensures.turn.1 c.in-NoMore.ensures.turn.2
+
+pub returns-in-Failed : goal.returns-in-Failed
+returns-in-Failed g c = failed g.S.LinkSessions.does c.links.invariant.so_far (omega arith) c.in-Failed.ensures.turn.0 c.in-Failed.ensures.turn.1
