@@ -43,7 +43,7 @@ import tempfile
 import time
 
 sys.dont_write_bytecode = True
-from records import new_line, write_lines, write_settings  # noqa: E402
+from records import new_line, post, write_lines, write_settings  # noqa: E402
 from serve import HOST, ONE, PAGE, bot_request, claim, free_port, handshake, is_whole, poll, write_table  # noqa: E402
 from session import COUNT, HERE, NEW_TASK, request  # noqa: E402
 
@@ -107,7 +107,8 @@ CLAIMS = [claim(bot) for bot in BOTS]
 TASKS = [new_task()] * MANY
 KINDS = {
     "CountTasks": Kind([new_task()], lambda _: request(b"CountTasks", COUNT), b'{"count":1}'),
-    "ListTasks": Kind(TASKS, lambda _: request(b"ListTasks", b'{"pool":"default","limit":50}'), b'"items":['),
+    # (the page of 50 ends with the task of number 251)
+    "ListTasks": Kind(TASKS, lambda _: request(b"ListTasks", b'{"pool":"default","limit":50}'), b'"task_id":"fb0","user":"ana"}]}'),
     "GetResult": Kind([new_task()], lambda _: request(b"GetResult", b'{"task_id":"10"}'), b'"completed_ts":null'),
     "NewTask": Kind([], lambda _: new_task(), b'"state":"PENDING"'),
     "larger NewTask": Kind([], lambda _: new_task(LARGER_TASK), b'"state":"PENDING"'),
@@ -235,6 +236,14 @@ class Counter:
                     found[row[-1]] += sign * int(row[3])
         return {name: count / (MANY - FEW) for name, count in found.most_common() if abs(count) >= 0.01 * (MANY - FEW)}
 
+    def first_start(self, words, tasks):
+        """Starts on a log of so many tasks, which makes a file of the present version of it, and counts them."""
+        asked = post("/prpc/swarming.v2.Tasks/CountTasks", '{"pool":"default"}')
+        done = subprocess.run([self.program, "session", *words], input=asked, stdout=subprocess.PIPE, timeout=SECONDS, check=False, **self.how)
+        if done.returncode or not done.stdout.endswith(b'{"count":%d}' % tasks):
+            told = (done.stdout + done.stderr).decode(errors="replace")
+            raise Fault(f"a start on {tasks} lines ended with status {done.returncode}: {told[-1000:]}")
+
     def line(self):
         counts = []
         for lines in (FEW_LINES, MANY_LINES):
@@ -243,10 +252,7 @@ class Counter:
             # (the lines that one log has more have numbers of four digits)
             write_lines(store, (new_line(task, int(time.time()), "true") for task in range(1, lines + 1)))
             words = ["--settings", write_settings(self.folder, store)]
-            # (the first start makes a file of the present version of it)
-            first = subprocess.run([self.program, "session", *words], stdin=subprocess.DEVNULL, stdout=subprocess.PIPE, timeout=SECONDS, check=False, **self.how)
-            if first.returncode:
-                raise Fault(f"the start on {lines} lines ended with status {first.returncode}: {first.stdout.decode(errors='replace')}{first.stderr.decode(errors='replace')}")
+            self.first_start(words, lines)
             counts.append(self.session([], words)[0])
         return counts[1].of_one(counts[0], MANY_LINES - FEW_LINES)
 
